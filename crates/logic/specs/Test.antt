@@ -3,7 +3,6 @@ use mathlib.Core.Path.{_≡_, refl, sym, ap, _∙_}
 use mathlib.Core.Bool.{Bool, true, false, _&&_, _||_, false≢true, true≢false}
 
 infix 1 if_then_else_
-
 -- the choice by a test
 unfoldable pub if_then_else_ : {A : Type 0} → Bool → A → A → A
 if true then a else b = a
@@ -43,3 +42,7 @@ pub same-test : (s t : Bool) → (s ≡ true → t ≡ true) → (t ≡ true →
 same-test true t f g = sym (f refl)
 same-test false true f g = g refl
 same-test false false f g = refl
+
+-- what a function gives at a value that is known to be another
+pub told : {A B : Type 0} (f : A → B) (x y : A) (b : B) → x ≡ y → b ≡ f y → b ≡ f x
+told f x y b e p = p ∙ ap f (sym e)

@@ -2,7 +2,6 @@
 ghost use mathlib.Core.Path.{_≡_};
 ghost use Rattle.datatype.specs.Codes.{codeOf};
 ghost use Rattle.options.specs.Word.{unknownBit, allowNullFields, mapAsStruct, sequenceAsLargeList, stringAsLargeUtf8, bytesAsLargeBinary, stringDictionaryEncoding, coerceNumbers, allowToString, guessDates, enumsWithoutDataAsStrings, stringType, binaryType, listType, dictionaryType};
-
 use datatype::DataType;
 
 pub struct TracingOptions {
@@ -97,27 +96,43 @@ impl TracingOptions {
     pub fn string_type(self) -> DataType
         ensures { λ r. ⌜ codeOf r ≡ stringType (self .word) ⌝ }
     {
-        if self.string_as_large_utf8() { DataType::LargeUtf8 } else { DataType::Utf8 }
+        if self.string_as_large_utf8() {
+            DataType::LargeUtf8
+        } else {
+            DataType::Utf8
+        }
     }
 
     // The type of bytes.
     pub fn binary_type(self) -> DataType
         ensures { λ r. ⌜ codeOf r ≡ binaryType (self .word) ⌝ }
     {
-        if self.bytes_as_large_binary() { DataType::LargeBinary } else { DataType::Binary }
+        if self.bytes_as_large_binary() {
+            DataType::LargeBinary
+        } else {
+            DataType::Binary
+        }
     }
 
     // The type of a sequence.
     pub fn list_type(self) -> DataType
         ensures { λ r. ⌜ codeOf r ≡ listType (self .word) ⌝ }
     {
-        if self.sequence_as_large_list() { DataType::LargeList } else { DataType::List }
+        if self.sequence_as_large_list() {
+            DataType::LargeList
+        } else {
+            DataType::List
+        }
     }
 
     // The type of a dictionary encoded string.
     pub fn dictionary_type(self) -> DataType
         ensures { λ r. ⌜ codeOf r ≡ dictionaryType (self .word) ⌝ }
     {
-        if self.string_as_large_utf8() { DataType::DictionaryLargeUtf8 } else { DataType::DictionaryUtf8 }
+        if self.string_as_large_utf8() {
+            DataType::DictionaryLargeUtf8
+        } else {
+            DataType::DictionaryUtf8
+        }
     }
 }

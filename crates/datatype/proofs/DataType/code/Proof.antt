@@ -2,15 +2,13 @@
 use borrow.Author.Needs.{needs}
 use mathlib.Core.Path.{_≡_, ap, _∙_, sym}
 use Prim.Native.Nat.{ℕ}
+use Rattle.logic.specs.Test.{told}
 use Rattle.datatype.specs.declared.DataType.{DataType}
 use Rattle.datatype.specs.declared.DataType.the-variants as D
 use Rattle.datatype.specs.declared.Zone.{Zone}
 use Rattle.datatype.specs.Codes.{codeOf}
 use Rattle.datatype.proofs.DataType.code.Statement.{statement}
 use Rattle.datatype.proofs.DataType.code.Tie as tie
-
-told : (t u : DataType) (n : ℕ) → t ≡ u → n ≡ codeOf u → n ≡ codeOf t
-told t u n e p = p ∙ ap codeOf (sym e)
 
 told-zone : (t : DataType) (z w : Zone) (n : ℕ) → t ≡ D.Timestamp z → z ≡ w → n ≡ codeOf (D.Timestamp w) → n ≡ codeOf t
 told-zone t z w n e f p = p ∙ ap (λ (x : Zone). codeOf (D.Timestamp x)) (sym f) ∙ ap codeOf (sym e)
@@ -47,30 +45,30 @@ code-spec =
     (λ c. search needs)
     (λ c. search needs)
     (λ c. search needs)
-    (λ c. search (told, told-zone, needs))
-    (λ c. search (told, told-zone, needs))
-    (λ c. search (told, told-zone, needs))
-    (λ c. search (told, told-zone, needs))
-    (λ c. search (told, told-zone, needs))
-    (λ c. search (told, told-zone, needs))
-    (λ c. search (told, told-zone, needs))
-    (λ c. search (told, told-zone, needs))
-    (λ c. search (told, told-zone, needs))
-    (λ c. search (told, told-zone, needs))
-    (λ c. search (told, told-zone, needs))
-    (λ c. search (told, told-zone, needs))
-    (λ c. search (told, told-zone, needs))
-    (λ c. search (told, told-zone, needs))
-    (λ c. search (told, told-zone, needs))
-    (λ c. search (told, told-zone, needs))
-    (λ c. search (told, told-zone, needs))
-    (λ c. search (told, told-zone, needs))
-    (λ c. search (told, told-zone, needs))
-    (λ c. search (told, told-zone, needs))
-    (λ c. search (told, told-zone, needs))
-    (λ c. search (told, told-zone, needs))
-    (λ c. search (told, told-zone, needs))
-    (λ c. search (told, told-zone, needs))
-    (λ c. search (told, told-zone, needs))
-    (λ c. search (told, told-zone, needs))
-    (λ c. search (told, told-zone, needs)))
+    (λ c. search (told codeOf, told-zone, needs))
+    (λ c. search (told codeOf, told-zone, needs))
+    (λ c. search (told codeOf, told-zone, needs))
+    (λ c. search (told codeOf, told-zone, needs))
+    (λ c. search (told codeOf, told-zone, needs))
+    (λ c. search (told codeOf, told-zone, needs))
+    (λ c. search (told codeOf, told-zone, needs))
+    (λ c. search (told codeOf, told-zone, needs))
+    (λ c. search (told codeOf, told-zone, needs))
+    (λ c. search (told codeOf, told-zone, needs))
+    (λ c. search (told codeOf, told-zone, needs))
+    (λ c. search (told codeOf, told-zone, needs))
+    (λ c. search (told codeOf, told-zone, needs))
+    (λ c. search (told codeOf, told-zone, needs))
+    (λ c. search (told codeOf, told-zone, needs))
+    (λ c. search (told codeOf, told-zone, needs))
+    (λ c. search (told codeOf, told-zone, needs))
+    (λ c. search (told codeOf, told-zone, needs))
+    (λ c. search (told codeOf, told-zone, needs))
+    (λ c. search (told codeOf, told-zone, needs))
+    (λ c. search (told codeOf, told-zone, needs))
+    (λ c. search (told codeOf, told-zone, needs))
+    (λ c. search (told codeOf, told-zone, needs))
+    (λ c. search (told codeOf, told-zone, needs))
+    (λ c. search (told codeOf, told-zone, needs))
+    (λ c. search (told codeOf, told-zone, needs))
+    (λ c. search (told codeOf, told-zone, needs)))
