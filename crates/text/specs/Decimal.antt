@@ -3,7 +3,6 @@ use Prim.Native.Nat.{ℕ, zero, suc, _+_, _-_, _*_, _/_, _%_}
 use mathlib.Core.Bool.{Bool, true, false, _&&_}
 use mathlib.Core.List.{List, [], _∷_, _++_}
 use lib.Dec.{leb, ltb}
-use lib.ListN.{length, take, drop}
 
 -- the byte of the digit zero
 abbrev pub zeroDigit : ℕ
@@ -30,7 +29,3 @@ value = valueAfter 0
 unfoldable pub areDigits : List ℕ → Bool
 areDigits [] = true
 areDigits (b ∷ bytes) = (leb zeroDigit b && ltb b (zeroDigit + 10)) && areDigits bytes
-
--- a buffer with bytes written into it from an offset on
-abbrev pub written : List ℕ → ℕ → List ℕ → List ℕ
-written buffer at bytes = take at buffer ++ (bytes ++ drop (at + length bytes) buffer)

@@ -66,7 +66,7 @@ pub decimal-injective : (m n : ℕ) → decimal m ≡ decimal n → m ≡ n
 decimal-injective m n e = sym (value-decimal m) ∙ ap value e ∙ value-decimal n
 
 -- a digit more
-length-step : (n : ℕ) → 10 ≤ n → length (decimal n) ≡ length (decimal (n / 10)) + 1
+pub length-step : (n : ℕ) → 10 ≤ n → length (decimal n) ≡ length (decimal (n / 10)) + 1
 length-step n h = rw (decimal-step n h, length-append)
 
 pub length-positive : (n : ℕ) → 0 < length (decimal n)

@@ -6,10 +6,11 @@ use native.Mathlib.Omega.{arith}
 use mathlib.Core.Bool.{Bool, true, false, false≢true, true≢false}
 use mathlib.Core.List.{List, [], _∷_, _++_}
 use lib.Dec.{ltb, eqb}
-use lib.ListN.{length}
+use lib.ListN.{length, length-take, length-drop}
 use borrow.Author.Tests.{ltb-true, ltb-false, eqb-true, lt-ltb, le-ltb, eq-eqb, ne-eqb}
 use Rattle.logic.specs.Test.{if_then_else_, if-passed, if-failed, cases, both}
-use Rattle.text.specs.Name.{eqName, ltName, dot, dots}
+use Rattle.text.specs.declared.Name.{Name}
+use Rattle.text.specs.Name.{bytesOf, eqName, ltName, dot, dots}
 
 pub eqName-true : (x y : List ℕ) → eqName x y ≡ true → x ≡ y
 unfolding eqName
@@ -25,6 +26,21 @@ eqName-refl (a ∷ x) = rw (eq-eqb a a refl, eqName-refl x)
 
 pub eqName-false : (x y : List ℕ) → eqName x y ≡ false → x ≡ y → ⊥
 eqName-false x y e p = true≢false (sym (eqName-refl x) ∙ ap (eqName x) p ∙ e)
+
+-- a name inside the text has as many bytes as it says
+pub length-bytes : (text : List ℕ) (name : Name) → name .offset + name .length ≤ length text → length (bytesOf text name) ≡ name .length
+length-bytes text name h = simp (length-take, length-drop) (omega arith)
+
+-- names that are one part of the text are equal, and names of unequal lengths are not
+pub same-part : (text : List ℕ) (name other : Name) → name .length ≡ other .length → name .offset ≡ other .offset →
+    true ≡ eqName (bytesOf text name) (bytesOf text other)
+same-part text name other e f = rw (e, f) (sym (eqName-refl (bytesOf text other)))
+
+pub unequal-lengths : (text : List ℕ) (name other : Name) → name .offset + name .length ≤ length text → other .offset + other .length ≤ length text →
+    (name .length ≡ other .length → ⊥) → false ≡ eqName (bytesOf text name) (bytesOf text other)
+unequal-lengths text name other h g e =
+    cases (eqName (bytesOf text name) (bytesOf text other))
+    (λ p. absurd (e (sym (length-bytes text name h) ∙ ap length (eqName-true (bytesOf text name) (bytesOf text other) p) ∙ length-bytes text other g))) sym
 
 -- how two numbers stand to one another
 order : {P : Type 0} (a b : ℕ) → (a < b → P) → (a ≡ b → P) → (b < a → P) → P

@@ -1,9 +1,9 @@
 // Decimal numerals.
 ghost use mathlib.Core.Path.{_≡_};
-ghost use mathlib.Core.List.{_++_};
-ghost use Prim.Native.Nat.{_+_, _≤_, _<_};
-ghost use lib.ListN.{length, take, drop};
-ghost use Rattle.text.specs.Decimal.{decimal, written};
+ghost use Prim.Native.Nat.{_+_, _≤_};
+ghost use lib.ListN.{length};
+ghost use Rattle.logic.specs.Buffer.{written};
+ghost use Rattle.text.specs.Decimal.{decimal};
 
 // The byte of the digit zero.
 const ZERO: u8 = 0x30;
