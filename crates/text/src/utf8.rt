@@ -27,10 +27,11 @@ pub fn is_utf8(bytes: &[u8]) -> bool
             match due {
                 Due::Nothing => return false,
                 Due::Bytes { low, high, more } => {
-                    if !follows(bytes, i + 1, low, high, more) {
+                    if follows(bytes, i + 1, low, high, more) {
+                        i += more + 2;
+                    } else {
                         return false;
                     }
-                    i += more + 2;
                 }
             }
         }
