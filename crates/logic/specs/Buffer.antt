@@ -1,5 +1,5 @@
 -- A buffer with bytes written into it.
-use mathlib.Core.Path.{_≡_, refl, sym, ap, _∙_}
+use mathlib.Core.Path.{_≡_, sym, ap, _∙_}
 use Prim.Native.Nat.{ℕ, suc, _+_, _≤_, _<_}
 use native.Mathlib.Nat.{add-assoc}
 use native.Mathlib.Numerals.{add-one}
@@ -37,5 +37,5 @@ written-next buffer at x y h =
     let q : List ℕ = drop (at + length x) buffer in
     let n : length p ≡ at + length x = simp (length-append, length-take) (omega arith) in
     let m : drop (at + length x + length y) (p ++ q) ≡ drop (at + length x + length y) buffer =
-        sym (drop-drop (length y) (at + length x) (p ++ q)) ∙ ap (drop (length y)) (drop-at p q (at + length x) n) ∙ drop-drop (length y) (at + length x) buffer in
+    sym (drop-drop (length y) (at + length x) (p ++ q)) ∙ ap (drop (length y)) (drop-at p q (at + length x) n) ∙ drop-drop (length y) (at + length x) buffer in
     rw (← append-assoc (take at buffer) x q, take-at p q (at + length x) n, m, length-append x y, ← add-assoc at (length x) (length y)) (simp append-assoc)

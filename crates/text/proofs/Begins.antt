@@ -1,8 +1,8 @@
 -- Whether the bytes at an index begin with what is due: the bytes end there, the first is out of its range, or it is in it.
-use mathlib.Core.Path.{_≡_, sym, ap, _∙_}
+use mathlib.Core.Path.{_≡_}
 use Prim.Native.Nat.{ℕ, _+_, _≤_, _<_}
 use mathlib.Core.Bool.{Bool, false}
-use mathlib.Core.List.{List, [], _∷_}
+use mathlib.Core.List.{List, _∷_}
 use lib.ListN.{length, getD, drop, drop-of-length-le}
 use Rattle.text.specs.Utf8.{Range, _to_}
 use Rattle.text.specs.Utf8Laws.{within-true, within-below, within-above}

@@ -3,12 +3,14 @@ use mathlib.Core.Path.{_≡_, refl, sym, ap, _∙_}
 use Prim.Native.Nat.{ℕ, zero, suc, _+_, _-_, _*_, _/_, _%_, _^_, _≤_, _<_}
 use native.Mathlib.Nat.{le-refl, not-suc-le-zero, pow-suc, one-le-pow}
 use native.Mathlib.Omega.{arith}
-use mathlib.Core.Bool.{Bool, true, false, _&&_}
+use mathlib.Core.Bool.{true, _&&_}
 use mathlib.Core.List.{List, [], _∷_, _++_}
 use lib.Dec.{leb, ltb}
 use lib.ListN.{length, length-append}
-use borrow.Author.Tests.{ltb-true, ltb-false, lt-ltb, le-ltb, le-leb}
+use borrow.Author.Tests.{ltb-true, ltb-false, lt-ltb, le-ltb, leb-true, le-leb}
 use Rattle.logic.specs.Test.{cases, both}
+use Rattle.text.specs.Name.{dots}
+use Rattle.text.specs.NameLaws.{dots-no}
 use Rattle.text.specs.Decimal.{zeroDigit, numeral, decimal, valueAfter, value, areDigits}
 
 -- a numeral with digits to spare
@@ -26,8 +28,8 @@ numeral-enough (suc f) zero n p q = absurd (not-suc-le-zero q)
 numeral-enough (suc f) (suc g) n p q =
     cases (ltb n 10) (λ e. numeral-small f n (ltb-true n 10 e) ∙ sym (numeral-small g n (ltb-true n 10 e)))
     (λ e.
-      let h : 10 ≤ n = ltb-false n 10 e in
-      numeral-step f n h ∙ ap (λ (l : List ℕ). l ++ ((zeroDigit + n % 10) ∷ [])) (numeral-enough f g (n / 10) (omega arith) (omega arith)) ∙ sym (numeral-step g n h))
+    let h : 10 ≤ n = ltb-false n 10 e in
+    numeral-step f n h ∙ ap (λ (l : List ℕ). l ++ ((zeroDigit + n % 10) ∷ [])) (numeral-enough f g (n / 10) (omega arith) (omega arith)) ∙ sym (numeral-step g n h))
 
 -- the numeral of a number below ten is its digit; any other is that of the number without its last digit, and that digit
 pub decimal-small : (n : ℕ) → n < 10 → decimal n ≡ (zeroDigit + n) ∷ []
@@ -89,6 +91,10 @@ length-least (suc k) n h =
     let m : k < length (decimal (n / 10)) = length-least k (n / 10) (omega arith) in
     rw (length-step n (omega arith)) (omega arith)
 
+-- a number of 16 bits has at most five digits
+pub length-u16 : (n : ℕ) → n < 2 ^ 16 → length (decimal n) ≤ 5
+length-u16 n h = length-most 4 n (omega arith)
+
 -- its bytes are digits
 digits-append : (x y : List ℕ) → areDigits x ≡ true → areDigits y ≡ true → areDigits (x ++ y) ≡ true
 unfolding areDigits
@@ -103,3 +109,24 @@ pub decimal-digits : (n : ℕ) → areDigits (decimal n) ≡ true
 decimal-digits =
     by-digits (λ n. areDigits (decimal n) ≡ true) (λ n h. rw (decimal-small n h) (digit-is n h))
     (λ n h e. rw (decimal-step n h) (digits-append (decimal (n / 10)) _ e (digit-is (n % 10) (omega arith))))
+
+-- it has no dots
+digits-dots : (bytes : List ℕ) → areDigits bytes ≡ true → dots bytes ≡ 0
+unfolding areDigits dots
+digits-dots [] e = refl
+digits-dots (b ∷ bytes) e =
+    both (leb zeroDigit b && ltb b (zeroDigit + 10)) (areDigits bytes) e
+    λ p q.
+    both (leb zeroDigit b) (ltb b (zeroDigit + 10)) p
+    λ r s. let h : zeroDigit ≤ b = leb-true zeroDigit b r in dots-no b bytes (omega arith) ∙ digits-dots bytes q
+
+pub dots-decimal : (n : ℕ) → dots (decimal n) ≡ 0
+dots-decimal n = digits-dots (decimal n) (decimal-digits n)
+
+zero-is : decimal 0 ≡ 0x30 ∷ []
+unfolding decimal numeral
+zero-is = refl
+
+largest-is : decimal 65535 ≡ 0x36 ∷ 0x35 ∷ 0x35 ∷ 0x33 ∷ 0x35 ∷ []
+unfolding decimal numeral
+largest-is = refl

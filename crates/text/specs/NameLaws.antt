@@ -1,9 +1,9 @@
 -- Laws of names: equality is equality of bytes, the order is strict and total, dots add up.
 use mathlib.Core.Path.{_≡_, refl, sym, ap, _∙_}
-use Prim.Native.Nat.{ℕ, suc, _+_, _≤_, _<_, zero-le}
+use Prim.Native.Nat.{ℕ, suc, _+_, _≤_, _<_}
 use native.Mathlib.Nat.{le-refl}
 use native.Mathlib.Omega.{arith}
-use mathlib.Core.Bool.{Bool, true, false, false≢true, true≢false}
+use mathlib.Core.Bool.{true, false, false≢true, true≢false}
 use mathlib.Core.List.{List, [], _∷_, _++_}
 use lib.Dec.{ltb, eqb}
 use lib.ListN.{length, length-take, length-drop}
@@ -47,8 +47,8 @@ order : {P : Type 0} (a b : ℕ) → (a < b → P) → (a ≡ b → P) → (b < 
 order a b less same more =
     cases (ltb a b) (λ e. less (ltb-true a b e))
     (λ e.
-      cases (ltb b a) (λ f. more (ltb-true b a f))
-      (λ f. let p : b ≤ a = ltb-false a b e in let q : a ≤ b = ltb-false b a f in same (omega arith)))
+    cases (ltb b a) (λ f. more (ltb-true b a f))
+    (λ f. let p : b ≤ a = ltb-false a b e in let q : a ≤ b = ltb-false b a f in same (omega arith)))
 
 -- what decides between two names that have a first byte
 module _ (a b : ℕ) (x y : List ℕ) where

@@ -1,12 +1,12 @@
 -- Laws of UTF-8: the computed test says what the table says, and some texts that it refuses or takes.
 use mathlib.Core.Path.{_≡_, refl, sym, ap, subst, _∙_}
-use Prim.Native.Nat.{ℕ, zero, suc, _+_, _≤_, _<_}
+use Prim.Native.Nat.{ℕ, zero, suc, _≤_, _<_}
 use native.Mathlib.Omega.{arith}
 use mathlib.Core.Bool.{Bool, true, false, _&&_, false≢true}
 use mathlib.Core.List.{List, [], _∷_, _++_}
 use mathlib.Core.Option.{Option, none, some}
 use lib.Dec.{leb}
-use lib.ListN.{length, drop, getElem?}
+use lib.ListN.{drop, getElem?}
 use borrow.Author.Tests.{leb-true, le-leb, lt-leb}
 use Rattle.logic.specs.Test.{if_then_else_, if-passed, if-failed, cases, both}
 use Rattle.text.specs.Utf8.{Range, _to_, table, within, dueIn, reads, isUtf8, fits, Utf8, empty, next}
@@ -68,8 +68,8 @@ due-above n zero b low high due ((l to u ∷ d) ∷ rows) e f h =
 due-above n (suc k) b low high due ((l to u ∷ d) ∷ rows) e f h =
     rising-row n l u d rows e
     λ p q r.
-      let t : (suc u ≤ b) × (dueIn rows b ≡ dueIn (drop (suc k) rows) b) = due-above (suc u) k b low high due rows r f h in
-      (omega arith, if-failed (some d) (within-above l u b (omega arith)) ∙ t .1)
+    let t : (suc u ≤ b) × (dueIn rows b ≡ dueIn (drop (suc k) rows) b) = due-above (suc u) k b low high due rows r f h in
+    (omega arith, if-failed (some d) (within-above l u b (omega arith)) ∙ t .1)
 
 -- a first byte of row k has the rest of that row due
 due-row : (n k b low high : ℕ) (due : List Range) (rows : List (List Range)) → rising n rows ≡ true →
@@ -86,8 +86,8 @@ due-row n zero b low high due ((l to u ∷ d) ∷ rows) e f p q =
 due-row n (suc k) b low high due ((l to u ∷ d) ∷ rows) e f p q =
     rising-row n l u d rows e
     λ r v w.
-      let t : (suc u ≤ b) × (dueIn rows b ≡ some due) = due-row (suc u) k b low high due rows w f p q in
-      (omega arith, if-failed (some d) (within-above l u b (omega arith)) ∙ t .1)
+    let t : (suc u ≤ b) × (dueIn rows b ≡ some due) = due-row (suc u) k b low high due rows w f p q in
+    (omega arith, if-failed (some d) (within-above l u b (omega arith)) ∙ t .1)
 
 -- the same at the table; and 80 to C1 and F5 to FF begin no row
 pub due-at : (k b low high : ℕ) (due : List Range) → getElem? table k ≡ some (low to high ∷ due) → low ≤ b → b ≤ high → dueIn table b ≡ some due
@@ -136,8 +136,8 @@ isUtf8-next k (range ∷ due) [] more e f = absurd (false≢true f)
 isUtf8-next k (low to high ∷ due) (b ∷ bytes) more e f =
     both (within (low to high) b) (fits due bytes) f
     λ p q.
-      within-bounds low high b p
-      λ r t. reads-first b due (bytes ++ more) (due-at k b low high due e r t) ∙ reads-fits due bytes more q
+    within-bounds low high b p
+    λ r t. reads-first b due (bytes ++ more) (due-at k b low high due e r t) ∙ reads-fits due bytes more q
 
 -- what the table says is UTF-8 passes the test
 pub isUtf8-complete : {bytes : List ℕ} → Utf8 bytes → isUtf8 bytes ≡ true
@@ -157,7 +157,7 @@ first-sound b bytes (some due) f e split =
     let r : Split due bytes = split due (sym (reads-first b due bytes f) ∙ e) in
     due-found b due table f
     λ k range g h.
-      subst (λ (l : List ℕ). Utf8 (b ∷ l)) (r .2) (next k (range ∷ due) (b ∷ r .0) (r .1) g (rw (h, r .3)) (r .4))
+    subst (λ (l : List ℕ). Utf8 (b ∷ l)) (r .2) (next k (range ∷ due) (b ∷ r .0) (r .1) g (rw (h, r .3)) (r .4))
 
 reads-sound : (due : List Range) (bytes : List ℕ) → reads due bytes ≡ true → Split due bytes
 unfolding reads fits

@@ -48,28 +48,60 @@ fn due_after(first: u8) -> Due
         return Due::Nothing;
     }
     if first <= 0xDF {
-        return Due::Bytes { low: 0x80, high: 0xBF, more: 0 };
+        return Due::Bytes {
+            low: 0x80,
+            high: 0xBF,
+            more: 0,
+        };
     }
     if first <= 0xE0 {
-        return Due::Bytes { low: 0xA0, high: 0xBF, more: 1 };
+        return Due::Bytes {
+            low: 0xA0,
+            high: 0xBF,
+            more: 1,
+        };
     }
     if first <= 0xEC {
-        return Due::Bytes { low: 0x80, high: 0xBF, more: 1 };
+        return Due::Bytes {
+            low: 0x80,
+            high: 0xBF,
+            more: 1,
+        };
     }
     if first <= 0xED {
-        return Due::Bytes { low: 0x80, high: 0x9F, more: 1 };
+        return Due::Bytes {
+            low: 0x80,
+            high: 0x9F,
+            more: 1,
+        };
     }
     if first <= 0xEF {
-        return Due::Bytes { low: 0x80, high: 0xBF, more: 1 };
+        return Due::Bytes {
+            low: 0x80,
+            high: 0xBF,
+            more: 1,
+        };
     }
     if first <= 0xF0 {
-        return Due::Bytes { low: 0x90, high: 0xBF, more: 2 };
+        return Due::Bytes {
+            low: 0x90,
+            high: 0xBF,
+            more: 2,
+        };
     }
     if first <= 0xF3 {
-        return Due::Bytes { low: 0x80, high: 0xBF, more: 2 };
+        return Due::Bytes {
+            low: 0x80,
+            high: 0xBF,
+            more: 2,
+        };
     }
     if first <= 0xF4 {
-        return Due::Bytes { low: 0x80, high: 0x8F, more: 2 };
+        return Due::Bytes {
+            low: 0x80,
+            high: 0x8F,
+            more: 2,
+        };
     }
     Due::Nothing
 }

@@ -1,6 +1,6 @@
 -- `decimal_length` goes by the powers of ten.
 use borrow.Author.Needs.{needs}
-use mathlib.Core.Path.{_≡_}
+use mathlib.Core.Path.{_≡_, sym, ap}
 use Prim.Native.Nat.{ℕ, suc, _^_, _≤_, _<_}
 use native.Mathlib.Omega.{arith}
 use lib.ListN.{length}
@@ -9,6 +9,9 @@ use Rattle.text.specs.DecimalLaws.{decimal-small, length-most, length-le
 use Rattle.text.proofs.decimal.decimal_length.Statement.{statement}
 use Rattle.text.proofs.decimal.decimal_length.Tie as tie
 
+one : (n : ℕ) → n < 10 → 1 ≡ length (decimal n)
+one n h = sym (ap length (decimal-small n h))
+
 digits : (k n : ℕ) → 10 ^ k ≤ n → n < 10 ^ suc k → suc k ≡ length (decimal n)
 digits k n p q = omega (arith, length-least k n p, length-most k n q)
 
@@ -16,8 +19,8 @@ pub decimal-length-spec : {M : Type 1} → statement M
 decimal-length-spec =
     tie.close
     (tie.spec
-    (λ c. rw (decimal-small (c .before .args .n) (search needs)))
-    (λ c. digits 1 (c .before .before .args .n) (search needs) (search needs))
-    (λ c. digits 2 (c .before .before .before .args .n) (search needs) (search needs))
-    (λ c. digits 3 (c .before .before .before .before .args .n) (search needs) (search needs))
-    (λ c. digits 4 (c .before .before .before .before .args .n) (search needs) (search needs)))
+    (λ c. search (one, needs))
+    (λ c. digits 1 _ (search needs) (search needs))
+    (λ c. digits 2 _ (search needs) (search needs))
+    (λ c. digits 3 _ (search needs) (search needs))
+    (λ c. digits 4 _ (search needs) (search needs)))

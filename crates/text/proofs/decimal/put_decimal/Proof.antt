@@ -1,9 +1,9 @@
 -- `put_decimal` writes digits from the last to the first: the buffer with what is left written is the buffer with all written.
 use borrow.Author.Needs.{needs}
-use mathlib.Core.Path.{_≡_, refl, sym, ap, _∙_}
+use mathlib.Core.Path.{_≡_, sym, ap, _∙_}
 use Prim.Native.Nat.{ℕ, _+_, _-_, _/_, _%_, _≤_, _<_}
 use native.Mathlib.Omega.{arith}
-use mathlib.Core.List.{List, [], _∷_}
+use mathlib.Core.List.{List}
 use lib.ListN.{length, set, length-set}
 use Rattle.logic.specs.Buffer.{written, written-one, written-last}
 use Rattle.text.specs.Decimal.{decimal, zeroDigit}

@@ -1,13 +1,12 @@
 -- `continues` counts down: what is left to count is at the bytes that are left what the count is at the offset.
 use borrow.Author.Needs.{needs}
-use mathlib.Core.Path.{_≡_, refl, sym, ap, _∙_}
+use mathlib.Core.Path.{_≡_, refl, _∙_}
 use Prim.Native.Nat.{ℕ, zero, suc, _+_, _-_, _≤_, _<_}
 use native.Mathlib.Nat.{not-suc-le-zero}
 use native.Mathlib.Numerals.{sub-one}
 use mathlib.Core.Bool.{Bool, true, false}
-use mathlib.Core.List.{List, [], _∷_}
+use mathlib.Core.List.{List, _∷_}
 use lib.ListN.{length, getD, drop, replicate}
-use Rattle.text.specs.Utf8.{Range, _to_}
 use Rattle.text.specs.Due.{begins, trailing}
 use Rattle.text.proofs.Begins.{short, below, above, stepped}
 use Rattle.text.proofs.utf8.continues.Statement.{statement}

@@ -5,7 +5,7 @@ use Prim.Native.Nat.{ℕ, suc, _+_, _-_, _≤_, _<_}
 use native.Mathlib.Omega.{arith}
 use mathlib.Core.Bool.{Bool, true, false, _&&_, and-assoc, false≢true}
 use mathlib.Core.List.{List, [], _∷_}
-use mathlib.Core.Option.{Option, none, some}
+use mathlib.Core.Option.{some}
 use lib.ListN.{length, getD, drop, drop-of-length-le, length-drop, replicate, length-replicate}
 use lib.Seq.{drop-drop}
 use Rattle.logic.specs.Test.{both}
@@ -57,7 +57,7 @@ module _ (bytes : List ℕ) (i : ℕ) (inv : isUtf8 (drop i bytes) ≡ isUtf8 by
     whole =
         let n : i + 1 + suc more ≡ i + (more + 2) = omega arith in
         let v : reads (low to high ∷ replicate more trailing) (drop (i + 1) bytes) ≡ (r && isUtf8 (drop (i + (more + 2)) bytes)) =
-            reads-begins (low to high ∷ replicate more trailing) (drop (i + 1) bytes) ∙ rw (← g, length-replicate more trailing, drop-drop, n) in
+        reads-begins (low to high ∷ replicate more trailing) (drop (i + 1) bytes) ∙ rw (← g, length-replicate more trailing, drop-drop, n) in
         sym v ∙ taken (low to high ∷ replicate more trailing) (sym f ∙ ap dueOf e)
 
     wrong : r ≡ false → false ≡ isUtf8 bytes
