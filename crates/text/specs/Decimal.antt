@@ -13,7 +13,7 @@ unfoldable pub numeral : ℕ → ℕ → List ℕ
 numeral zero n = []
 numeral (suc fuel) n = elim (ltb n 10) [ true ↦ (zeroDigit + n) ∷ [] | false ↦ numeral fuel (n / 10) ++ ((zeroDigit + n % 10) ∷ []) ]
 
--- the numeral of any number: it has no more digits than one more than itself
+-- the decimal numeral of any natural number n, which has at most n + 1 digits
 unfoldable pub decimal : ℕ → List ℕ
 decimal n = numeral (suc n) n
 

@@ -6,10 +6,10 @@ ghost use lib.ListN.{length, drop, replicate};
 ghost use Rattle.text.specs.Utf8.{_to_, table, dueIn, isUtf8};
 ghost use Rattle.text.specs.Due.{dueOf, trailing, begins};
 
-// What is due after a first byte: one byte from low to high and then so many from 80 to BF; or no row of the
-// table begins with that byte.
+// What is due after a first byte: a byte in a range, which is given by its ends, and then so many from 80 to BF;
+// or no row of the table begins with that byte.
 enum Due {
-    Bytes { low: u8, high: u8, more: usize },
+    Bytes(u8, u8, usize),
     Nothing,
 }
 
@@ -26,7 +26,7 @@ pub fn is_utf8(bytes: &[u8]) -> bool
             let due = due_after(first);
             match due {
                 Due::Nothing => return false,
-                Due::Bytes { low, high, more } => {
+                Due::Bytes(low, high, more) => {
                     if follows(bytes, i + 1, low, high, more) {
                         i += more + 2;
                     } else {
@@ -48,60 +48,28 @@ fn due_after(first: u8) -> Due
         return Due::Nothing;
     }
     if first <= 0xDF {
-        return Due::Bytes {
-            low: 0x80,
-            high: 0xBF,
-            more: 0,
-        };
+        return Due::Bytes(0x80, 0xBF, 0);
     }
     if first <= 0xE0 {
-        return Due::Bytes {
-            low: 0xA0,
-            high: 0xBF,
-            more: 1,
-        };
+        return Due::Bytes(0xA0, 0xBF, 1);
     }
     if first <= 0xEC {
-        return Due::Bytes {
-            low: 0x80,
-            high: 0xBF,
-            more: 1,
-        };
+        return Due::Bytes(0x80, 0xBF, 1);
     }
     if first <= 0xED {
-        return Due::Bytes {
-            low: 0x80,
-            high: 0x9F,
-            more: 1,
-        };
+        return Due::Bytes(0x80, 0x9F, 1);
     }
     if first <= 0xEF {
-        return Due::Bytes {
-            low: 0x80,
-            high: 0xBF,
-            more: 1,
-        };
+        return Due::Bytes(0x80, 0xBF, 1);
     }
     if first <= 0xF0 {
-        return Due::Bytes {
-            low: 0x90,
-            high: 0xBF,
-            more: 2,
-        };
+        return Due::Bytes(0x90, 0xBF, 2);
     }
     if first <= 0xF3 {
-        return Due::Bytes {
-            low: 0x80,
-            high: 0xBF,
-            more: 2,
-        };
+        return Due::Bytes(0x80, 0xBF, 2);
     }
     if first <= 0xF4 {
-        return Due::Bytes {
-            low: 0x80,
-            high: 0x8F,
-            more: 2,
-        };
+        return Due::Bytes(0x80, 0x8F, 2);
     }
     Due::Nothing
 }
