@@ -92,6 +92,13 @@ const OPERANDS: [u8; 28] = [
     3,
 ];
 
+fn operand_count(byte: u8) -> u8
+    requires { ⌜ byte < 28 ⌝ }
+    ensures { λ r. ⌜ r ≡ operands (formOf byte) ⌝ }
+{
+    OPERANDS[byte as usize]
+}
+
 fn word(low: u8, high: u8) -> u16
     ensures { λ r. ⌜ r ≡ low + high * 256 ⌝ }
 {
@@ -221,7 +228,7 @@ pub fn read_command(commands: &[u8], text: &[u8], at: usize, due: Due) -> Read
     if 28 <= byte {
         return Read::Refused(Refusal::BadCommand, at);
     }
-    let operands = OPERANDS[byte as usize];
+    let operands = operand_count(byte);
     let width = 1 + 2 * operands as usize;
     if commands.len() - at < width {
         return Read::Refused(Refusal::BadCommand, at);

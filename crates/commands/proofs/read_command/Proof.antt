@@ -1,119 +1,94 @@
+-- `read_command` reads as document 01 has it: one law for each way through it.
 use borrow.Author.Needs.{needs}
+use borrow.Author.Tests.{lt-ltb, le-ltb, le-leb, lt-leb}
+use native.Mathlib.Omega.{arith}
+use mathlib.Core.Path.{_≡_, refl, sym, _∙_}
+use mathlib.Core.Bool.{Bool, true, false, not}
+use mathlib.Core.List.{List}
+use Prim.Native.Nat.{ℕ, _+_, _-_, _*_, _<_, _≤_}
+use lib.ListN.{length, getD}
+use denote.Ref.{now}
+use Rattle.logic.specs.Test.{if_then_else_}
+use Rattle.refusal.specs.declared.Refusal.the-variants as F
+use Rattle.commands.specs.declared.Command.{Command}
+use Rattle.commands.specs.declared.Due.{Due}
+use Rattle.commands.specs.declared.Read.the-variants as R
+use Rattle.commands.specs.Commands.{forms, formOf, operands, width, made, nameIn, stands, badCommand, badName, badKey, readCommand}
+use Rattle.commands.specs.Counted.{nameAmong, among-is}
 use Rattle.commands.proofs.read_command.Statement.{statement}
 use Rattle.commands.proofs.read_command.Tie as tie
-use Rattle.commands.proofs.read_command.Reads as reads
-use Rattle.commands.proofs.read_command.Lts as lts
-use Rattle.commands.proofs.Due.admits.Reads as admits-reads
-use Rattle.commands.proofs.Due.is_bad_key.Reads as is-bad-key-reads
-use Rattle.commands.proofs.command_of.Reads as command-of-reads
-use Rattle.commands.proofs.has_bad_name.Reads as has-bad-name-reads
 
--- src/lib.rt:218:9
-returns : tie.Need-returns
-returns c = ?
+none-left : (commands text : List ℕ) (at : ℕ) (due : Due) → length commands ≤ at → R.Refused F.BadCommand at ≡ readCommand commands text at due
+unfolding readCommand badCommand if_then_else_
+none-left commands text at due h = rw (le-leb _ _ h)
 
--- src/lib.rt:220:16
-shared-slice-read-byte : tie.Need-shared-slice-read-byte
-shared-slice-read-byte c = search needs
+module _ (commands text : List ℕ) (at : ℕ) (due : Due) (left : at < length commands) where
+  unknown : 28 ≤ getD commands at 0 → R.Refused F.BadCommand at ≡ readCommand commands text at due
+  unfolding readCommand badCommand if_then_else_
+  unknown h = rw (lt-leb _ _ left, le-leb _ _ h)
 
--- src/lib.rt:222:9
-returns-2 : tie.Need-returns-2
-returns-2 c = ?
+module _ (commands text : List ℕ) (at : ℕ) (due : Due) (count : ℕ) (left : at < length commands) (known : getD commands at 0 < 28) (counts : count ≡ operands (formOf (getD commands at 0))) where
+  cut-off : length commands - at < 1 + 2 * count → R.Refused F.BadCommand at ≡ readCommand commands text at due
+  unfolding readCommand badCommand if_then_else_
+  cut-off h =
+      let short : length commands < at + width (formOf (getD commands at 0)) = omega arith in
+      rw (lt-leb _ _ left, lt-leb _ _ known, lt-ltb _ _ short)
 
--- src/lib.rt:224:29
-cast-operands : tie.Need-cast-operands
-cast-operands c = search needs
+module _ (commands text : List ℕ) (at : ℕ) (due : Due) (count : ℕ) (admitted : Bool) (left : at < length commands) (known : getD commands at 0 < 28) (counts : count ≡ operands (formOf (getD commands at 0))) (whole : 1 + 2 * count ≤ length commands - at) (stood : admitted ≡ stands due (getD commands at 0)) where
+  by-standing : badCommand commands at due ≡ not admitted
+  unfolding badCommand
+  by-standing =
+      let long : at + width (formOf (getD commands at 0)) ≤ length commands = omega arith in
+      rw (lt-leb _ _ left, lt-leb _ _ known, le-ltb _ _ long, stood)
 
--- src/lib.rt:224:20
-array-read-operands : tie.Need-array-read-operands
-array-read-operands c = search needs
+  misplaced : not admitted ≡ true → R.Refused F.BadCommand at ≡ readCommand commands text at due
+  unfolding readCommand if_then_else_
+  misplaced h = rw (by-standing, h)
 
--- src/lib.rt:225:25
-cast-width : tie.Need-cast-width
-cast-width c = ?
+  placed : not admitted ≡ false → badCommand commands at due ≡ false
+  placed h = by-standing ∙ h
 
--- src/lib.rt:225:21
-mul-width : tie.Need-mul-width
-mul-width c = ?
+module _ (commands text : List ℕ) (at : ℕ) (due : Due) {count : ℕ} {bad : Bool} (stands-there : badCommand commands at due ≡ false) (counts : count ≡ operands (formOf (getD commands at 0))) (named : bad ≡ badName text (nameAmong count commands (at + 1))) where
+  by-name : badName text (nameIn (formOf (getD commands at 0)) commands (at + 1)) ≡ bad
+  by-name = rw (named, counts, among-is)
 
--- src/lib.rt:225:17
-add-width : tie.Need-add-width
-add-width c = ?
+  misnamed : bad ≡ true → R.Refused F.BadName at ≡ readCommand commands text at due
+  unfolding readCommand if_then_else_
+  misnamed h = rw (stands-there, by-name, h)
 
--- src/lib.rt:226:8
-sub-if3 : tie.Need-sub-if3
-sub-if3 c = search needs
+  module _ {key : Bool} (well-named : bad ≡ false) (keyed : key ≡ badKey due (getD commands at 0)) where
+    no-key : key ≡ true → R.Refused F.BadKey at ≡ readCommand commands text at due
+    unfolding readCommand if_then_else_
+    no-key h = rw (stands-there, by-name, well-named, ← keyed, h)
 
--- src/lib.rt:227:9
-returns-3 : tie.Need-returns-3
-returns-3 c = ?
+    read : {command : Command} → key ≡ false → command ≡ made (formOf (getD commands at 0)) commands (at + 1) → R.Command command (at + (1 + 2 * count)) ≡ readCommand commands text at due
+    unfolding readCommand if_then_else_
+    read h e = rw (stands-there, by-name, well-named, ← keyed, h, e, counts)
 
--- src/lib.rt:229:9
-admits-requires : tie.Need-admits-requires
-admits-requires c κs = search needs
-
--- src/lib.rt:230:9
-returns-4 : tie.Need-returns-4
-returns-4 c = ?
-
--- src/lib.rt:232:37
-add-has-bad-name : tie.Need-add-has-bad-name
-add-has-bad-name c = search needs
-
--- src/lib.rt:232:8
-has-bad-name-requires : tie.Need-has-bad-name-requires
-has-bad-name-requires c κs = search needs
-
--- src/lib.rt:233:9
-returns-5 : tie.Need-returns-5
-returns-5 c = ?
-
--- src/lib.rt:235:8
-is-bad-key-requires : tie.Need-is-bad-key-requires
-is-bad-key-requires c κs = search needs
-
--- src/lib.rt:236:9
-returns-6 : tie.Need-returns-6
-returns-6 c = ?
-
--- src/lib.rt:238:46
-add-command-of : tie.Need-add-command-of
-add-command-of c = search needs
-
--- src/lib.rt:238:19
-command-of-requires : tie.Need-command-of-requires
-command-of-requires c κs = ?
-
--- src/lib.rt:238:55
-add-t8 : tie.Need-add-t8
-add-t8 c = search needs
-
--- src/lib.rt:214:1
-returns-7 : tie.Need-returns-7
-returns-7 c = ?
+standing : (c : tie.Else4) → badCommand (now (c .before .before .before .before .before .before .before .before .before .args .commands)) (c .before .before .before .before .before .before .before .before .before .args .at) (c .before .before .before .before .before .before .before .before .before .args .due) ≡ false
+standing c = search (placed, needs)
 
 pub read-command-spec : {M : Type 1} → statement M
 read-command-spec =
     tie.close
     (tie.spec
-    returns
-    shared-slice-read-byte
-    returns-2
-    cast-operands
-    array-read-operands
-    cast-width
-    mul-width
-    add-width
-    sub-if3
-    returns-3
-    admits-requires
-    returns-4
-    add-has-bad-name
-    has-bad-name-requires
-    returns-5
-    is-bad-key-requires
-    returns-6
-    add-command-of
-    command-of-requires
-    add-t8
-    returns-7)
+    (λ c. search (none-left, needs))
+    (λ c. search needs)
+    (λ c. search (unknown, needs))
+    (λ c κs. search needs)
+    (λ c. search needs)
+    (λ c. search needs)
+    (λ c. search needs)
+    (λ c. search needs)
+    (λ c. search (cut-off, needs))
+    (λ c κs. search needs)
+    (λ c. search (misplaced, needs))
+    (λ c. search needs)
+    (λ c κs. search needs)
+    (λ c. let d = c .before .before in misnamed _ _ _ _ (standing d) (d .before .before .before .operand-count .ensures) (c .before .has-bad-name .ensures) (c .if5 .taken))
+    (λ c κs. search needs)
+    (λ c. let d = c .before .before .before .before in no-key _ _ _ _ (standing d) (d .before .before .before .operand-count .ensures) (c .before .before .before .has-bad-name .ensures) (c .before .before .if5 .left) (c .before .is-bad-key .ensures) (c .if6 .taken))
+    (λ c. search needs)
+    (λ c κs. search needs)
+    (λ c. search needs)
+    (λ c. let d = c .before .before .before .before .before in read _ _ _ _ (standing d) (d .before .before .before .operand-count .ensures) (c .before .before .before .before .has-bad-name .ensures) (c .before .before .before .if5 .left) (c .before .before .is-bad-key .ensures) (c .before .if6 .left) (c .command-of .ensures)))
