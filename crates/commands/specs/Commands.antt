@@ -111,7 +111,7 @@ abbrev pub endByte : ℕ
 endByte = 0x17
 
 -- the bytes that can stand where something is due: a value is any but field and end
-unfoldable pub stands : Due → ℕ → Bool
+abbrev pub stands : Due → ℕ → Bool
 stands D.Value byte = not (eqb byte fieldByte) && not (eqb byte endByte)
 stands D.ValueOrEnd byte = not (eqb byte fieldByte)
 stands D.FieldOrEnd byte = eqb byte fieldByte || eqb byte endByte
@@ -129,7 +129,7 @@ badName text none = false
 badName text (some name) = not (inside text name && isUtf8 (bytesOf text name))
 
 -- refusal 6: under map_as_struct a key is not 0D
-unfoldable pub badKey : Due → ℕ → Bool
+abbrev pub badKey : Due → ℕ → Bool
 badKey D.Value byte = false
 badKey D.ValueOrEnd byte = false
 badKey D.FieldOrEnd byte = false
