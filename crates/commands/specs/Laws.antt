@@ -142,11 +142,11 @@ module _ (commands text : List ℕ) (at : ℕ) (due : Due) where
       let small : byte < 28 = leb-false _ _ known in
       let fits : at + width (formOf byte) ≤ length commands = ltb-false _ _ whole in
       record {
-          above = omega arith;
-          within = fits;
-          standing = rw (made-byte byte commands (at + 1) small) (not-false _ placed);
-          key = rw (made-byte byte commands (at + 1) small) g;
-          name = rw made-name f
+        above = omega arith;
+        within = fits;
+        standing = rw (made-byte byte commands (at + 1) small) (not-false _ placed);
+        key = rw (made-byte byte commands (at + 1) small) g;
+        name = rw made-name f;
       }
 
   pub good : (command : Command) (next : ℕ) → readCommand commands text at due ≡ R.Command command next → Good commands text at due command next
@@ -171,11 +171,11 @@ module _ (commands text : List ℕ) (at : ℕ) (due : Due) (answer : Read) (comm
   next-within = read-good .within
 
   -- an arm for a command that cannot stand there is never reached
-  pub never : {P : Type 0} (which : Command) → command ≡ which → (stands due (byteOf which) && not (badKey due (byteOf which))) ≡ false → P
+  pub never : (which : Command) → command ≡ which → (stands due (byteOf which) && not (badKey due (byteOf which))) ≡ false → ⊥
   never which w n =
       let s : stands due (byteOf which) ≡ true = rw (← w) (read-good .standing) in
       let k : badKey due (byteOf which) ≡ false = rw (← w) (read-good .key) in
-      absurd (true≢false (rw (s, k) at n))
+      true≢false (rw (s, k) at n)
 
   -- the name in a command is inside the text and UTF-8
   pub name-good : (which : Command) (name : Name) → command ≡ which → nameOf which ≡ some name → (inside text name && isUtf8 (bytesOf text name)) ≡ true

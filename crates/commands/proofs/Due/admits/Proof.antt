@@ -1,7 +1,6 @@
 -- `Due::admits` tells which bytes can stand where something is due.
 use borrow.Author.Needs.{needs}
 use borrow.Author.Tests.{eq-eqb, ne-eqb}
-
 use Rattle.commands.proofs.Due.admits.Statement.{statement}
 use Rattle.commands.proofs.Due.admits.Tie as tie
 

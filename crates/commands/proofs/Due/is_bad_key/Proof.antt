@@ -1,7 +1,6 @@
 -- `Due::is_bad_key` tells refusal 6.
 use borrow.Author.Needs.{needs}
 use borrow.Author.Tests.{eq-eqb, ne-eqb}
-
 use Rattle.commands.proofs.Due.is_bad_key.Statement.{statement}
 use Rattle.commands.proofs.Due.is_bad_key.Tie as tie
 
