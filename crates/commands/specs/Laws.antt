@@ -1,27 +1,25 @@
 -- What a command that was read is known to be: where it ends, that it can stand where it stood, and that its name is good.
-use Prim.Native.Nat.{ℕ, zero, suc, _+_, _*_, _<_, _≤_}
+use Prim.Native.Nat.{ℕ, zero, suc, _+_, _<_, _≤_}
 use native.Mathlib.Nat.{zero-add, le-of-suc-le-suc, not-suc-le-zero}
 use native.Mathlib.Omega.{arith}
-use mathlib.Core.Path.{_≡_, refl, sym, ap, _∙_}
+use mathlib.Core.Path.{_≡_, refl, sym, _∙_}
 use mathlib.Core.Bool.{Bool, true, false, not, _&&_, _||_, true≢false}
 use mathlib.Core.List.{List, [], _∷_}
 use mathlib.Core.Option.{Option, none, some}
-use borrow.Author.Needs.{needs}
 use borrow.Author.Tests.{leb-true, leb-false, ltb-false, not-false}
-use lib.Dec.{eqb, leb, ltb}
+use lib.Dec.{leb, ltb}
 use lib.ListN.{length, getD, List·getD-map}
-use Rattle.logic.specs.Test.{if_then_else_, cases, both, neither}
+use Rattle.logic.specs.Test.{if_then_else_, both, neither}
 use Rattle.text.specs.declared.Name.{Name}
 use Rattle.text.specs.Name.{inside, bytesOf}
 use Rattle.text.specs.Utf8.{isUtf8}
 use Rattle.refusal.specs.declared.Refusal.{Refusal}
-use Rattle.refusal.specs.declared.Refusal.the-variants as F
 use Rattle.commands.specs.declared.Command.{Command}
 use Rattle.commands.specs.declared.Command.the-variants as C
 use Rattle.commands.specs.declared.Due.{Due}
 use Rattle.commands.specs.declared.Read.{Read}
 use Rattle.commands.specs.declared.Read.the-variants as R
-use Rattle.commands.specs.Commands.{Form, plain, forms, formOf, operands, width, made, nameIn, stands, badCommand, badName, badKey, readCommand}
+use Rattle.commands.specs.Commands.{Form, plain, forms, formOf, width, made, nameIn, stands, badCommand, badName, badKey, readCommand}
 
 -- the byte of each command
 abbrev pub byteOf : Command → ℕ
@@ -96,10 +94,10 @@ up-at zero i k h = absurd (not-suc-le-zero h)
 up-at (suc n) i zero h = omega arith
 up-at (suc n) i (suc k) h = let e : getD (upFrom (suc i) n) k 0 ≡ suc i + k = up-at n (suc i) k (le-of-suc-le-suc h) in omega arith
 
-made-byte : (byte : ℕ) (commands : List ℕ) (at : ℕ) → byte < 28 → byteOf (made (formOf byte) commands at) ≡ byte
+made-byte : (byte : ℕ) (commands : List ℕ) (at : ℕ) → byte < length forms → byteOf (made (formOf byte) commands at) ≡ byte
 unfolding made formOf upFrom
 made-byte byte commands at h =
-    sym (List·getD-map (λ (form : Form). byteOf (made form commands at)) forms byte (plain C.Unit)) ∙ up-at 28 0 byte h ∙ zero-add byte
+    sym (List·getD-map (λ (form : Form). byteOf (made form commands at)) forms byte (plain C.Unit)) ∙ up-at (length forms) 0 byte h ∙ zero-add byte
 
 -- and the name that its form tells
 made-name : (byte : ℕ) (commands : List ℕ) (at : ℕ) → nameOf (made (formOf byte) commands at) ≡ nameIn (formOf byte) commands at
@@ -138,8 +136,8 @@ module _ (commands text : List ℕ) (at : ℕ) (due : Due) where
   unfolding badCommand
   good-made e f g =
       let byte : ℕ = getD commands at 0 in
-      none-passed (leb (length commands) at) (leb 28 byte) (ltb (length commands) (at + width (formOf byte))) (not (stands due byte)) e λ left known whole placed.
-      let small : byte < 28 = leb-false _ _ known in
+      none-passed (leb (length commands) at) (leb (length forms) byte) (ltb (length commands) (at + width (formOf byte))) (not (stands due byte)) e λ left known whole placed.
+      let small : byte < length forms = leb-false _ _ known in
       let fits : at + width (formOf byte) ≤ length commands = ltb-false _ _ whole in
       record {
         above = omega arith;
@@ -178,7 +176,7 @@ module _ (commands text : List ℕ) (at : ℕ) (due : Due) (answer : Read) (comm
       true≢false (rw (s, k) at n)
 
   -- the name in a command is inside the text and UTF-8
-  pub name-good : (which : Command) (name : Name) → command ≡ which → nameOf which ≡ some name → (inside text name && isUtf8 (bytesOf text name)) ≡ true
+  name-good : (which : Command) (name : Name) → command ≡ which → nameOf which ≡ some name → (inside text name && isUtf8 (bytesOf text name)) ≡ true
   unfolding badName
   name-good which name w n = not-false _ (rw (w, n) at (read-good .name))
 

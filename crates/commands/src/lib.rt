@@ -3,7 +3,7 @@ ghost use mathlib.Core.Path.{_≡_};
 ghost use mathlib.Core.Option.{some};
 ghost use Prim.Native.Nat.{_+_, _*_, _<_, _≤_};
 ghost use lib.ListN.{length};
-ghost use Rattle.commands.specs.Commands.{operandAt, nameAt, formOf, operands, made, stands, badKey, badName, readCommand, refusalOf, placeOf};
+ghost use Rattle.commands.specs.Commands.{operandAt, nameAt, forms, formOf, operands, made, stands, badKey, badName, readCommand, refusalOf, placeOf};
 ghost use Rattle.commands.specs.Counted.{nameAmong};
 use refusal::Refusal;
 use text::Name;
@@ -54,13 +54,17 @@ pub enum Read {
     Refused(Refusal, usize),
 }
 
+// The bytes that what is due is tested for.
 const TEXT: u8 = 0x0D;
 
 const FIELD: u8 = 0x16;
 
 const END: u8 = 0x17;
 
-// How many operands each command has, by its byte. A name counts as two.
+// How many commands there are, from 00 on.
+const COMMANDS: u8 = 28;
+
+// How many operands each has, by its byte. A name counts as two.
 const OPERANDS: [u8; 28] = [
     0,
     0,
@@ -92,13 +96,15 @@ const OPERANDS: [u8; 28] = [
     3,
 ];
 
+// How many operands the command with that byte has.
 fn operand_count(byte: u8) -> u8
-    requires { ⌜ byte < 28 ⌝ }
+    requires { ⌜ byte < length forms ⌝ }
     ensures { λ r. ⌜ r ≡ operands (formOf byte) ⌝ }
 {
     OPERANDS[byte as usize]
 }
 
+// A u16 from its two bytes.
 fn word(low: u8, high: u8) -> u16
     ensures { λ r. ⌜ r ≡ low + high * 256 ⌝ }
 {
@@ -161,7 +167,8 @@ fn is_bad_name(name: Name, text: &[u8]) -> bool
     }
 }
 
-// The same of the name among so many operands, which start at an offset. One operand is a tuple's count.
+// The same of the name among so many operands, which start at an offset: two are a name, one is a tuple's count,
+// and more are a variant number and then a name.
 fn has_bad_name(commands: &[u8], text: &[u8], at: usize, operands: u8) -> bool
     requires { ⌜ at + 2 * operands ≤ length (now commands) ⌝ }
     ensures { λ r. ⌜ r ≡ badName (now (text .entry)) (nameAmong operands (now (commands .entry)) at) ⌝ }
@@ -176,9 +183,9 @@ fn has_bad_name(commands: &[u8], text: &[u8], at: usize, operands: u8) -> bool
     }
 }
 
-// The command with that byte, whose operands start at an offset.
+// The command with that byte, whose operands start at an offset. The last arm is 1B.
 fn command_of(byte: u8, commands: &[u8], at: usize) -> Command
-    requires { ⌜ (byte < 28) × (at + 2 * operands (formOf byte) ≤ length (now commands)) ⌝ }
+    requires { ⌜ (byte < length forms) × (at + 2 * operands (formOf byte) ≤ length (now commands)) ⌝ }
     ensures { λ r. ⌜ r ≡ made (formOf byte) (now (commands .entry)) at ⌝ }
 {
     match byte {
@@ -225,7 +232,7 @@ pub fn read_command(commands: &[u8], text: &[u8], at: usize, due: Due) -> Read
         return Read::Refused(Refusal::BadCommand, at);
     }
     let byte = commands[at];
-    if 28 <= byte {
+    if COMMANDS <= byte {
         return Read::Refused(Refusal::BadCommand, at);
     }
     let operands = operand_count(byte);

@@ -1,7 +1,7 @@
 -- `command_of` makes the command with a byte: one law for each form, and every arm tells its byte.
 use borrow.Author.Needs.{needs}
 use native.Mathlib.Omega.{arith}
-use mathlib.Core.Path.{_≡_, refl, _∙_, sym, ap, ap₂}
+use mathlib.Core.Path.{_≡_}
 use mathlib.Core.List.{List}
 use Prim.Native.Nat.{ℕ, _+_, _*_, _≤_, _<_}
 use lib.Dec.{T, leb, leb→le}
@@ -9,7 +9,7 @@ use Rattle.logic.specs.Arms.{NoneBelow, none-below}
 use Rattle.text.specs.declared.Name.{Name}
 use Rattle.commands.specs.declared.Command.{Command}
 use Rattle.commands.specs.declared.Command.the-variants as C
-use Rattle.commands.specs.Commands.{Form, plain, counted, named, variant, countedVariant, formOf, operands, made, operandAt, nameAt}
+use Rattle.commands.specs.Commands.{plain, counted, named, variant, countedVariant, formOf, operands, made, operandAt, nameAt}
 use Rattle.commands.proofs.command_of.Statement.{statement}
 use Rattle.commands.proofs.command_of.Tie as tie
 

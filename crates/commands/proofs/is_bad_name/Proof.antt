@@ -1,8 +1,7 @@
 -- `is_bad_name` tells refusal 5 of a name.
 use borrow.Author.Needs.{needs}
 use borrow.Author.Tests.{leb-true}
-use mathlib.Core.Path.{_≡_, _∙_, sym, ap}
-use Rattle.text.specs.Name.{inside}
+use mathlib.Core.Path.{_∙_, sym}
 use Rattle.commands.specs.Commands.{badName}
 use Rattle.commands.proofs.is_bad_name.Statement.{statement}
 use Rattle.commands.proofs.is_bad_name.Tie as tie

@@ -2,7 +2,7 @@
 use borrow.Author.Needs.{needs}
 use borrow.Author.Tests.{lt-ltb, le-ltb, le-leb, lt-leb}
 use native.Mathlib.Omega.{arith}
-use mathlib.Core.Path.{_≡_, refl, sym, _∙_}
+use mathlib.Core.Path.{_≡_, _∙_}
 use mathlib.Core.Bool.{Bool, true, false, not}
 use mathlib.Core.List.{List}
 use Prim.Native.Nat.{ℕ, _+_, _-_, _*_, _<_, _≤_}
@@ -13,7 +13,7 @@ use Rattle.refusal.specs.declared.Refusal.the-variants as F
 use Rattle.commands.specs.declared.Command.{Command}
 use Rattle.commands.specs.declared.Due.{Due}
 use Rattle.commands.specs.declared.Read.the-variants as R
-use Rattle.commands.specs.Commands.{forms, formOf, operands, width, made, nameIn, stands, badCommand, badName, badKey, readCommand}
+use Rattle.commands.specs.Commands.{formOf, operands, width, made, nameIn, stands, badCommand, badName, badKey, readCommand}
 use Rattle.commands.specs.Counted.{nameAmong, among-is}
 use Rattle.commands.proofs.read_command.Statement.{statement}
 use Rattle.commands.proofs.read_command.Tie as tie
@@ -65,7 +65,11 @@ module _ (commands text : List ℕ) (at : ℕ) (due : Due) {count : ℕ} {bad : 
     unfolding readCommand if_then_else_
     read h e = rw (stands-there, by-name, well-named, ← keyed, h, e, counts)
 
-standing : (c : tie.Else4) → badCommand (now (c .before .before .before .before .before .before .before .before .before .args .commands)) (c .before .before .before .before .before .before .before .before .before .args .at) (c .before .before .before .before .before .before .before .before .before .args .due) ≡ false
+-- past the tests of refusal 4
+abbrev start : tie.Else4 → tie.Start
+start c = c .before .before .before .before .before .before .before .before .before
+
+standing : (c : tie.Else4) → badCommand (now (start c .args .commands)) (start c .args .at) (start c .args .due) ≡ false
 standing c = search (placed, needs)
 
 pub read-command-spec : {M : Type 1} → statement M
