@@ -78,13 +78,20 @@ naiveTime =
 abbrev pub naiveDatetime : Grammar
 naiveDatetime = naiveDate then byte T' then naiveTime
 
+-- a sign and 0000, a sign and 00:00
+abbrev pub shortOffset : ℕ → List ℕ
+shortOffset sign = sign ∷ 0' ∷ 0' ∷ 0' ∷ 0' ∷ []
+
+abbrev pub longOffset : ℕ → List ℕ
+longOffset sign = sign ∷ 0' ∷ 0' ∷ colon ∷ 0' ∷ 0' ∷ []
+
 -- one of +0000 -0000 +00:00 -00:00
 abbrev pub zeroOffset : Grammar
 zeroOffset =
-    word (plus ∷ 0' ∷ 0' ∷ 0' ∷ 0' ∷ []) or
-    word (minus ∷ 0' ∷ 0' ∷ 0' ∷ 0' ∷ []) or
-    word (plus ∷ 0' ∷ 0' ∷ colon ∷ 0' ∷ 0' ∷ []) or
-    word (minus ∷ 0' ∷ 0' ∷ colon ∷ 0' ∷ 0' ∷ [])
+    word (shortOffset plus) or
+    word (shortOffset minus) or
+    word (longOffset plus) or
+    word (longOffset minus)
 
 -- one of Z z +0000 -0000 +00:00 -00:00
 abbrev pub utcZone : Grammar

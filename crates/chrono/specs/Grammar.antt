@@ -7,7 +7,6 @@ use lib.Dec.{eqb}
 
 infixr 6 _then_
 infixr 5 _or_
-
 -- a grammar: nothing; one byte of a class; one or more bytes of a class; one after another; a choice
 pub data Grammar : Type 0 where
   nothing : Grammar
@@ -53,6 +52,6 @@ abbrev pub isEmpty : List ℕ → Bool
 isEmpty [] = true
 isEmpty (c ∷ s) = false
 
--- whether the whole text fits the grammar, as `fits-sound` and `fits-complete` of Fits say
+-- whether the whole text fits the grammar, as `fits-sound` and `fits-complete` of Laws say
 unfoldable pub fits : Grammar → List ℕ → Bool
 fits g s = leads g s isEmpty

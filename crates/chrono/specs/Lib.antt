@@ -2,5 +2,5 @@ pub mod Grammar
 pub mod Date
 pub mod Text
 pub mod Examples
-pub mod Fits
+pub mod Laws
 pub mod Scan

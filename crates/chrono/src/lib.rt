@@ -7,7 +7,8 @@ ghost use Rattle.chrono.specs.Grammar.{byte, word, optional, isEmpty, fi
 ghost use Rattle.chrono.specs.Date.{isDigit, digit, digits, oneOrTwoDigits, optionalSign, subsecond, separator, naiveDate, naiveTime, naiveDatetime, zeroOffset, utcZone, utcDatetime};
 ghost use Rattle.chrono.specs.Scan.{run, scan, ofRest};
 ghost use Rattle.chrono.specs.Text.{textType};
-use datatype::{DataType, Zone};
+use datatype::DataType;
+use datatype::Zone;
 use options::TracingOptions;
 
 // What a match at an offset of the text finds: the offset where the rest begins, or nothing.

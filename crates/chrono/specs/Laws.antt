@@ -43,11 +43,11 @@ many-sound t [] k e = absurd (false≢true e)
 many-sound t (c ∷ s) k e =
     passed (t c) _ e
     (λ q r.
-      either (k s) (leadsMany t s k) r
-      (λ p. record { begin = c ∷ []; rest = s; whole = refl; fitting = fits-last q; holds = p })
-      (λ p.
-        let f : Found (many t) s k = many-sound t s k p in
-        record { begin = c ∷ f .begin; rest = f .rest; whole = ap (λ u. c ∷ u) (f .whole); fitting = fits-more q (f .fitting); holds = f .holds }))
+    either (k s) (leadsMany t s k) r
+    (λ p. record { begin = c ∷ []; rest = s; whole = refl; fitting = fits-last q; holds = p })
+    (λ p.
+    let f : Found (many t) s k = many-sound t s k p in
+    record { begin = c ∷ f .begin; rest = f .rest; whole = ap (λ u. c ∷ u) (f .whole); fitting = fits-more q (f .fitting); holds = f .holds }))
 
 leads-sound : (g : Grammar) (s : List ℕ) (k : List ℕ → Bool) → leads g s k ≡ true → Found g s k
 unfolding leads
@@ -63,11 +63,11 @@ leads-sound (g then h) s k e =
 leads-sound (g or h) s k e =
     either (leads g s k) (leads h s k) e
     (λ p.
-      let f : Found g s k = leads-sound g s k p in
-      record { begin = f .begin; rest = f .rest; whole = f .whole; fitting = fits-left (f .fitting); holds = f .holds })
+    let f : Found g s k = leads-sound g s k p in
+    record { begin = f .begin; rest = f .rest; whole = f .whole; fitting = fits-left (f .fitting); holds = f .holds })
     (λ p.
-      let f : Found h s k = leads-sound h s k p in
-      record { begin = f .begin; rest = f .rest; whole = f .whole; fitting = fits-right (f .fitting); holds = f .holds })
+    let f : Found h s k = leads-sound h s k p in
+    record { begin = f .begin; rest = f .rest; whole = f .whole; fitting = fits-right (f .fitting); holds = f .holds })
 
 pub fits-complete : {g : Grammar} {s : List ℕ} → Fits g s → fits g s ≡ true
 unfolding fits
