@@ -1,15 +1,14 @@
 -- What `scan` gives, one law for each way through a matcher's code.
 use mathlib.Core.Path.{_≡_, refl, sym, ap, _∙_}
 use mathlib.Core.Bool.{Bool, true, false}
-use mathlib.Core.List.{List, [], _∷_}
+use mathlib.Core.List.{List}
 use Prim.Native.Nat.{ℕ, _+_, _≤_, _<_}
-use lib.Dec.{ltb, leb, eqb}
-use lib.ListN.{length, getD, drop}
-use borrow.Author.Tests.{lt-ltb, le-ltb, eq-eqb, ne-eqb}
+use lib.ListN.{length, getD}
+use borrow.Author.Tests.{lt-ltb, le-ltb}
 use Rattle.logic.specs.Test.{if_then_else_}
 use Rattle.chrono.specs.declared.Matched.{Matched}
 use Rattle.chrono.specs.declared.Matched.the-variants.{Rest, No}
-use Rattle.chrono.specs.Grammar.{Grammar, nothing, one, many, _then_, _or_, byte}
+use Rattle.chrono.specs.Grammar.{Grammar, nothing, one, _then_, _or_}
 use Rattle.chrono.specs.Scan.{onward, instead, scan}
 
 -- a byte of a class

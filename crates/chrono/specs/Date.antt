@@ -36,6 +36,7 @@ Z' = 90
 abbrev pub z' : ℕ
 z' = 122
 
+-- digits are those of ASCII; no range is tested
 abbrev pub isDigit : ℕ → Bool
 isDigit b = leb 0' b && leb b 9'
 

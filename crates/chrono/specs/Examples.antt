@@ -1,6 +1,6 @@
 -- Texts that are dates and times, and some that are none.
 use mathlib.Core.Path.{_≡_, refl}
-use mathlib.Core.Bool.{Bool, true, false}
+use mathlib.Core.Bool.{true, false}
 use mathlib.Core.List.{List, [], _∷_, _++_}
 use Prim.Native.Nat.{ℕ, _+_}
 use Rattle.logic.specs.Test.{if_then_else_}

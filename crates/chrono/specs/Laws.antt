@@ -1,5 +1,5 @@
 -- The test of a grammar passes for the texts that fit it, and for no other.
-use mathlib.Core.Path.{_≡_, refl, sym, ap, _∙_}
+use mathlib.Core.Path.{_≡_, refl, ap, _∙_}
 use mathlib.Core.Bool.{Bool, true, false, false≢true}
 use mathlib.Core.List.{List, [], _∷_, _++_, append-assoc, append-nil}
 use Prim.Native.Nat.{ℕ}
@@ -21,12 +21,8 @@ leads-complete (fits-right {g = g} {s = s} f) u k p =
     cases (leads g (s ++ u) k) (λ q. rw q) (λ q. rw q (leads-complete f u k p))
 
 -- what a test that passed has found: a text that fits, and what is left, of which `k` holds
-record Found (g : Grammar) (s : List ℕ) (k : List ℕ → Bool) : Type 0 where
-  begin : List ℕ
-  rest : List ℕ
-  whole : s ≡ begin ++ rest
-  fitting : Fits g begin
-  holds : k rest ≡ true
+abbrev Found : Grammar → List ℕ → (List ℕ → Bool) → Type 0
+Found g s k = (t : List ℕ) × (u : List ℕ) × (s ≡ t ++ u) × Fits g t × (k u ≡ true)
 
 -- what two tests tell that passed, of which both had to, or one
 passed : {P : Type 0} (b c : Bool) → elim b [ true ↦ c | false ↦ false ] ≡ true → (b ≡ true → c ≡ true → P) → P
@@ -43,42 +39,35 @@ many-sound t [] k e = absurd (false≢true e)
 many-sound t (c ∷ s) k e =
     passed (t c) _ e
     (λ q r.
-    either (k s) (leadsMany t s k) r
-    (λ p. record { begin = c ∷ []; rest = s; whole = refl; fitting = fits-last q; holds = p })
-    (λ p.
-    let f : Found (many t) s k = many-sound t s k p in
-    record { begin = c ∷ f .begin; rest = f .rest; whole = ap (λ u. c ∷ u) (f .whole); fitting = fits-more q (f .fitting); holds = f .holds }))
+    either (k s) (leadsMany t s k) r (λ p. (c ∷ [], s, refl, fits-last q, p))
+    (λ p. let (v, u, d, f, h) = many-sound t s k p in (c ∷ v, u, ap (λ w. c ∷ w) d, fits-more q f, h)))
 
 leads-sound : (g : Grammar) (s : List ℕ) (k : List ℕ → Bool) → leads g s k ≡ true → Found g s k
 unfolding leads
-leads-sound nothing s k e = record { begin = []; rest = s; whole = refl; fitting = fits-nothing; holds = e }
+leads-sound nothing s k e = ([], s, refl, fits-nothing, e)
 leads-sound (one t) [] k e = absurd (false≢true e)
-leads-sound (one t) (c ∷ s) k e =
-    passed (t c) (k s) e (λ q p. record { begin = c ∷ []; rest = s; whole = refl; fitting = fits-one q; holds = p })
+leads-sound (one t) (c ∷ s) k e = passed (t c) (k s) e (λ q p. (c ∷ [], s, refl, fits-one q, p))
 leads-sound (many t) s k e = many-sound t s k e
 leads-sound (g then h) s k e =
-    let f : Found g s (λ u. leads h u k) = leads-sound g s (λ u. leads h u k) e in
-    let f′ : Found h (f .rest) k = leads-sound h (f .rest) k (f .holds) in
-    record { begin = f .begin ++ f′ .begin; rest = f′ .rest; whole = rw append-assoc (f .whole ∙ ap (λ u. f .begin ++ u) (f′ .whole)); fitting = fits-both (f .fitting) (f′ .fitting); holds = f′ .holds }
+    let (v, u, d, f, p) = leads-sound g s (λ u. leads h u k) e in
+    let (v′, u′, d′, f′, p′) = leads-sound h u k p in
+    (v ++ v′, u′, rw append-assoc (d ∙ ap (λ w. v ++ w) d′), fits-both f f′, p′)
 leads-sound (g or h) s k e =
     either (leads g s k) (leads h s k) e
-    (λ p.
-    let f : Found g s k = leads-sound g s k p in
-    record { begin = f .begin; rest = f .rest; whole = f .whole; fitting = fits-left (f .fitting); holds = f .holds })
-    (λ p.
-    let f : Found h s k = leads-sound h s k p in
-    record { begin = f .begin; rest = f .rest; whole = f .whole; fitting = fits-right (f .fitting); holds = f .holds })
-
-pub fits-complete : {g : Grammar} {s : List ℕ} → Fits g s → fits g s ≡ true
-unfolding fits
-fits-complete f = rw append-nil at (leads-complete f [] isEmpty refl)
+    (λ p. let (v, u, d, f, q) = leads-sound g s k p in (v, u, d, fits-left f, q))
+    (λ p. let (v, u, d, f, q) = leads-sound h s k p in (v, u, d, fits-right f, q))
 
 nothing-left : (s : List ℕ) → isEmpty s ≡ true → s ≡ []
 nothing-left [] e = refl
 nothing-left (c ∷ s) e = absurd (false≢true e)
 
+-- the test passes exactly where the text fits
+pub fits-complete : {g : Grammar} {s : List ℕ} → Fits g s → fits g s ≡ true
+unfolding fits
+fits-complete f = rw append-nil at (leads-complete f [] isEmpty refl)
+
 pub fits-sound : {g : Grammar} {s : List ℕ} → fits g s ≡ true → Fits g s
 unfolding fits
 fits-sound {g} {s} e =
-    let f : Found g s isEmpty = leads-sound g s isEmpty e in
-    rw (f .whole, nothing-left (f .rest) (f .holds), append-nil) (f .fitting)
+    let (v, u, d, f, p) = leads-sound g s isEmpty e in
+    rw (d, nothing-left u p, append-nil) f

@@ -1,5 +1,4 @@
 -- The type that a text observes, as in document 01's "Date texts".
-use mathlib.Core.Bool.{Bool, true, false}
 use mathlib.Core.List.{List, [], _∷_}
 use Prim.Native.Nat.{ℕ}
 use Rattle.logic.specs.Test.{if_then_else_}

@@ -1,4 +1,5 @@
-// The four matchers of chrono.rs and the type that a text observes (document 01, "Date texts"). No range is tested.
+// The four matchers of chrono.rs, and the type that a text observes (document 01, "Date texts"). No range is tested.
+// Each match reads on and never goes back: nothing that follows digits begins with one.
 ghost use mathlib.Core.Path.{_≡_};
 ghost use Prim.Native.Nat.{_+_};
 ghost use lib.ListN.{drop};
@@ -11,7 +12,7 @@ use datatype::DataType;
 use datatype::Zone;
 use options::TracingOptions;
 
-// What a match at an offset of the text finds: the offset where the rest begins, or nothing.
+// What a match at an offset of the text answers: the offset where the rest begins, or that there is none.
 enum Matched {
     Rest(usize),
     No,
@@ -98,6 +99,7 @@ fn match_optional_sign(s: &[u8], at: usize) -> Matched
     Matched::Rest(at)
 }
 
+// Optional sign, digits, -, one or two digits, -, one or two digits.
 fn match_naive_date(s: &[u8], at: usize) -> Matched
     ensures { λ r. ⌜ r ≡ scan naiveDate (now (s .entry)) at ⌝ }
 {
@@ -128,6 +130,7 @@ fn match_subsecond(s: &[u8], at: usize) -> Matched
     match_one_or_more_digits(s, at)
 }
 
+// A dot without digits stays in the rest, so that the text fits nothing.
 fn match_optional_subsecond(s: &[u8], at: usize) -> Matched
     ensures { λ r. ⌜ r ≡ scan (optional subsecond) (now (s .entry)) at ⌝ }
 {
@@ -137,6 +140,7 @@ fn match_optional_subsecond(s: &[u8], at: usize) -> Matched
     Matched::Rest(rest)
 }
 
+// One or two digits three times with colons, then optionally a dot and digits.
 fn match_naive_time(s: &[u8], at: usize) -> Matched
     ensures { λ r. ⌜ r ≡ scan naiveTime (now (s .entry)) at ⌝ }
 {
@@ -170,6 +174,7 @@ fn match_naive_datetime(s: &[u8], at: usize) -> Matched
     match_naive_time(s, at)
 }
 
+// What stands between date and time where a zone follows: T or a blank.
 fn match_separator(s: &[u8], at: usize) -> Matched
     ensures { λ r. ⌜ r ≡ scan separator (now (s .entry)) at ⌝ }
 {
@@ -179,7 +184,7 @@ fn match_separator(s: &[u8], at: usize) -> Matched
     match_char(s, at, b' ')
 }
 
-// Whether the word stands at the offset.
+// The rest after `prefix`, where it stands at the offset.
 fn split_prefix(s: &[u8], at: usize, prefix: &[u8]) -> Matched
     ensures { λ r. ⌜ r ≡ scan (word (now (prefix .entry))) (now (s .entry)) at ⌝ }
 {
@@ -210,6 +215,7 @@ fn match_zero_offset(s: &[u8], at: usize) -> Matched
     split_prefix(s, at, b"-00:00")
 }
 
+// One of the designators of UTC that chrono.rs knows.
 fn match_utc_timezone(s: &[u8], at: usize) -> Matched
     ensures { λ r. ⌜ r ≡ scan utcZone (now (s .entry)) at ⌝ }
 {
@@ -237,7 +243,7 @@ fn match_utc_datetime(s: &[u8], at: usize) -> Matched
     match_utc_timezone(s, at)
 }
 
-// Whether nothing is left.
+// Whether there is a match and it leaves nothing.
 fn is_whole(s: &[u8], m: Matched) -> bool
     ensures { λ r. ⌜ r ≡ ofRest isEmpty (now (s .entry)) m ⌝ }
 {
@@ -247,35 +253,35 @@ fn is_whole(s: &[u8], m: Matched) -> bool
     s.len() <= rest
 }
 
-// Check whether `s` can be parsed as a naive datetime
+// Whether `s` is a naive datetime: date, T, time.
 pub fn matches_naive_datetime(s: &[u8]) -> bool
     ensures { λ r. ⌜ r ≡ fits naiveDatetime (now (s .entry)) ⌝ }
 {
     is_whole(s, match_naive_datetime(s, 0))
 }
 
-// Check whether `s` can be parsed as a UTC datetime
+// Whether `s` is a UTC datetime: date, T or blank, time, zone.
 pub fn matches_utc_datetime(s: &[u8]) -> bool
     ensures { λ r. ⌜ r ≡ fits utcDatetime (now (s .entry)) ⌝ }
 {
     is_whole(s, match_utc_datetime(s, 0))
 }
 
-// Check whether `s` can be parsed as a naive time
+// Whether `s` is a time.
 pub fn matches_naive_time(s: &[u8]) -> bool
     ensures { λ r. ⌜ r ≡ fits naiveTime (now (s .entry)) ⌝ }
 {
     is_whole(s, match_naive_time(s, 0))
 }
 
-// Check whether `s` can be parsed as a naive date
+// Whether `s` is a date.
 pub fn matches_naive_date(s: &[u8]) -> bool
     ensures { λ r. ⌜ r ≡ fits naiveDate (now (s .entry)) ⌝ }
 {
     is_whole(s, match_naive_date(s, 0))
 }
 
-// The type that a text observes.
+// The type that a text observes: with guess_dates the first fit wins.
 pub fn text_type(s: &[u8], options: TracingOptions) -> DataType
     ensures { λ r. ⌜ codeOf r ≡ textType (options .word) (now (s .entry)) ⌝ }
 {
