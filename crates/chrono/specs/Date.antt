@@ -40,6 +40,7 @@ z' = 122
 abbrev pub isDigit : ℕ → Bool
 isDigit b = leb 0' b && leb b 9'
 
+-- a digit; digits, one or more
 abbrev pub digit : Grammar
 digit = one isDigit
 
@@ -62,6 +63,7 @@ naiveDate =
     byte minus then
     oneOrTwoDigits
 
+-- a dot and digits
 abbrev pub subsecond : Grammar
 subsecond = byte dot then digits
 
@@ -98,6 +100,7 @@ zeroOffset =
 abbrev pub utcZone : Grammar
 utcZone = byte Z' or byte z' or zeroOffset
 
+-- T or blank
 abbrev pub separator : Grammar
 separator = byte T' or byte blank
 

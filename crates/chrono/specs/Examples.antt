@@ -2,7 +2,7 @@
 use mathlib.Core.Path.{_≡_, refl}
 use mathlib.Core.Bool.{true, false}
 use mathlib.Core.List.{List, [], _∷_, _++_}
-use Prim.Native.Nat.{ℕ, _+_}
+use Prim.Native.Nat.{ℕ, _+_, _^_}
 use Rattle.logic.specs.Test.{if_then_else_}
 use Rattle.datatype.specs.Codes.{largeUtf8, timestampUtc}
 use Rattle.chrono.specs.Grammar.{fits, leads, leadsMany}
@@ -25,7 +25,7 @@ abbrev 4' : ℕ
 abbrev 5' : ℕ
 5' = 53
 
--- 2024, 01-02 and 03:04:05
+-- 2024, 2024-01-02 and 03:04:05
 abbrev year : List ℕ
 year = 2' ∷ 0' ∷ 2' ∷ 4' ∷ []
 
@@ -71,9 +71,9 @@ pub blank-utc : fits utcDatetime (day ++ blank ∷ clock) ≡ false
 unfolding fits leads leadsMany
 blank-utc = refl
 
--- the default options with guess_dates
+-- the default options, and bit 8 for guess_dates
 abbrev guessing : ℕ
-guessing = 30 + 256
+guessing = 30 + 2 ^ 8
 
 -- P9: it is a string; P10: with Z it is a UTC datetime
 pub blank-string : textType guessing (day ++ blank ∷ clock) ≡ largeUtf8
