@@ -1,1 +1,3 @@
 pub mod Test
+pub mod Flag
+pub mod Table
