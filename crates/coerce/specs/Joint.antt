@@ -2,8 +2,10 @@
 use Prim.Native.Nat.{ℕ}
 use mathlib.Core.Bool.{Bool, _&&_, _||_}
 use mathlib.Core.Option.{Option, none, some}
+use mathlib.Core.List.{List, [], _∷_}
 use lib.Dec.{leb, eqb}
 use Rattle.logic.specs.Test.{if_then_else_}
+use Rattle.logic.specs.Maybe.{andThen}
 use Rattle.datatype.specs.Codes.{codeOf, null, boolean, int8, int64, uint8, uint64, float32, float64, utf8, largeUtf8, timestampNaive, timestampUtc}
 use Rattle.options.specs.Word.{coerceNumbers, allowToString, stringType}
 use Rattle.coerce.specs.declared.Coerced.{Coerced}
@@ -72,6 +74,14 @@ joint word a b =
     if eqb b null then some a else
     if eqb a b then some a else
     jointOfUnequal word a b
+
+-- a type that meets others one after the other, and a place's type after all that was observed there
+unfoldable pub joinedFrom : ℕ → ℕ → List ℕ → Option ℕ
+joinedFrom word t [] = some t
+joinedFrom word t (u ∷ us) = andThen (joint word t u) (λ v. joinedFrom word v us)
+
+abbrev pub joined : ℕ → List ℕ → Option ℕ
+joined word = joinedFrom word null
 
 -- the code that an answer stands for
 abbrev pub codesOf : Coerced → Option ℕ

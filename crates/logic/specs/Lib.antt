@@ -1,3 +1,5 @@
 pub mod Test
 pub mod Flag
 pub mod Table
+pub mod Maybe
+pub mod All
