@@ -1,5 +1,5 @@
 -- One law for each way through `coerce_primitive_type` and `joint_of_unequal`, from what the code has tested.
-use mathlib.Core.Path.{_≡_, refl, sym, _∙_, subst₂}
+use mathlib.Core.Path.{_≡_, refl, sym, _∙_}
 use mathlib.Core.Bool.{Bool, true, false, _&&_}
 use mathlib.Core.Option.{Option, some}
 use Prim.Native.Nat.{ℕ}

@@ -1,18 +1,18 @@
 -- Rules of the joint, each checked at all types by one test that antt computes. The joint depends on the options word only
 -- through three bits; here allow_to_string is off, and every type is one that a batch under that word can show.
 use mathlib.Core.Path.{_≡_, refl, sym, _∙_, ap₂, fun-ext}
-use mathlib.Core.Bool.{Bool, true, false, not, _&&_, _||_, Bool·beq, false≢true}
-use mathlib.Core.List.{List, [], _∷_}
+use mathlib.Core.Bool.{Bool, true, false, _&&_, _||_, Bool·beq, false≢true}
+use mathlib.Core.List.{[], _∷_}
 use mathlib.Core.Option.{Option, none, some}
 use Prim.Native.Nat.{ℕ, suc, _≤_}
 use native.Mathlib.Omega.{arith}
 use lib.Dec.{eqb, leb}
-use borrow.Author.Tests.{leb-true, eqb-true, eqb-false, ne-eqb}
-use Rattle.logic.specs.Test.{if_then_else_, both, if-passed}
+use borrow.Author.Tests.{leb-true, le-leb, eqb-true}
+use Rattle.logic.specs.Test.{if_then_else_, both, cases, if-passed}
 use Rattle.logic.specs.All.{has}
 use Rattle.logic.specs.Maybe.{andThen, sameMaybe, same-maybe}
 use Rattle.logic.specs.Table.{allBelow, below-at}
-use Rattle.datatype.specs.Codes.{null, int64, uint64, float64, union}
+use Rattle.datatype.specs.Codes.{null, union}
 use Rattle.options.specs.Word.{coerceNumbers, allowToString, stringAsLargeUtf8, stringType}
 use Rattle.coerce.specs.Joint.{isString, isFloat, isSigned, numberJoint, jointOfNumbers, jointWithString, jointOfTimestamps, jointOfUnequal, joint}
 use Rattle.coerce.specs.Census.{isOther, isStringOrTimestamp, severalSeen}
@@ -23,6 +23,18 @@ fitting string t = leb t union && (if isString t then eqb t string else true)
 
 abbrev pub Fits : ℕ → ℕ → Type 0
 Fits word t = fitting (stringType word) t ≡ true
+
+pub null-fits : (word : ℕ) → Fits word null
+unfolding fitting if_then_else_
+null-fits word = refl
+
+pub string-fits : (word : ℕ) → Fits word (stringType word)
+unfolding fitting if_then_else_
+string-fits word = cases (stringAsLargeUtf8 word) (λ e. rw e) (λ e. rw e)
+
+pub other-fits : (word t : ℕ) → t ≤ union → isString t ≡ false → Fits word t
+unfolding fitting if_then_else_
+other-fits word t h e = rw (le-leb t union h, e)
 
 -- a word for each setting of coerce_numbers and string_as_large_utf8
 abbrev plain : Bool → Bool → ℕ
@@ -94,13 +106,13 @@ swaps-hold true false = refl
 swaps-hold true true = refl
 
 -- what holds of two types a and b and their joint u, each part as a test
-abbrev isSignedOrFloat : ℕ → Bool
+abbrev pub isSignedOrFloat : ℕ → Bool
 isSignedOrFloat t = isSigned t || isFloat t
 
 abbrev shows : (ℕ → Bool) → ℕ → ℕ → ℕ → Bool
 shows p a b u = Bool·beq (p u) (p a || p b)
 
-abbrev takesIn : ℕ → ℕ → ℕ → Bool
+abbrev pub takesIn : ℕ → ℕ → ℕ → Bool
 takesIn a b u = eqb u a && (isOther null b && isOther a b)
 
 abbrev joins : Rule
@@ -153,9 +165,10 @@ module _ (word : ℕ) (off : allowToString word ≡ false) where
       let all = on-some (joint word a b) _ u (for-fitting string _ (for-fitting string _ (settled joins joins-hold word off) a fa) b fb) e in
       both _ _ all λ h₁ r₁. both _ _ r₁ λ h₂ r₂. both _ _ r₂ λ h₃ r₃. both _ _ r₃ λ h₄ r₄. both _ _ r₄ λ h₅ h₆.
       record {
-      absorbs = same-maybe _ _ h₁;
-      fits = h₂;
-      texts = beq-true _ _ h₃;
-      floats = beq-true _ _ h₄;
-      signs = beq-true _ _ h₅;
-      several = λ t. eqb-true _ _ (sym (if-passed true t) ∙ h₆) }
+        absorbs = same-maybe _ _ h₁;
+        fits = h₂;
+        texts = beq-true _ _ h₃;
+        floats = beq-true _ _ h₄;
+        signs = beq-true _ _ h₅;
+        several = λ t. eqb-true _ _ (sym (if-passed true t) ∙ h₆);
+      }

@@ -17,6 +17,22 @@ unfolding andThen
 then-some none f b e k = absurd (Option·none-ne-some b e)
 then-some (some a) f b e k = k a refl e
 
+-- second steps that agree on what the first gave
+pub then-agree : {A B : Type 0} (o : Option A) (f g : A → Option B) → ((a : A) → o ≡ some a → f a ≡ g a) → andThen o f ≡ andThen o g
+unfolding andThen
+then-agree none f g h = refl
+then-agree (some a) f g h = h a refl
+
+pub then-assoc : {A B C : Type 0} (o : Option A) (f : A → Option B) (g : B → Option C) → andThen (andThen o f) g ≡ andThen o (λ a. andThen (f a) g)
+unfolding andThen
+then-assoc none f g = refl
+then-assoc (some a) f g = refl
+
+-- P of the answer, where there is one
+abbrev pub OnSome : {A : Type 0} → (A → Type 0) → Option A → Type 0
+OnSome P none = Unit {0}
+OnSome P (some a) = P a
+
 -- equality of codes that may be none, as a test
 unfoldable pub sameMaybe : Option ℕ → Option ℕ → Bool
 sameMaybe none none = true

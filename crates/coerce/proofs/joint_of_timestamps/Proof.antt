@@ -1,8 +1,8 @@
 -- `joint_of_timestamps` takes both zones apart; a type that is no timestamp has no joint here.
 use borrow.Author.Needs.{needs}
-use mathlib.Core.Path.{_≡_, refl, ap, sym}
-use mathlib.Core.Bool.{Bool, true, false, _&&_, and-false}
-use mathlib.Core.Option.{Option, none, some}
+use mathlib.Core.Path.{_≡_, refl}
+use mathlib.Core.Bool.{false, and-false}
+use mathlib.Core.Option.{none, some}
 use mathlib.Core.List.{List, [], _∷_}
 use Prim.Native.Nat.{ℕ}
 use types.Run.{OneOf, miss}

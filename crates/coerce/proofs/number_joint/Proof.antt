@@ -7,7 +7,7 @@ use mathlib.Core.List.{List, [], _∷_}
 use Prim.Native.Nat.{ℕ, _+_, _-_, _≤_}
 use native.Mathlib.Omega.{arith}
 use lib.Dec.{eqb, leb}
-use lib.ListN.{length, getD}
+use lib.ListN.{getD}
 use Rattle.logic.specs.Test.{if_then_else_, both}
 use Rattle.logic.specs.Table.{every, everyRow, row-at}
 use Rattle.datatype.specs.declared.DataType.{DataType}
