@@ -1,5 +1,5 @@
--- Rules of the joint, each checked at all types by one test that antt computes. The joint depends on the options word only
--- through three bits; here allow_to_string is off, and every type is one that a batch under that word can show.
+-- Rules of the joint, each checked at all types that fit by one test that antt computes. The joint depends on the options
+-- word only through three bits, of which allow_to_string is off here: four words stand for all.
 use mathlib.Core.Path.{_≡_, refl, sym, _∙_, ap₂, fun-ext}
 use mathlib.Core.Bool.{Bool, true, false, _&&_, _||_, Bool·beq, false≢true}
 use mathlib.Core.List.{[], _∷_}
@@ -15,15 +15,9 @@ use Rattle.logic.specs.Table.{allBelow, below-at}
 use Rattle.datatype.specs.Codes.{null, union}
 use Rattle.options.specs.Word.{coerceNumbers, allowToString, stringAsLargeUtf8, stringType}
 use Rattle.coerce.specs.Joint.{isString, isFloat, isSigned, numberJoint, jointOfNumbers, jointWithString, jointOfTimestamps, jointOfUnequal, joint}
-use Rattle.coerce.specs.Census.{isOther, isStringOrTimestamp, severalSeen}
+use Rattle.coerce.specs.Census.{isOther, isStringOrTimestamp, severalSeen, fitting, Fits}
 
--- a type, and if a string type then the one given: under one options word no batch shows the other
-unfoldable pub fitting : ℕ → ℕ → Bool
-fitting string t = leb t union && (if isString t then eqb t string else true)
-
-abbrev pub Fits : ℕ → ℕ → Type 0
-Fits word t = fitting (stringType word) t ≡ true
-
+-- which types fit
 pub null-fits : (word : ℕ) → Fits word null
 unfolding fitting if_then_else_
 null-fits word = refl

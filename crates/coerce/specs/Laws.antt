@@ -15,8 +15,8 @@ use Rattle.logic.specs.Maybe.{andThen, OnSome, then-some, then-agree, then-asso
 use Rattle.datatype.specs.Codes.{null, int64, uint64, float64, dictionaryUtf8}
 use Rattle.options.specs.Word.{coerceNumbers, allowToString, stringAsLargeUtf8, stringType}
 use Rattle.coerce.specs.Joint.{isString, isTimestamp, isNumber, isFloat, isSigned, yieldsToString, numberJoint, jointOfNumbers, jointWithString, jointOfTimestamps, jointOfUnequal, joint, joinedFrom, joined}
-use Rattle.coerce.specs.Census.{isOther, isStringOrTimestamp, severalSeen, typeSeen, nonNull}
-use Rattle.coerce.specs.Checked.{Fits, Joins, isSignedOrFloat, null-fits, joint-swap, joint-joins}
+use Rattle.coerce.specs.Census.{isOther, isStringOrTimestamp, severalSeen, typeSeen, nonNull, Fits}
+use Rattle.coerce.specs.Checked.{Joins, isSignedOrFloat, null-fits, joint-swap, joint-joins}
 
 -- ---- under any options
 

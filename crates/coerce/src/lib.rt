@@ -66,24 +66,28 @@ const TIMESTAMP_NAIVE: u8 = 18;
 
 const TIMESTAMP_UTC: u8 = 19;
 
+// Whether the code is that of a number type.
 fn is_numeric(code: u8) -> bool
     ensures { λ r. ⌜ r ≡ isNumber code ⌝ }
 {
     INT8 <= code && code <= FLOAT64
 }
 
+// Whether both are.
 fn are_numeric(a: u8, b: u8) -> bool
     ensures { λ r. ⌜ r ≡ (isNumber a && isNumber b) ⌝ }
 {
     is_numeric(a) && is_numeric(b)
 }
 
+// Whether the code is that of a string type.
 fn is_string(code: u8) -> bool
     ensures { λ r. ⌜ r ≡ isString code ⌝ }
 {
     code == UTF8 || code == LARGE_UTF8
 }
 
+// Whether the code is that of a timestamp, in either zone.
 fn is_timestamp(code: u8) -> bool
     ensures { λ r. ⌜ r ≡ isTimestamp code ⌝ }
 {
@@ -135,7 +139,7 @@ fn joint_with_string(string: DataType, other: u8, options: TracingOptions) -> Co
     }
 }
 
-// Timestamps meet, or types that have no joint.
+// Timestamps meet, or types that have no joint. Equal zones stay, unequal ones give string.
 fn joint_of_timestamps(prev: DataType, curr: DataType, options: TracingOptions) -> Coerced
     ensures { λ r. ⌜ codesOf r ≡ jointOfTimestamps (options .word) (codeOf prev) (codeOf curr) ⌝ }
 {
@@ -175,7 +179,7 @@ fn joint_of_unequal(prev: DataType, curr: DataType, options: TracingOptions) -> 
     joint_of_timestamps(prev, curr, options)
 }
 
-// The type of a place that had the first type and meets the second.
+// The type of a place that had `prev` and meets `curr`. Equal types come first, since most values of a place repeat.
 pub fn coerce_primitive_type(prev: DataType, curr: DataType, options: TracingOptions) -> Coerced
     ensures { λ r. ⌜ codesOf r ≡ joint (options .word) (codeOf prev) (codeOf curr) ⌝ }
 {
