@@ -1,0 +1,4 @@
+pub mod Joint
+pub mod Census
+pub mod Checked
+pub mod Laws

@@ -1,0 +1,198 @@
+// The joint of two primitive types that meet at one place (tracer.rs, coerce_primitive_type). Samples give no
+// strategy on primitives, and nullability is the caller's affair.
+ghost use mathlib.Core.Path.{_≡_};
+ghost use mathlib.Core.Bool.{true, _&&_};
+ghost use Rattle.datatype.specs.Codes.{codeOf};
+ghost use Rattle.coerce.specs.Joint.{isNumber, isString, isTimestamp, isToString, yieldsToString, numberJoint, jointOfNumbers, jointWithString, jointOfTimestamps, jointOfUnequal, joint, codesOf};
+use datatype::DataType;
+use datatype::Zone;
+use options::TracingOptions;
+
+// The joint of two types, or that they have none (refusal 10).
+pub enum Coerced {
+    Type(DataType),
+    Nothing,
+}
+
+// The number types, by short names for the table.
+const I8: DataType = DataType::Int8;
+
+const I16: DataType = DataType::Int16;
+
+const I32: DataType = DataType::Int32;
+
+const I64: DataType = DataType::Int64;
+
+const U8: DataType = DataType::UInt8;
+
+const U16: DataType = DataType::UInt16;
+
+const U32: DataType = DataType::UInt32;
+
+const U64: DataType = DataType::UInt64;
+
+const F32: DataType = DataType::Float32;
+
+const F64: DataType = DataType::Float64;
+
+// The joint of two number types, a row and a column for each in the order of their codes.
+const NUMBERS: [[DataType; 10]; 10] = [
+    [I8, I64, I64, I64, I64, I64, I64, I64, F64, F64],
+    [I64, I16, I64, I64, I64, I64, I64, I64, F64, F64],
+    [I64, I64, I32, I64, I64, I64, I64, I64, F64, F64],
+    [I64, I64, I64, I64, I64, I64, I64, I64, F64, F64],
+    [I64, I64, I64, I64, U8, U64, U64, U64, F64, F64],
+    [I64, I64, I64, I64, U64, U16, U64, U64, F64, F64],
+    [I64, I64, I64, I64, U64, U64, U32, U64, F64, F64],
+    [I64, I64, I64, I64, U64, U64, U64, U64, F64, F64],
+    [F64, F64, F64, F64, F64, F64, F64, F64, F32, F64],
+    [F64, F64, F64, F64, F64, F64, F64, F64, F64, F64],
+];
+
+// Codes by which the families of types are told (document 01, "Field records").
+const NULL: u8 = 0;
+
+const BOOLEAN: u8 = 1;
+
+const INT8: u8 = 2;
+
+const FLOAT64: u8 = 11;
+
+const UTF8: u8 = 12;
+
+const LARGE_UTF8: u8 = 13;
+
+const TIMESTAMP_NAIVE: u8 = 18;
+
+const TIMESTAMP_UTC: u8 = 19;
+
+// Whether the code is that of a number type.
+fn is_numeric(code: u8) -> bool
+    ensures { λ r. ⌜ r ≡ isNumber code ⌝ }
+{
+    INT8 <= code && code <= FLOAT64
+}
+
+// Whether both are.
+fn are_numeric(a: u8, b: u8) -> bool
+    ensures { λ r. ⌜ r ≡ (isNumber a && isNumber b) ⌝ }
+{
+    is_numeric(a) && is_numeric(b)
+}
+
+// Whether the code is that of a string type.
+fn is_string(code: u8) -> bool
+    ensures { λ r. ⌜ r ≡ isString code ⌝ }
+{
+    code == UTF8 || code == LARGE_UTF8
+}
+
+// Whether the code is that of a timestamp, in either zone.
+fn is_timestamp(code: u8) -> bool
+    ensures { λ r. ⌜ r ≡ isTimestamp code ⌝ }
+{
+    code == TIMESTAMP_NAIVE || code == TIMESTAMP_UTC
+}
+
+// Whether the type gives way to a string under allow_to_string.
+fn is_to_string(code: u8) -> bool
+    ensures { λ r. ⌜ r ≡ isToString code ⌝ }
+{
+    code == BOOLEAN || is_numeric(code)
+}
+
+// Whether the type gives way to a string that it meets.
+fn yields_to_string(code: u8, options: TracingOptions) -> bool
+    ensures { λ r. ⌜ r ≡ yieldsToString (options .word) code ⌝ }
+{
+    is_timestamp(code) || (options.allow_to_string() && is_to_string(code))
+}
+
+// The joint of two number types under coerce_numbers.
+fn number_joint(a: u8, b: u8) -> DataType
+    requires { ⌜ (isNumber a && isNumber b) ≡ true ⌝ }
+    ensures { λ r. ⌜ codeOf r ≡ numberJoint a b ⌝ }
+{
+    NUMBERS[(a - INT8) as usize][(b - INT8) as usize]
+}
+
+// Number types meet.
+fn joint_of_numbers(a: u8, b: u8, options: TracingOptions) -> Coerced
+    requires { ⌜ (isNumber a && isNumber b) ≡ true ⌝ }
+    ensures { λ r. ⌜ codesOf r ≡ jointOfNumbers (options .word) a b ⌝ }
+{
+    if options.coerce_numbers() {
+        Coerced::Type(number_joint(a, b))
+    } else {
+        Coerced::Nothing
+    }
+}
+
+// A string type meets another type.
+fn joint_with_string(string: DataType, other: u8, options: TracingOptions) -> Coerced
+    ensures { λ r. ⌜ codesOf r ≡ jointWithString (options .word) (codeOf string) other ⌝ }
+{
+    if yields_to_string(other, options) {
+        Coerced::Type(string)
+    } else {
+        Coerced::Nothing
+    }
+}
+
+// Timestamps meet, or types that have no joint. Equal zones stay, unequal ones give string.
+fn joint_of_timestamps(prev: DataType, curr: DataType, options: TracingOptions) -> Coerced
+    ensures { λ r. ⌜ codesOf r ≡ jointOfTimestamps (options .word) (codeOf prev) (codeOf curr) ⌝ }
+{
+    let DataType::Timestamp(from) = prev else {
+        return Coerced::Nothing;
+    };
+    let DataType::Timestamp(to) = curr else {
+        return Coerced::Nothing;
+    };
+    match from {
+        Zone::Naive => match to {
+            Zone::Naive => Coerced::Type(prev),
+            Zone::Utc => Coerced::Type(options.string_type()),
+        },
+        Zone::Utc => match to {
+            Zone::Naive => Coerced::Type(options.string_type()),
+            Zone::Utc => Coerced::Type(prev),
+        },
+    }
+}
+
+// Unequal types meet, neither of them Null.
+fn joint_of_unequal(prev: DataType, curr: DataType, options: TracingOptions) -> Coerced
+    ensures { λ r. ⌜ codesOf r ≡ jointOfUnequal (options .word) (codeOf prev) (codeOf curr) ⌝ }
+{
+    let a = prev.code();
+    let b = curr.code();
+    if are_numeric(a, b) {
+        return joint_of_numbers(a, b, options);
+    }
+    if is_string(a) {
+        return joint_with_string(prev, b, options);
+    }
+    if is_string(b) {
+        return joint_with_string(curr, a, options);
+    }
+    joint_of_timestamps(prev, curr, options)
+}
+
+// The type of a place that had `prev` and meets `curr`. Equal types come first, since most values of a place repeat.
+pub fn coerce_primitive_type(prev: DataType, curr: DataType, options: TracingOptions) -> Coerced
+    ensures { λ r. ⌜ codesOf r ≡ joint (options .word) (codeOf prev) (codeOf curr) ⌝ }
+{
+    let a = prev.code();
+    let b = curr.code();
+    if a == b {
+        return Coerced::Type(prev);
+    }
+    if a == NULL {
+        return Coerced::Type(curr);
+    }
+    if b == NULL {
+        return Coerced::Type(prev);
+    }
+    joint_of_unequal(prev, curr, options)
+}
