@@ -4,6 +4,7 @@
 mod batch;
 mod codes;
 mod coerce;
+mod commands;
 mod hex;
 mod internal;
 mod texts;
