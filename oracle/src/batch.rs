@@ -44,7 +44,12 @@ fn places(tracer: &Tracer) -> usize {
         Tracer::Map(map) => places(&map.key_tracer) + places(&map.value_tracer),
         Tracer::Struct(fields) => fields.fields.iter().map(|field| places(&field.tracer)).sum(),
         Tracer::Tuple(tuple) => tuple.field_tracers.iter().map(places).sum(),
-        Tracer::Union(union) => union.variants.iter().flatten().map(|variant| places(&variant.tracer)).sum(),
+        Tracer::Union(union) => union
+            .variants
+            .iter()
+            .flatten()
+            .map(|variant| places(&variant.tracer))
+            .sum(),
     }
 }
 
@@ -99,7 +104,10 @@ impl Question<'_> {
         if self.commands.len() > MAX_BYTES || self.text.len() > MAX_BYTES {
             return Err((3, 0));
         }
-        let schema = self.trace()?.to_schema().map_err(|error| (refusal_of(&error), self.commands.len()))?;
+        let schema = self
+            .trace()?
+            .to_schema()
+            .map_err(|error| (refusal_of(&error), self.commands.len()))?;
         Ok(schema.fields)
     }
 }
@@ -127,9 +135,11 @@ impl Answer {
             _ => Vec::new(),
         };
         let code = codes::code_of(&field.data_type);
-        self.records.extend([code, field.nullable as u8, strategy, variant as u8]);
+        self.records
+            .extend([code, field.nullable as u8, strategy, variant as u8]);
         for length in [field.name.len(), children.len()] {
-            self.records.extend(u16::try_from(length).expect("at most 65,535").to_le_bytes());
+            self.records
+                .extend(u16::try_from(length).expect("at most 65,535").to_le_bytes());
         }
         self.names.extend(field.name.bytes());
         self.columns += children.is_empty() as usize;
@@ -160,9 +170,19 @@ pub fn answers(out: &mut impl Write, record_bytes: usize, name_bytes: usize) -> 
         };
         let word = u16::from_str_radix(word, 16).map_err(io::Error::other)?;
         let (commands, text) = (hex::read(commands)?, hex::read(text)?);
-        let question = Question { word, commands: &commands, text: &text };
+        let question = Question {
+            word,
+            commands: &commands,
+            text: &text,
+        };
         match answer(&question, record_bytes, name_bytes) {
-            Ok(a) => writeln!(out, "ok {} {} {}", hex::write(&a.records), hex::write(&a.names), a.columns)?,
+            Ok(a) => writeln!(
+                out,
+                "ok {} {} {}",
+                hex::write(&a.records),
+                hex::write(&a.names),
+                a.columns
+            )?,
             Err((number, place)) => writeln!(out, "refused {number} {place}")?,
         }
     }

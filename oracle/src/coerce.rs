@@ -15,7 +15,9 @@ const ALL: u16 = (1 << 10) - 1;
 fn joint(prev: &DataType, curr: &DataType, word: u16) -> Option<u8> {
     let options = Arc::new(codes::options(word));
     let mut tracer = Tracer::new(String::from("$"), String::from("$"), options);
-    tracer.ensure_primitive(prev.clone()).expect("the first sight of a type");
+    tracer
+        .ensure_primitive(prev.clone())
+        .expect("the first sight of a type");
     tracer.ensure_primitive(curr.clone()).ok()?;
     let Tracer::Primitive(tracer) = tracer else {
         panic!("a primitive type became {:?}", tracer.get_type());

@@ -56,7 +56,7 @@ struct Command {
 }
 
 /// What can stand at a place.
-#[derive(Clone, Copy, PartialEq)]
+#[derive(Clone, Copy)]
 enum Due {
     Value,
     FieldOrEnd,
@@ -147,15 +147,23 @@ impl<'a> Batch<'a> {
         };
         let mut operands = self.commands[at + 1..].chunks_exact(2);
         let mut operand = |has: bool| match has {
-            true => operands.next().map(|low_high| usize::from(low_high[0]) + 256 * usize::from(low_high[1])),
+            true => operands
+                .next()
+                .map(|low_high| usize::from(low_high[0]) + 256 * usize::from(low_high[1])),
             false => Some(0),
         };
-        let (Some(number), Some(offset), Some(length), Some(count)) =
-            (operand(has_number), operand(has_name), operand(has_name), operand(has_count))
-        else {
+        let (Some(number), Some(offset), Some(length), Some(count)) = (
+            operand(has_number),
+            operand(has_name),
+            operand(has_name),
+            operand(has_count),
+        ) else {
             return Err(self.refuse(4, at));
         };
-        let name = self.text.get(offset..offset + length).and_then(|bytes| std::str::from_utf8(bytes).ok());
+        let name = self
+            .text
+            .get(offset..offset + length)
+            .and_then(|bytes| std::str::from_utf8(bytes).ok());
         let name = match name {
             Some(name) => forever(name),
             None if has_name => return Err(self.refuse(5, at)),
@@ -164,8 +172,15 @@ impl<'a> Batch<'a> {
         let mut read = self.read.borrow_mut();
         let point = DONE.min(self.until - read.len() * POINTS);
         read.push(at);
-        self.at.set(at + 1 + 2 * (usize::from(has_number) + 2 * usize::from(has_name) + usize::from(has_count)));
-        Ok(Command { code, number: number as u32, name, count, point })
+        self.at
+            .set(at + 1 + 2 * (usize::from(has_number) + 2 * usize::from(has_name) + usize::from(has_count)));
+        Ok(Command {
+            code,
+            number: number as u32,
+            name,
+            count,
+            point,
+        })
     }
 
     /// Reads an end, if one stands here.
@@ -242,7 +257,13 @@ impl Serialize for Value<'_, '_> {
         if !batch.goes_to(REACHED) {
             return Nothing.serialize(s);
         }
-        let Command { code, number, name, count, point } = batch.command(Due::Value).map_err(custom)?;
+        let Command {
+            code,
+            number,
+            name,
+            count,
+            point,
+        } = batch.command(Due::Value).map_err(custom)?;
         if point == VARIANT && code >= UNIT_VARIANT {
             return s.serialize_newtype_variant("", number, name, &Nothing);
         }

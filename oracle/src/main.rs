@@ -34,13 +34,17 @@ fn run(arguments: &[String]) -> io::Result<()> {
 
 fn main() {
     let arguments: Vec<String> = std::env::args().skip(1).collect();
-    let work = std::thread::Builder::new().stack_size(STACK).spawn(move || run(&arguments));
-    match work.map(|w| w.join()) {
-        Ok(Ok(Ok(()))) => {}
-        Ok(Ok(Err(error))) | Err(error) => {
+    let work = std::thread::Builder::new()
+        .stack_size(STACK)
+        .spawn(move || run(&arguments))
+        .expect("a thread is started");
+    match work.join() {
+        Ok(Ok(())) => {}
+        Ok(Err(error)) => {
             eprintln!("{error}");
             std::process::exit(1);
         }
-        Ok(Err(_)) => std::process::exit(2),
+        // it has said why
+        Err(_) => std::process::exit(2),
     }
 }
