@@ -1,0 +1,3 @@
+pub mod Commands
+pub mod Counted
+pub mod Laws

@@ -1,0 +1,115 @@
+// UTF-8, by the Unicode standard's table of well-formed byte sequences.
+ghost use mathlib.Core.Path.{_≡_};
+ghost use Prim.Native.Nat.{_+_, _≤_, _<_};
+ghost use mathlib.Core.List.{_∷_};
+ghost use lib.ListN.{length, drop, replicate};
+ghost use Rattle.text.specs.Utf8.{_to_, table, dueIn, isUtf8};
+ghost use Rattle.text.specs.Due.{dueOf, trailing, begins};
+
+// What is due after a first byte: a byte in a range, which is given by its ends, and then so many from 80 to BF;
+// or no row of the table begins with that byte.
+enum Due {
+    Bytes(u8, u8, usize),
+    Nothing,
+}
+
+// Whether the bytes are sequences of the table, one after another. Most are of one byte.
+pub fn is_utf8(bytes: &[u8]) -> bool
+    ensures { λ r. ⌜ r ≡ isUtf8 (now (bytes .entry)) ⌝ }
+{
+    let mut i = 0;
+    while i < bytes.len() {
+        let first = bytes[i];
+        if first < 0x80 {
+            i += 1;
+        } else {
+            let due = due_after(first);
+            match due {
+                Due::Nothing => return false,
+                Due::Bytes(low, high, more) => {
+                    if follows(bytes, i + 1, low, high, more) {
+                        i += more + 2;
+                    } else {
+                        return false;
+                    }
+                }
+            }
+        }
+    }
+    true
+}
+
+// The row of the table that begins with a byte above 7F.
+fn due_after(first: u8) -> Due
+    requires { ⌜ 0x80 ≤ first ⌝ }
+    ensures { λ r. ⌜ dueOf r ≡ dueIn table first ⌝ }
+{
+    if first <= 0xC1 {
+        return Due::Nothing;
+    }
+    if first <= 0xDF {
+        return Due::Bytes(0x80, 0xBF, 0);
+    }
+    if first <= 0xE0 {
+        return Due::Bytes(0xA0, 0xBF, 1);
+    }
+    if first <= 0xEC {
+        return Due::Bytes(0x80, 0xBF, 1);
+    }
+    if first <= 0xED {
+        return Due::Bytes(0x80, 0x9F, 1);
+    }
+    if first <= 0xEF {
+        return Due::Bytes(0x80, 0xBF, 1);
+    }
+    if first <= 0xF0 {
+        return Due::Bytes(0x90, 0xBF, 2);
+    }
+    if first <= 0xF3 {
+        return Due::Bytes(0x80, 0xBF, 2);
+    }
+    if first <= 0xF4 {
+        return Due::Bytes(0x80, 0x8F, 2);
+    }
+    Due::Nothing
+}
+
+// Whether the bytes that are due stand at an offset.
+fn follows(bytes: &[u8], at: usize, low: u8, high: u8, more: usize) -> bool
+    requires { ⌜ at ≤ length (now bytes) ⌝ }
+    ensures { λ r. ⌜ r ≡ begins (low to high ∷ replicate more trailing) (drop at (now (bytes .entry))) ⌝ }
+{
+    if bytes.len() <= at {
+        return false;
+    }
+    if bytes[at] < low {
+        return false;
+    }
+    if high < bytes[at] {
+        return false;
+    }
+    continues(bytes, at + 1, more)
+}
+
+// Whether so many bytes from 80 to BF stand at an offset.
+fn continues(bytes: &[u8], at: usize, count: usize) -> bool
+    requires { ⌜ at ≤ length (now bytes) ⌝ }
+    ensures { λ r. ⌜ r ≡ begins (replicate count trailing) (drop at (now (bytes .entry))) ⌝ }
+{
+    let mut i = at;
+    let mut left = count;
+    while 0 < left {
+        if bytes.len() <= i {
+            return false;
+        }
+        if bytes[i] < 0x80 {
+            return false;
+        }
+        if 0xBF < bytes[i] {
+            return false;
+        }
+        i += 1;
+        left -= 1;
+    }
+    true
+}
