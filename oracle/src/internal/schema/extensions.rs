@@ -1,0 +1,1 @@
+//! Stand-in for the extension types, which tracing does not use.
