@@ -1,0 +1,102 @@
+-- The words of demand 3: accepted, equal schemas, struct records, a place shown both as struct and as map, records in another order.
+use mathlib.Core.Bool.{Bool, true, false, _&&_, _||_}
+use mathlib.Core.List.{List, [], _∷_, _++_, List·Permᴰ}
+use mathlib.Core.Path.{_≡_}
+use Prim.Native.Nat.{ℕ, _*_, _≤_}
+use lib.Dec.{eqb}
+use lib.ListN.{length, take}
+use Rattle.logic.specs.Test.{if_then_else_}
+use Rattle.logic.specs.All.{All}
+use Rattle.datatype.specs.Codes.{struct, noStrategy}
+use Rattle.options.specs.Word.{allowToString, enumsWithoutDataAsStrings}
+use Rattle.model.specs.Kinds.{structKind, mapKind, mapModeKind, Step}
+use Rattle.model.specs.Reading.{Value, values, isWhole}
+use Rattle.model.specs.Emission.{Field, mk, Fields, no-fields, more, recordsIn, namesIn, countIn, byName}
+use Rattle.model.specs.Answer.{Batch, Buffers, Answer, answer, recordBytes}
+use Rattle.model.specs.Census.{kindIn, standing, SameCensus}
+
+-- an options word with allow_to_string and enums_without_data_as_strings off
+pub record Plain (options : ℕ) : Type 0 where
+  pub to-string-off : allowToString options ≡ false
+  pub enums-off : enumsWithoutDataAsStrings options ≡ false
+
+-- accepted is refusal 0
+abbrev pub Accepted : Answer → Type 0
+Accepted a = a .refusal ≡ 0
+
+-- schemas are equal when they have equally many field records and name bytes, and the same bytes in them, whatever the buffers held before
+pub record SameSchema (a b : Answer) : Type 0 where
+  pub records : a .field-records ≡ b .field-records
+  pub names : a .name-bytes ≡ b .name-bytes
+  pub record-bytes : take (recordBytes * a .field-records) (a .left .fields) ≡ take (recordBytes * b .field-records) (b .left .fields)
+  pub name-bytes : take (a .name-bytes) (a .left .names) ≡ take (b .name-bytes) (b .left .names)
+
+abbrev pub recordsOf : Batch → List Value
+recordsOf b = values (b .options) (b .commands) (b .text)
+
+-- every record is a struct record: a 15, past any 10 and 11
+abbrev pub StructRecords : Batch → Type 0
+StructRecords b = All (λ (v : Value). kindIn v ≡ structKind) (recordsOf b)
+
+-- some value of these shows its place so
+unfoldable pub shows : (ℕ → Bool) → List Value → Bool
+shows p [] = false
+shows p (v ∷ vs) = p (kindIn v) || shows p vs
+
+abbrev pub asStruct : ℕ → Bool
+asStruct kind = eqb kind structKind
+
+-- 14, traced as a struct or not
+abbrev pub asMap : ℕ → Bool
+asMap kind = eqb kind mapKind || eqb kind mapModeKind
+
+-- the batch shows no place both as struct and as map
+abbrev pub NoPlaceBoth : Batch → Type 0
+NoPlaceBoth b = (steps : List Step) → (shows asStruct (standing steps (recordsOf b)) && shows asMap (standing steps (recordsOf b))) ≡ false
+
+-- ---- a batch's records in another order
+-- one whole record, and nothing else
+abbrev pub IsRecord : ℕ → List ℕ → List ℕ → Type 0
+IsRecord options text commands = (v : Value) × (values options commands text ≡ v ∷ []) × (isWhole v ≡ true)
+
+unfoldable pub joined : List (List ℕ) → List ℕ
+joined [] = []
+joined (r ∷ rs) = r ++ joined rs
+
+abbrev pub batchOf : ℕ → List ℕ → List (List ℕ) → Batch
+batchOf options text records = record { options = options; commands = joined records; text = text }
+
+-- the buffers no shorter
+pub record NoShorter (lent other : Buffers) : Type 0 where
+  pub table : length (lent .table) ≤ length (other .table)
+  pub fields : length (lent .fields) ≤ length (other .fields)
+  pub names : length (lent .names) ≤ length (other .names)
+
+-- a field that is a struct, neither a tuple nor a map traced as one
+abbrev pub isPlain : ℕ → ℕ → Bool
+isPlain type strategy = eqb type struct && eqb strategy noStrategy
+
+-- the fields of every struct, each with all below it, in the order of their names
+unfoldable mutual
+  pub inNameOrderOf : Field → Field
+  inNameOrderOf (mk type nullable strategy number name fs) =
+      mk type nullable strategy number name (if isPlain type strategy then byName (inNameOrderBelow fs) else inNameOrderBelow fs)
+
+  pub inNameOrderBelow : Fields → Fields
+  inNameOrderBelow no-fields = no-fields
+  inNameOrderBelow (more f fs) = more (inNameOrderOf f) (inNameOrderBelow fs)
+
+-- of a schema: the root is a struct
+unfoldable pub inNameOrder : Fields → Fields
+inNameOrder fs = byName (inNameOrderBelow fs)
+
+-- the answer holds the fields of a schema
+pub record Holds (schema : Fields) (a : Answer) : Type 0 where
+  pub records : a .field-records ≡ countIn schema
+  pub names : a .name-bytes ≡ length (namesIn schema)
+  pub record-bytes : take (recordBytes * a .field-records) (a .left .fields) ≡ recordsIn schema
+  pub name-bytes : take (a .name-bytes) (a .left .names) ≡ namesIn schema
+
+-- two schemas of struct records that differ in the order of struct fields alone
+abbrev pub SameButOrder : Answer → Answer → Type 0
+SameButOrder a b = (schema other : Fields) × Holds schema a × Holds other b × (inNameOrder schema ≡ inNameOrder other)

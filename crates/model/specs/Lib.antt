@@ -1,0 +1,9 @@
+pub mod Result
+pub mod Kinds
+pub mod Reading
+pub mod Tracing
+pub mod Emission
+pub mod Answer
+pub mod Census
+pub mod Soundings
+pub mod Demand3

@@ -1,0 +1,127 @@
+-- P1 to P12 of document 01's "Soundings", through the whole answer from bytes: one table and one theorem.
+use mathlib.Core.Path.{_≡_, refl}
+use mathlib.Core.List.{List, [], _∷_, _++_}
+use mathlib.Core.Option.{Option, none, some}
+use Prim.Native.Nat.{ℕ, _+_}
+use lib.ListN.{take, replicate}
+use Rattle.logic.specs.Test.{if_then_else_}
+use Rattle.datatype.specs.Codes.{uint8, uint64, int64, float32, float64, largeUtf8, timestampUtc, union}
+use Rattle.refusal.specs.Number.{noJoint, tooManySlots}
+use Rattle.words.specs.Word.{cleared}
+use Rattle.text.specs.Name.{eqName, dots}
+use Rattle.text.specs.Utf8 as U
+use Rattle.chrono.specs.Grammar as G
+use Rattle.chrono.specs.Text.{textType, firstFit}
+use Rattle.coerce.specs.Joint as J
+use Rattle.commands.specs.Commands as C
+use Rattle.model.specs.Kinds.{same}
+use Rattle.model.specs.Reading as R
+use Rattle.model.specs.Tracing as T
+use Rattle.model.specs.Emission as E
+use Rattle.model.specs.Answer.{Answer, Batch, Buffers, schemaOf, answerOf, answer}
+
+-- the Rust's default options, and those named
+abbrev default : ℕ
+default = 30
+
+abbrev coerce : ℕ
+coerce = default + 64
+
+abbrev toString : ℕ
+toString = default + 128
+
+abbrev guessDates : ℕ
+guessDates = default + 256
+
+-- the field `x` has the values, one in each record; the text follows the field's name
+pub record Sounding : Type 0 where
+  pub options : ℕ
+  pub shown : List (List ℕ)
+  pub text : List ℕ
+  -- the refusal, or 0 and the field's record
+  pub gives : List ℕ
+
+-- 15, 16 with the name at offset 0 of length 1, the value, 17
+abbrev records : List (List ℕ) → List ℕ
+records [] = []
+records (v ∷ vs) = (0x15 ∷ 0x16 ∷ 0 ∷ 0 ∷ 1 ∷ 0 ∷ v) ++ (0x17 ∷ records vs)
+
+abbrev batch : Sounding → Batch
+batch s = record { options = s .options; commands = records (s .shown); text = 120 ∷ s .text }
+
+abbrev lent : Buffers
+lent = record { table = replicate 16384 0; fields = replicate 2048 0; names = replicate 64 0 }
+
+-- a refusal changes no buffer, so of a refused batch these are zeros
+abbrev outcome : Answer → List ℕ
+outcome a = a .refusal ∷ take 8 (a .left .fields)
+
+-- a field record of the field `x`: type, and how many children
+abbrev field : ℕ → ℕ → List ℕ
+field type children = 0 ∷ type ∷ 0 ∷ 0 ∷ 0 ∷ 1 ∷ 0 ∷ children ∷ 0 ∷ []
+
+abbrev refusal : ℕ → List ℕ
+refusal number = number ∷ replicate 8 0
+
+-- commands: bool, i8, i32, u8, u16, f32
+abbrev bool : List ℕ
+bool = 0x01 ∷ []
+
+abbrev i8 : List ℕ
+i8 = 0x02 ∷ []
+
+abbrev i32 : List ℕ
+i32 = 0x04 ∷ []
+
+abbrev u8 : List ℕ
+u8 = 0x06 ∷ []
+
+abbrev u16 : List ℕ
+u16 = 0x07 ∷ []
+
+abbrev f32 : List ℕ
+f32 = 0x0A ∷ []
+
+-- the text behind the name, of so many bytes
+abbrev string : ℕ → List ℕ
+string n = 0x0D ∷ 1 ∷ 0 ∷ n ∷ 0 ∷ []
+
+-- a newtype variant of that number with an i32 inside; its name is the field's
+abbrev variant : ℕ → List ℕ
+variant number = (0x19 ∷ number ∷ 0 ∷ 0 ∷ 0 ∷ 1 ∷ 0 ∷ []) ++ i32
+
+-- `2024-01-02 03:04:05`
+abbrev blank-datetime : List ℕ
+blank-datetime =
+    50 ∷ 48 ∷ 50 ∷ 52 ∷ 45 ∷ 48 ∷ 49 ∷ 45 ∷ 48 ∷ 50 ∷ 32 ∷ 48 ∷ 51 ∷ 58 ∷ 48 ∷ 52 ∷ 58 ∷ 48 ∷ 53 ∷ []
+
+abbrev row : ℕ → List (List ℕ) → List ℕ → List ℕ → Sounding
+row options shown text gives = record { options = options; shown = shown; text = text; gives = gives }
+
+pub soundings : List Sounding
+soundings =
+    row default (u8 ∷ u8 ∷ []) [] (field uint8 0) ∷
+    row coerce (u8 ∷ u16 ∷ []) [] (field uint64 0) ∷
+    row coerce (u8 ∷ i8 ∷ []) [] (field int64 0) ∷
+    row coerce (f32 ∷ f32 ∷ []) [] (field float32 0) ∷
+    row coerce (f32 ∷ i8 ∷ []) [] (field float64 0) ∷
+    row default (u8 ∷ u16 ∷ []) [] (refusal noJoint) ∷
+    row toString (bool ∷ string 0 ∷ i32 ∷ []) [] (field largeUtf8 0) ∷
+    row toString (bool ∷ i32 ∷ string 0 ∷ []) [] (refusal noJoint) ∷
+    row guessDates (string 19 ∷ []) blank-datetime (field largeUtf8 0) ∷
+    row guessDates (string 20 ∷ []) (blank-datetime ++ (90 ∷ [])) (field timestampUtc 0) ∷
+    row default (variant 127 ∷ []) [] (field union 128) ∷
+    row default (variant 128 ∷ []) [] (refusal tooManySlots) ∷
+    []
+
+abbrev outcomes : List Sounding → List (List ℕ)
+outcomes [] = []
+outcomes (s ∷ ss) = outcome (answer (batch s) lent) ∷ outcomes ss
+
+abbrev given : List Sounding → List (List ℕ)
+given [] = []
+given (s ∷ ss) = s .gives ∷ given ss
+
+pub sounded : outcomes soundings ≡ given soundings
+unfolding soundings if_then_else_ cleared eqName dots textType firstFit same schemaOf answerOf answer U.within U.dueIn U.reads U.fits G.leadsMany G.leads G.fits J.numberJoint J.jointOfNumbers J.jointWithString J.jointOfTimestamps J.jointOfUnequal J.joint C.formOf C.operands C.made C.nameIn C.badCommand C.badName C.readCommand R.shapeOf R.nextPart R.recordsFrom R.values R.readValue R.readShape R.readParts T.meet T.stepsOf T.has T.kidAt T.put T.clashes T.room T.made T.make T.holds T.tally T.observeAll T.trace T.observe T.observeParts E.insertVariant E.byNumber E.datalessFrom E.typeOf E.strategyOf E.insertField E.byName E.gaps E.arranged E.toSchema E.placeOf E.placesOf E.walk E.walks E.fieldOf E.fieldsOf E.recordsOf E.recordsIn E.namesOf E.namesIn E.columnsOf E.columnsIn E.countOf E.countIn
+sounded = refl
