@@ -1,7 +1,8 @@
 -- The answer of the whole call, for whatever is handed in: refusal, place, counts, both buffers with their tails, and the work table.
 use mathlib.Core.Bool.{Bool, true, false, _||_}
 use mathlib.Core.List.{List, [], _∷_, _++_}
-use Prim.Native.Nat.{ℕ, _*_}
+use mathlib.Core.Path.{_≡_}
+use Prim.Native.Nat.{ℕ, _*_, _≤_}
 use lib.Dec.{ltb}
 use lib.ListN.{length, drop}
 use Rattle.logic.specs.Test.{if_then_else_}
@@ -9,7 +10,7 @@ use Rattle.options.specs.Word.{unknownBit}
 use Rattle.refusal.specs.Number.{unknownOption, shortTable, longInput, shortBuffer}
 use Rattle.words.specs.Word.{cleared}
 use Rattle.model.specs.Result.{Result, accepted, refused, _>>=_}
-use Rattle.model.specs.Reading.{values}
+use Rattle.model.specs.Reading.{values, allWhole}
 use Rattle.model.specs.Tracing.{trace, Counted}
 use Rattle.model.specs.Emission.{Fields, toSchema, recordsIn, namesIn, columnsIn, countIn}
 
@@ -50,6 +51,13 @@ pub record Answer : Type 0 where
 -- Tracer::from_samples and then Tracer::to_schema: refusals 4 to 17
 unfoldable pub schemaOf : Batch → Result Fields
 schemaOf b = trace (b .options) (values (b .options) (b .commands) (b .text)) >>= λ traced. toSchema (b .options) (length (b .commands)) (traced .what)
+
+-- a batch is well-formed if, read through without tracing, none of refusals 1 and 3 to 6 applies
+pub record WellFormed (b : Batch) : Type 0 where
+  pub known : unknownBit (b .options) ≡ false
+  pub commands : length (b .commands) ≤ inputLimit
+  pub text : length (b .text) ≤ inputLimit
+  pub whole : allWhole (values (b .options) (b .commands) (b .text)) ≡ true
 
 -- a refusal changes neither output buffer
 abbrev pub turnedDown : ℕ → ℕ → Buffers → Answer

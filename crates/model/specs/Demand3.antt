@@ -1,6 +1,6 @@
 -- The words of demand 3: accepted, equal schemas, struct records, a place shown both as struct and as map, records in another order.
 use mathlib.Core.Bool.{Bool, true, false, _&&_, _||_}
-use mathlib.Core.List.{List, [], _∷_, _++_, List·Permᴰ}
+use mathlib.Core.List.{List, [], _∷_, flatten}
 use mathlib.Core.Path.{_≡_}
 use Prim.Native.Nat.{ℕ, _*_, _≤_}
 use lib.Dec.{eqb}
@@ -13,7 +13,7 @@ use Rattle.model.specs.Kinds.{structKind, mapKind, mapModeKind, Step}
 use Rattle.model.specs.Reading.{Value, values, isWhole}
 use Rattle.model.specs.Emission.{Field, mk, Fields, no-fields, more, recordsIn, namesIn, countIn, byName}
 use Rattle.model.specs.Answer.{Batch, Buffers, Answer, answer, recordBytes}
-use Rattle.model.specs.Census.{kindIn, standing, SameCensus}
+use Rattle.model.specs.Census.{kindIn, standing}
 
 -- an options word with allow_to_string and enums_without_data_as_strings off
 pub record Plain (options : ℕ) : Type 0 where
@@ -30,6 +30,9 @@ pub record SameSchema (a b : Answer) : Type 0 where
   pub names : a .name-bytes ≡ b .name-bytes
   pub record-bytes : take (recordBytes * a .field-records) (a .left .fields) ≡ take (recordBytes * b .field-records) (b .left .fields)
   pub name-bytes : take (a .name-bytes) (a .left .names) ≡ take (b .name-bytes) (b .left .names)
+
+abbrev pub batch : ℕ → List ℕ → List ℕ → Batch
+batch options commands text = record { options = options; commands = commands; text = text }
 
 abbrev pub recordsOf : Batch → List Value
 recordsOf b = values (b .options) (b .commands) (b .text)
@@ -59,12 +62,9 @@ NoPlaceBoth b = (steps : List Step) → (shows asStruct (standing steps (records
 abbrev pub IsRecord : ℕ → List ℕ → List ℕ → Type 0
 IsRecord options text commands = (v : Value) × (values options commands text ≡ v ∷ []) × (isWhole v ≡ true)
 
-unfoldable pub joined : List (List ℕ) → List ℕ
-joined [] = []
-joined (r ∷ rs) = r ++ joined rs
-
+-- the batch of these records, one after another
 abbrev pub batchOf : ℕ → List ℕ → List (List ℕ) → Batch
-batchOf options text records = record { options = options; commands = joined records; text = text }
+batchOf options text records = batch options (flatten records) text
 
 -- the buffers no shorter
 pub record NoShorter (lent other : Buffers) : Type 0 where

@@ -5,5 +5,6 @@ pub mod Tracing
 pub mod Emission
 pub mod Answer
 pub mod Census
-pub mod Soundings
 pub mod Demand3
+pub mod Soundings
+pub mod Examples

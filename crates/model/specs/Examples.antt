@@ -1,0 +1,64 @@
+-- Worked examples of the definitions, each computed: what a wrong definition would break.
+use mathlib.Core.Path.{_≡_, refl}
+use mathlib.Core.Bool.{Bool, true, false}
+use mathlib.Core.List.{List, [], _∷_}
+use mathlib.Core.Option.{Option, none, some}
+use Prim.Native.Nat.{ℕ}
+use lib.ListN.{replicate}
+use Rattle.logic.specs.Test.{if_then_else_}
+use Rattle.logic.specs.All.{has}
+use Rattle.datatype.specs.Codes.{uint8}
+use Rattle.refusal.specs.Number.{tooDeep, nullRoot, nullField}
+use Rattle.text.specs.Name.{dot, eqName, ltName, dots}
+use Rattle.text.specs.Utf8 as U
+use Rattle.coerce.specs.Census as Y
+use Rattle.coerce.specs.Joint as J
+use Rattle.commands.specs.Commands as C
+use Rattle.model.specs.Result.{Result, accepted, refused}
+use Rattle.model.specs.Kinds.{Step, field, same}
+use Rattle.model.specs.Reading as R
+use Rattle.model.specs.Tracing as T
+use Rattle.model.specs.Emission as E
+use Rattle.model.specs.Census as S
+use Rattle.model.specs.Answer.{schemaOf}
+
+abbrev pub refusalOf : Result E.Fields → List ℕ
+refusalOf (accepted schema) = 0 ∷ 0 ∷ []
+refusalOf (refused refusal place) = refusal ∷ place ∷ []
+
+-- the refusal of a batch and its place, or 0 and 0
+unfoldable pub outcome : ℕ → List ℕ → List ℕ → List ℕ
+unfolding if_then_else_ eqName dots same schemaOf U.within U.dueIn U.reads U.fits C.formOf C.operands C.made C.nameIn C.badCommand C.badName C.readCommand R.shapeOf R.nextPart R.recordsFrom R.values R.readValue R.readShape R.readParts T.meet T.stepsOf T.has T.kidAt T.put T.clashes T.room T.made T.make T.holds T.tally T.observeAll T.trace T.observe T.observeParts E.insertVariant E.byNumber E.datalessFrom E.typeOf E.strategyOf E.insertField E.byName E.gaps E.arranged E.toSchema E.placeOf E.placesOf E.walk E.walks E.fieldOf E.fieldsOf J.numberJoint J.jointOfNumbers J.jointWithString J.jointOfTimestamps J.jointOfUnequal J.joint
+outcome options commands text = refusalOf (schemaOf (record { options = options; commands = commands; text = text }))
+
+-- a field with a name of so many dots, which holds an empty struct
+abbrev pub deep : ℕ → List ℕ
+deep n = outcome 30 (0x15 ∷ 0x16 ∷ 0 ∷ 0 ∷ n ∷ 0 ∷ 0x15 ∷ 0x17 ∷ 0x17 ∷ []) (replicate n dot)
+
+-- depth is counted by dots, and a name's own dots count: a struct at depth 19 passes, at 20 it is refused at its own command
+pub depth-19 : deep 18 ≡ 0 ∷ 0 ∷ []
+unfolding outcome
+depth-19 = refl
+
+pub depth-20 : deep 19 ≡ tooDeep ∷ 6 ∷ []
+unfolding outcome
+depth-20 = refl
+
+-- the empty batch: refusal 12, and with allow_null_fields 16
+pub empty-batch : outcome 30 [] [] ≡ nullField ∷ 0 ∷ []
+unfolding outcome
+empty-batch = refl
+
+pub empty-null : outcome 31 [] [] ≡ nullRoot ∷ 0 ∷ []
+unfolding outcome
+empty-null = refl
+
+-- what the census says of the field `a`
+unfoldable pub said : List ℕ → Option S.Said
+unfolding has if_then_else_ eqName ltName same U.within U.dueIn U.reads U.fits C.formOf C.operands C.made C.nameIn C.badCommand C.badName C.readCommand R.shapeOf R.nextPart R.recordsFrom R.values R.readValue R.readShape R.readParts T.has T.holds Y.severalSeen Y.typeSeen Y.nonNull Y.fitting S.partsAt S.below S.standing S.anyNull S.samples S.holders S.kindsSeen S.containerSeen S.kindSeen S.fixedSteps S.stepsIn S.sight S.sights S.stepsSeen S.insertStep S.asSet S.census
+said commands = S.census 30 (field (97 ∷ []) ∷ []) false (R.values 30 commands (97 ∷ []))
+
+-- of two records the first has the field and the second has not: null is admitted there, since fewer samples of its struct hold it than exist
+pub lacking-null : said (0x15 ∷ 0x16 ∷ 0 ∷ 0 ∷ 1 ∷ 0 ∷ 0x06 ∷ 0x17 ∷ 0x15 ∷ 0x17 ∷ []) ≡ some (record { null = true; kind = uint8; children = [] })
+unfolding said
+lacking-null = refl
