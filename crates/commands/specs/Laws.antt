@@ -1,15 +1,16 @@
--- What a command that was read is known to be: where it ends, that it can stand where it stood, and that its name is good.
+-- What a command that was read is known to be: where it ends, that it can stand where it stood, that its name is good, and that it is the
+-- one with its byte.
 use Prim.Native.Nat.{ℕ, zero, suc, _+_, _<_, _≤_}
 use native.Mathlib.Nat.{zero-add, le-of-suc-le-suc, not-suc-le-zero}
 use native.Mathlib.Omega.{arith}
 use mathlib.Core.Path.{_≡_, refl, sym, _∙_}
-use mathlib.Core.Bool.{Bool, true, false, not, _&&_, _||_, true≢false}
+use mathlib.Core.Bool.{Bool, true, false, not, _&&_, _||_, true≢false, false≢true}
 use mathlib.Core.List.{List, [], _∷_}
 use mathlib.Core.Option.{Option, none, some}
-use borrow.Author.Tests.{leb-true, leb-false, ltb-false, not-false}
-use lib.Dec.{leb, ltb}
+use borrow.Author.Tests.{leb-true, leb-false, ltb-false, eqb-true, not-false}
+use lib.Dec.{eqb, leb, ltb}
 use lib.ListN.{length, getD, List·getD-map}
-use Rattle.logic.specs.Test.{if_then_else_, both, neither}
+use Rattle.logic.specs.Test.{if_then_else_, cases, both, neither}
 use Rattle.text.specs.declared.Name.{Name}
 use Rattle.text.specs.Name.{inside, bytesOf}
 use Rattle.text.specs.Utf8.{isUtf8}
@@ -17,9 +18,10 @@ use Rattle.refusal.specs.declared.Refusal.{Refusal}
 use Rattle.commands.specs.declared.Command.{Command}
 use Rattle.commands.specs.declared.Command.the-variants as C
 use Rattle.commands.specs.declared.Due.{Due}
+use Rattle.commands.specs.declared.Due.the-variants as D
 use Rattle.commands.specs.declared.Read.{Read}
 use Rattle.commands.specs.declared.Read.the-variants as R
-use Rattle.commands.specs.Commands.{Form, plain, forms, formOf, width, made, nameIn, stands, badCommand, badName, badKey, readCommand}
+use Rattle.commands.specs.Commands.{nameAt, Form, plain, forms, formOf, width, made, nameIn, textByte, fieldByte, endByte, stands, badCommand, badName, badKey, readCommand}
 
 -- the byte of each command
 abbrev pub byteOf : Command → ℕ
@@ -126,6 +128,8 @@ pub record Good (commands text : List ℕ) (at : ℕ) (due : Due) (command : Com
   pub standing : stands due (byteOf command) ≡ true
   pub key : badKey due (byteOf command) ≡ false
   pub name : badName text (nameOf command) ≡ false
+  pub byte : byteOf command ≡ getD commands at 0
+  pub form : command ≡ made (formOf (getD commands at 0)) commands (at + 1)
 
 module _ (commands text : List ℕ) (at : ℕ) (due : Due) where
   good-made :
@@ -145,6 +149,8 @@ module _ (commands text : List ℕ) (at : ℕ) (due : Due) where
         standing = rw (made-byte byte commands (at + 1) small) (not-false _ placed);
         key = rw (made-byte byte commands (at + 1) small) g;
         name = rw made-name f;
+        byte = made-byte byte commands (at + 1) small;
+        form = refl;
       }
 
   pub good : (command : Command) (next : ℕ) → readCommand commands text at due ≡ R.Command command next → Good commands text at due command next
@@ -156,6 +162,22 @@ module _ (commands text : List ℕ) (at : ℕ) (due : Due) where
       let c : made (formOf (getD commands at 0)) commands (at + 1) ≡ command = cc in
       let n : at + width (formOf (getD commands at 0)) ≡ next = cc in
       rw (← c, ← n) (good-made e f g)
+
+-- where no end stands, a field that is due is one (16), and a key under map_as_struct is text (0D), with the name behind the byte
+module _ (commands text : List ℕ) (at : ℕ) (command : Command) (next : ℕ) (no-end : eqb (getD commands at 0) endByte ≡ false) where
+  pub field-due : readCommand commands text at D.FieldOrEnd ≡ R.Command command next → command ≡ C.Field (nameAt commands (at + 1))
+  unfolding made formOf
+  field-due e =
+      let g : Good commands text at D.FieldOrEnd command next = good commands text at D.FieldOrEnd command next e in
+      cases (eqb (getD commands at 0) fieldByte) (λ f. rw (eqb-true (getD commands at 0) fieldByte f) at (g .form))
+      (λ f. absurd (false≢true (rw (g .byte, f, no-end) at (g .standing))))
+
+  pub key-due : readCommand commands text at D.KeyOrEnd ≡ R.Command command next → command ≡ C.Text (nameAt commands (at + 1))
+  unfolding made formOf
+  key-due e =
+      let g : Good commands text at D.KeyOrEnd command next = good commands text at D.KeyOrEnd command next e in
+      cases (eqb (getD commands at 0) textByte) (λ f. rw (eqb-true (getD commands at 0) textByte f) at (g .form))
+      (λ f. absurd (true≢false (rw (g .byte, f, no-end) at (g .key))))
 
 -- the same of an answer that reading gave
 module _ (commands text : List ℕ) (at : ℕ) (due : Due) (answer : Read) (command : Command) (next : ℕ) (e : answer ≡ readCommand commands text at due) (h : answer ≡ R.Command command next) where

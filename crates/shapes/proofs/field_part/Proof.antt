@@ -1,0 +1,36 @@
+-- `field_part` reads a field, or the end.
+use borrow.Author.Needs.{needs}
+use Prim.{tt}
+use mathlib.Core.Path.{refl}
+use Rattle.commands.specs.declared.Command.the-variants as C
+use Rattle.commands.specs.Commands.{fieldByte}
+use Rattle.commands.specs.Laws.{field-due}
+use Rattle.shapes.proofs.Named.{others, name-stands, end-stands}
+use Rattle.shapes.proofs.field_part.Statement.{statement}
+use Rattle.shapes.proofs.field_part.Tie as tie
+
+returns : tie.Need-returns
+returns c = rw (c .place .ensures, c .before .refusal .ensures, ← c .before .before .before .before .read-command .ensures, c .before .before .enum-told .given .1)
+
+returns-2 : tie.Need-returns-2
+unfolding others
+returns-2 c =
+    end-stands _ _ _ _ C.Field (field-due _ _ _ _ _) (c .before .before .before .before .read-command .ensures) (c .before .before .read .given .1) fieldByte (c .match2 .keys2) (λ name. tt)
+
+returns-3 : tie.Need-returns-3
+returns-3 c =
+    name-stands _ _ _ _ C.Field (field-due _ _ _ _ _) (c .before .before .before .before .before .before .read-command .ensures) (c .before .before .before .before .read .given .1) (c .before .command .given .1) refl (λ x y e. cc)
+
+pub field-part-spec : {M : Type 1} → statement M
+field-part-spec =
+    tie.close
+    (tie.spec
+    (λ c κs. search needs)
+    (λ c. search needs)
+    (λ c. search needs)
+    (λ c κs. search needs)
+    (λ c κs. search needs)
+    returns
+    (λ c. search needs)
+    returns-2
+    returns-3)

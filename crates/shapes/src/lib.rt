@@ -1,0 +1,276 @@
+// What a command begins, the steps down from a place, and what stands before a part of a container. Nothing is traced
+// here: these read commands alone.
+ghost use mathlib.Core.Path.{_≡_};
+ghost use Prim.Native.Nat.{_+_, _<_, _≤_};
+ghost use lib.ListN.{length};
+ghost use Rattle.text.specs.declared.Name.{Name};
+ghost use Rattle.text.specs.Name.{bytesOf};
+ghost use Rattle.chrono.specs.Text.{textType};
+ghost use Rattle.commands.specs.declared.Command.the-variants.{Text};
+ghost use Rattle.commands.specs.Commands.{readCommand};
+ghost use Rattle.commands.specs.declared.Due.the-variants.{FieldOrEnd, KeyOrEnd};
+ghost use Rattle.model.specs.Kinds.{mapKind};
+ghost use Rattle.shapes.specs.Steps.{codeOf, nameOf, packedName, unpackedName, Inside};
+ghost use Rattle.shapes.specs.Shapes.{mapKindOf, shapeAt, valuePart, fieldPart, partAt};
+use chrono::text_type;
+use commands::Command;
+use commands::Due;
+use commands::Read;
+use options::TracingOptions;
+use refusal::Refusal;
+use text::Name;
+
+// Kinds: a primitive type's code, or one of these.
+pub const UNKNOWN: u32 = 0;
+
+pub const SEQUENCE: u32 = 22;
+
+pub const STRUCT: u32 = 24;
+
+pub const MAP: u32 = 25;
+
+pub const UNION: u32 = 26;
+
+pub const TUPLE: u32 = 27;
+
+pub const MAP_MODE: u32 = 28;
+
+// A step down from a place.
+pub enum Step {
+    Element,
+    Key,
+    Value,
+    Field(Name),
+    Position(u16),
+    Variant(u16, Name),
+}
+
+pub const FIELD: u32 = 3;
+
+impl Step {
+    // The word that tells steps apart, but for the names of fields.
+    pub fn code(self) -> u32
+        ensures { λ r. ⌜ r ≡ codeOf self ⌝ }
+    {
+        match self {
+            Step::Element => 0,
+            Step::Key => 1,
+            Step::Value => 2,
+            Step::Field(_) => FIELD,
+            Step::Position(i) => 4 + 2 * (i as u32),
+            Step::Variant(number, _) => 5 + 2 * (number as u32),
+        }
+    }
+
+    // The name that goes with it, empty where there is none.
+    pub fn name(self) -> Name
+        ensures { λ r. ⌜ r ≡ nameOf self ⌝ }
+    {
+        match self {
+            Step::Element => Name {
+                offset: 0,
+                length: 0,
+            },
+            Step::Key => Name {
+                offset: 0,
+                length: 0,
+            },
+            Step::Value => Name {
+                offset: 0,
+                length: 0,
+            },
+            Step::Field(name) => name,
+            Step::Position(_) => Name {
+                offset: 0,
+                length: 0,
+            },
+            Step::Variant(_, name) => name,
+        }
+    }
+}
+
+// A name in one word, so that names given by the same part of the text are equal words.
+pub fn packed(name: Name) -> u32
+    ensures { λ r. ⌜ r ≡ packedName name ⌝ }
+{
+    (name.offset as u32) * 65536 + (name.length as u32)
+}
+
+pub fn unpacked(word: u32) -> Name
+    ensures { λ r. ⌜ r ≡ unpackedName word ⌝ }
+{
+    Name {
+        offset: (word / 65536) as u16,
+        length: (word % 65536) as u16,
+    }
+}
+
+// What a variant holds: nothing, a value, the positions of a tuple, the fields of a struct.
+pub enum Contents {
+    Unit,
+    Value,
+    Positions(u16),
+    Fields,
+}
+
+// What a command begins: a primitive and whether it is null, the parts of a container, a variant. 10 and 11 are passed
+// before, and 16 and 17 begin no value.
+pub enum Shape {
+    Leaf(bool, u32),
+    Parts(u32, u16),
+    Variant(u16, Name, Contents),
+    NoValue,
+}
+
+// What stands before a part of a container: its end and the offset behind it, the step to the part and the offset of its
+// value, or a refusal and its place.
+pub enum Part {
+    Ended(usize),
+    Step(Step, usize),
+    Refused(Refusal, usize),
+}
+
+const END: u8 = 0x17;
+
+// The kind of a map.
+fn map_kind(options: TracingOptions) -> u32
+    ensures { λ r. ⌜ r ≡ mapKindOf (options .word) ⌝ }
+{
+    if options.map_as_struct() {
+        MAP_MODE
+    } else {
+        MAP
+    }
+}
+
+// The type that a text observes.
+fn text_kind(name: Name, text: &[u8], options: TracingOptions) -> u32
+    requires { ⌜ Inside (now text) name ⌝ }
+    ensures { λ r. ⌜ r ≡ textType (options .word) (bytesOf (now (text .entry)) name) ⌝ }
+{
+    text_type(name.bytes(text), options).code() as u32
+}
+
+// What a command begins.
+pub fn shape_of(command: Command, text: &[u8], options: TracingOptions) -> Shape
+    requires { ⌜ ((name : Name) → command ≡ Text name → Inside (now text) name) ⌝ }
+    ensures { λ r. ⌜ r ≡ shapeAt (options .word) (now (text .entry)) command ⌝ }
+{
+    match command {
+        Command::Unit => Shape::Leaf(true, 0),
+        Command::Bool => Shape::Leaf(false, 1),
+        Command::I8 => Shape::Leaf(false, 2),
+        Command::I16 => Shape::Leaf(false, 3),
+        Command::I32 => Shape::Leaf(false, 4),
+        Command::I64 => Shape::Leaf(false, 5),
+        Command::U8 => Shape::Leaf(false, 6),
+        Command::U16 => Shape::Leaf(false, 7),
+        Command::U32 => Shape::Leaf(false, 8),
+        Command::U64 => Shape::Leaf(false, 9),
+        Command::F32 => Shape::Leaf(false, 10),
+        Command::F64 => Shape::Leaf(false, 11),
+        Command::Char => Shape::Leaf(false, 8),
+        Command::Text(name) => Shape::Leaf(false, text_kind(name, text, options)),
+        Command::Bytes => Shape::Leaf(false, options.binary_type().code() as u32),
+        Command::None => Shape::Leaf(true, 0),
+        Command::Some => Shape::NoValue,
+        Command::NewtypeStruct => Shape::NoValue,
+        Command::Sequence => Shape::Parts(SEQUENCE, 0),
+        Command::Tuple(n) => Shape::Parts(TUPLE, n),
+        Command::Map => Shape::Parts(map_kind(options), 0),
+        Command::Struct => Shape::Parts(STRUCT, 0),
+        Command::Field(_) => Shape::NoValue,
+        Command::End => Shape::NoValue,
+        Command::UnitVariant(number, name) => Shape::Variant(number, name, Contents::Unit),
+        Command::NewtypeVariant(number, name) => Shape::Variant(number, name, Contents::Value),
+        Command::TupleVariant(number, name, n) => Shape::Variant(
+            number,
+            name,
+            Contents::Positions(n),
+        ),
+        Command::StructVariant(number, name) => Shape::Variant(number, name, Contents::Fields),
+    }
+}
+
+// A part that is a value, or the end where it is due.
+fn value_part(commands: &[u8], text: &[u8], step: Step, due: Due, at: usize) -> Part
+    ensures { λ r. ⌜ r ≡ valuePart (now (commands .entry)) step at (readCommand (now (commands .entry)) (now (text .entry)) at due) ⌝ }
+{
+    let read = commands::read_command(commands, text, at, due);
+    let Read::Command(_, next) = read else {
+        return Part::Refused(read.refusal(), read.place());
+    };
+    if commands[at] == END {
+        Part::Ended(next)
+    } else {
+        Part::Step(step, at)
+    }
+}
+
+// A field (16), or the end.
+fn field_part(commands: &[u8], text: &[u8], at: usize) -> Part
+    ensures { λ r. ⌜ r ≡ fieldPart (now (commands .entry)) at (readCommand (now (commands .entry)) (now (text .entry)) at FieldOrEnd) ⌝ }
+{
+    let read = commands::read_command(commands, text, at, Due::FieldOrEnd);
+    let Read::Command(command, next) = read else {
+        return Part::Refused(read.refusal(), read.place());
+    };
+    let Command::Field(name) = command else {
+        return Part::Ended(next);
+    };
+    Part::Step(Step::Field(name), next)
+}
+
+// A key that is text (0D), or the end.
+fn key_part(commands: &[u8], text: &[u8], at: usize) -> Part
+    ensures { λ r. ⌜ r ≡ fieldPart (now (commands .entry)) at (readCommand (now (commands .entry)) (now (text .entry)) at KeyOrEnd) ⌝ }
+{
+    let read = commands::read_command(commands, text, at, Due::KeyOrEnd);
+    let Read::Command(command, next) = read else {
+        return Part::Refused(read.refusal(), read.place());
+    };
+    let Command::Text(name) = command else {
+        return Part::Ended(next);
+    };
+    Part::Step(Step::Field(name), next)
+}
+
+// A key or a value of a map, by turns.
+fn entry_part(commands: &[u8], text: &[u8], i: usize, at: usize) -> Part
+    ensures { λ r. ⌜ r ≡ partAt (now (commands .entry)) (now (text .entry)) mapKind 0 i at ⌝ }
+{
+    if i % 2 == 0 {
+        value_part(commands, text, Step::Key, Due::ValueOrEnd, at)
+    } else {
+        value_part(commands, text, Step::Value, Due::Value, at)
+    }
+}
+
+// What stands before part i of a container of that kind, with so many positions.
+pub fn next_part(
+    commands: &[u8],
+    text: &[u8],
+    kind: u32,
+    positions: u16,
+    i: usize,
+    at: usize,
+) -> Part
+    ensures { λ r. ⌜ r ≡ partAt (now (commands .entry)) (now (text .entry)) kind positions i at ⌝ }
+{
+    if kind == SEQUENCE {
+        return value_part(commands, text, Step::Element, Due::ValueOrEnd, at);
+    }
+    if kind == STRUCT {
+        return field_part(commands, text, at);
+    }
+    if kind == MAP_MODE {
+        return key_part(commands, text, at);
+    }
+    if kind == MAP {
+        return entry_part(commands, text, i, at);
+    }
+    if i < positions as usize {
+        return value_part(commands, text, Step::Position(i as u16), Due::Value, at);
+    }
+    Part::Ended(at)
+}
