@@ -5,3 +5,5 @@ pub mod Flag
 pub mod Table
 pub mod Maybe
 pub mod All
+pub mod Turns
+pub mod Within

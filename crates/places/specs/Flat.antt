@@ -1,0 +1,145 @@
+-- What each function does to the words of the table.
+use mathlib.Core.Path.{_≡_}
+use mathlib.Core.Bool.{Bool, true, false, not, _&&_, _||_}
+use mathlib.Core.List.{List, [], _∷_}
+use mathlib.Core.Option.{Option, none, some}
+use Prim.Native.Nat.{ℕ, zero, suc, _+_, _%_, _^_, _<_}
+use lib.Dec.{eqb, leb, ltb}
+use Rattle.logic.specs.Test.{if_then_else_}
+use Rattle.logic.specs.Turns.{Turn, again, done, turns}
+use Rattle.refusal.specs.declared.Refusal.{Refusal}
+use Rattle.refusal.specs.declared.Refusal.the-variants as F
+use Rattle.text.specs.declared.Name.{Name}
+use Rattle.text.specs.Name.{bytesOf, eqName}
+use Rattle.words.specs.Word.{word, withWord}
+use Rattle.coerce.specs.Joint.{joint}
+use Rattle.model.specs.Kinds.{sequenceKind, mapKind, tupleKind, isContainer, isStruct}
+use Rattle.model.specs.Tracing.{sameContainer, placeLimit}
+use Rattle.datatype.specs.Codes.{null}
+use Rattle.shapes.specs.declared.Step.{Step}
+use Rattle.shapes.specs.declared.Step.the-variants as S
+use Rattle.shapes.specs.Steps.{fieldCode, codeOf, nameOf, packedName, unpackedName}
+use Rattle.places.specs.declared.Met.{Met}
+use Rattle.places.specs.declared.Met.the-variants as M
+use Rattle.places.specs.declared.Ensured.{Ensured}
+use Rattle.places.specs.declared.Ensured.the-variants as E
+use Rattle.places.specs.declared.Made.{Made}
+use Rattle.places.specs.declared.Made.the-variants as D
+use Rattle.places.specs.Layout.{kindWord, nullWord, samplesWord, firstWord, lastWord, nextWord, parentWord, stepWord, nameWord, heldWord, markWord, Sound}
+
+-- ---- kinds that meet, with so many levels left
+abbrev pub ofJoint : Option ℕ → Met
+ofJoint none = M.Refused F.NoJoint
+ofJoint (some kind) = M.Kind kind
+
+unfoldable pub meeting : ℕ → ℕ → ℕ → ℕ → Met
+meeting options levels kind other =
+    if isContainer other && eqb levels 0 then M.Refused F.TooDeep
+    else if not (isContainer kind || isContainer other) then ofJoint (joint options kind other)
+    else if eqb other null then M.Kind kind
+    else if eqb kind null then M.Kind other
+    else if sameContainer kind other then M.Kind kind
+    else M.Refused F.Mismatch
+
+-- ---- the child at a step, in first-seen order; 0 for none
+unfoldable pub isAt : List ℕ → ℕ → Name → ℕ → List ℕ → Bool
+isAt text code name child t =
+    if eqb (word t child stepWord) code
+    then (if eqb code fieldCode then eqName (bytesOf text (unpackedName (word t child nameWord))) (bytesOf text name) else true)
+    else false
+
+unfoldable pub findTurn : List ℕ → ℕ → Name → List ℕ → ℕ → Turn ℕ ℕ
+findTurn text code name t child =
+    if eqb child 0 then done 0
+    else if isAt text code name child t then done child
+    else again (word t child nextWord)
+
+-- from a child on
+unfoldable pub findFrom : List ℕ → ℕ → Name → List ℕ → ℕ → ℕ
+findFrom text code name t child = turns (findTurn text code name t) (λ c. 0) 1025 child
+
+abbrev pub findIn : List ℕ → ℕ → ℕ → Name → List ℕ → ℕ
+findIn text place code name t = findFrom text code name t (word t place firstWord)
+
+-- ---- a new last child: linked from the place where it is the first, else from the last before it
+unfoldable pub linked : ℕ → ℕ → List ℕ → List ℕ
+linked place child t = if eqb (word t place firstWord) 0 then withWord t place firstWord child else withWord t (word t place lastWord) nextWord child
+
+-- its words that tell where it stands
+unfoldable pub described : ℕ → ℕ → Name → ℕ → List ℕ → List ℕ
+described place code name child t = withWord (withWord (withWord t child parentWord place) child stepWord code) child nameWord (packedName name)
+
+unfoldable pub appended : ℕ → ℕ → Name → ℕ → List ℕ → List ℕ
+appended place code name child t = described place code name child (withWord (linked place child t) place lastWord child)
+
+-- ---- the child at a step, found or made: refusals 9 and 11
+pub data Ensuring : Type 0 where
+  ensuring : Ensured → List ℕ → Ensuring
+
+unfoldable pub confirmed : List ℕ → Name → ℕ → ℕ → List ℕ → Ensured
+confirmed text name child n t =
+    if eqName (bytesOf text (unpackedName (word t child nameWord))) (bytesOf text name) then E.Child child n else E.Refused F.TwoNames
+
+unfoldable pub ensuredBy : List ℕ → ℕ → ℕ → Name → ℕ → List ℕ → ℕ → Ensuring
+ensuredBy text place code name n t child =
+    if not (eqb child 0) then ensuring (confirmed text name child n t) t
+    else if leb placeLimit n then ensuring (E.Refused F.TooManyPlaces) t
+    else ensuring (E.Child n (n + 1)) (appended place code name n t)
+
+unfoldable pub ensured : List ℕ → ℕ → Step → ℕ → List ℕ → Ensuring
+ensured text place step n t = ensuredBy text place (codeOf step) (nameOf step) n t (findIn text place (codeOf step) (nameOf step) t)
+
+-- ---- counts of samples wrap at 32 bits, which no batch reaches
+abbrev pub onward : ℕ → ℕ
+onward count = (count + 1) % 2 ^ 32
+
+-- a child counted once among those that the place's present sample holds
+unfoldable pub touched : ℕ → ℕ → List ℕ → List ℕ
+touched place child t =
+    if eqb (word t child markWord) (word t place samplesWord) then t
+    else withWord (withWord t child heldWord (onward (word t child heldWord))) child markWord (word t place samplesWord)
+
+unfoldable pub sampled : ℕ → ℕ → List ℕ → List ℕ
+sampled place kind t = withWord (withWord t place kindWord kind) place samplesWord (onward (word t place samplesWord))
+
+-- ---- the children that a container makes at its own command
+pub data Making : Type 0 where
+  making : Made → List ℕ → Making
+
+abbrev pub ofEnsuring : Ensuring → Making
+ofEnsuring (ensuring (E.Child child n) t) = making (D.Places n) t
+ofEnsuring (ensuring (E.Refused refusal) t) = making (D.Refused refusal) t
+
+unfoldable pub madeOne : List ℕ → ℕ → Step → ℕ → List ℕ → Making
+madeOne text place step n t = ofEnsuring (ensured text place step n t)
+
+abbrev pub thenMade : Making → (ℕ → List ℕ → Making) → Making
+thenMade (making (D.Places n) t) more = more n t
+thenMade (making (D.Refused refusal) t) more = making (D.Refused refusal) t
+
+unfoldable pub madeAll : List ℕ → ℕ → List Step → ℕ → List ℕ → Making
+madeAll text place [] n t = making (D.Places n) t
+madeAll text place (s ∷ ss) n t = thenMade (madeOne text place s n t) (madeAll text place ss)
+
+abbrev pub positionsFrom : ℕ → ℕ → List Step
+positionsFrom i zero = []
+positionsFrom i (suc n) = S.Position i ∷ positionsFrom (suc i) n
+
+unfoldable pub stepsMade : ℕ → ℕ → ℕ → List Step
+stepsMade kind positions before =
+    if eqb kind sequenceKind then S.Element ∷ []
+    else if eqb kind mapKind then S.Key ∷ S.Value ∷ []
+    else if eqb kind tupleKind && eqb before null then positionsFrom 0 positions
+    else []
+
+abbrev pub made : List ℕ → ℕ → ℕ → ℕ → ℕ → ℕ → List ℕ → Making
+made text place kind positions before n t = madeAll text place (stepsMade kind positions before) n t
+
+-- ---- what is true of the table afterwards
+abbrev pub SoundEnsured : List ℕ → List ℕ → Ensured → Type 0
+SoundEnsured text t (E.Child child n) = Sound text t n × (child < n)
+SoundEnsured text t (E.Refused refusal) = Unit {0}
+
+abbrev pub SoundMade : List ℕ → List ℕ → Made → Type 0
+SoundMade text t (D.Places n) = Sound text t n
+SoundMade text t (D.Refused refusal) = Unit {0}

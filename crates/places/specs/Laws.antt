@@ -1,0 +1,306 @@
+-- Laws of the table of places: what stores keep, a new child, the search for a child, and a cleared table.
+use mathlib.Core.Path.{_≡_, refl, sym, ap, subst, _∙_}
+use mathlib.Core.Bool.{Bool, true, false, not, _&&_, _||_, false≢true}
+use mathlib.Core.List.{List, [], _∷_}
+use Prim.Native.Nat.{ℕ, zero, suc, _+_, _*_, _-_, _%_, _/_, _<_, _≤_}
+use native.Mathlib.Nat.{le-refl}
+use native.Mathlib.Numerals.{add-one}
+use native.Mathlib.Omega.{arith}
+use borrow.Author.Tests.{eq-eqb, ne-eqb, eqb-true, eqb-false, ltb-true}
+use lib.Dec.{eqb, ltb, leb}
+use lib.ListN.{length, getD, set, length-set, length-append, length-replicate, length-drop, getD-replicate, replicate, drop, List·getD-append}
+use Rattle.logic.specs.Test.{if_then_else_, cases, both}
+use Rattle.logic.specs.Flag.{if-either}
+use Rattle.logic.specs.Turns.{Turn, again, done, turns, Says, holds}
+use Rattle.logic.specs.Within.{Keeps, goes-on-within, ends-at}
+use Rattle.text.specs.declared.Name.{Name}
+use Rattle.words.specs.Word.{word, withWord, cleared}
+use Rattle.refusal.specs.declared.Refusal.{Refusal}
+use Rattle.text.specs.Name.{bytesOf, eqName}
+use Rattle.model.specs.Tracing.{placeLimit}
+use Rattle.shapes.specs.declared.Step.{Step}
+use Rattle.shapes.specs.declared.Step.the-variants as S
+use Rattle.shapes.specs.Steps.{codeOf, nameOf, packedName, unpackedName, Inside}
+use Rattle.places.specs.declared.Ensured.{Ensured}
+use Rattle.places.specs.declared.Ensured.the-variants as E
+use Rattle.places.specs.declared.Made.{Made}
+use Rattle.places.specs.declared.Made.the-variants as D
+use Rattle.places.specs.Layout.{kindWord, nullWord, samplesWord, firstWord, lastWord, nextWord, parentWord, stepWord, nameWord, heldWord, markWord, Sound, Ready}
+use Rattle.places.specs.Flat.{isAt, findTurn, findFrom, findIn, linked, described, appended, Ensuring, ensuring, confirmed, ensuredBy, ensured, onward, touched, sampled, Making, making, ofEnsuring, madeOne, thenMade, madeAll, positionsFrom, SoundMade}
+
+-- ---- words after a store
+set-keeps : (P : ℕ → Type 0) (l : List ℕ) (i j v : ℕ) → (j ≡ i → P v) → P (getD l j 0) → P (getD (set l i v) j 0)
+set-keeps P [] i j v h g = g
+set-keeps P (x ∷ xs) zero zero v h g = h refl
+set-keeps P (x ∷ xs) zero (suc j) v h g = g
+set-keeps P (x ∷ xs) (suc i) zero v h g = g
+set-keeps P (x ∷ xs) (suc i) (suc j) v h g = set-keeps P xs i j v (λ e. h (ap suc e)) g
+
+-- what is true of a word before a store, and of what is stored if it is stored there, is true of the word afterwards
+pub word-keeps : (P : ℕ → Type 0) (t : List ℕ) (p w v q f : ℕ) → w < 16 → f < 16 → (q ≡ p → w ≡ f → P v) → P (word t q f) → P (word (withWord t p w v) q f)
+word-keeps P t p w v q f b d h g = set-keeps P t (p * 16 + w) (q * 16 + f) v (λ e. h (omega arith) (omega arith)) g
+
+-- ---- the table stays sound
+
+-- what is stored must be a place if it is a link, a higher one if it is the next child, a name that ends inside the text if it is a name;
+-- there may be more places than before
+pub sound-stored : (text t : List ℕ) (n m p w v : ℕ) → Sound text t n → n ≤ m → m ≤ 1024 → w < 16 →
+    (w ≡ firstWord → v < m) → (w ≡ lastWord → v < m) → (w ≡ nextWord → (v < m) × (p < v)) → (w ≡ nameWord → Inside text (unpackedName v)) →
+    Sound text (withWord t p w v) m
+sound-stored text t n m p w v s l k b f a x i =
+    record {
+      most = k;
+      room = rw length-set (s .room);
+      first = λ q h. word-keeps (λ u. u < m) t p w v q firstWord b (omega arith) (λ e. f) (let g : word t q firstWord < n = s .first q h in omega arith);
+      last = λ q h. word-keeps (λ u. u < m) t p w v q lastWord b (omega arith) (λ e. a) (let g : word t q lastWord < n = s .last q h in omega arith);
+      next = λ q h. word-keeps (λ u. u < m) t p w v q nextWord b (omega arith) (λ e d. x d .0) (let g : word t q nextWord < n = s .next q h in omega arith);
+      rises = λ q h. word-keeps (λ u. (u ≡ 0 → ⊥) → q < u) t p w v q nextWord b (omega arith) (λ e d z. rw e (x d .1)) (s .rises q h);
+      names = λ q h. word-keeps (λ u. Inside text (unpackedName u)) t p w v q nameWord b (omega arith) (λ e. i) (s .names q h);
+    }
+
+-- a word that is no link and no name
+abbrev pub isPlain : ℕ → Bool
+isPlain w = ltb w 16 && not (eqb w firstWord || eqb w lastWord || eqb w nextWord || eqb w nameWord)
+
+-- a store there keeps all
+pub sound-plain : (text t : List ℕ) (n p w v : ℕ) → isPlain w ≡ true → Sound text t n → Sound text (withWord t p w v) n
+sound-plain text t n p w v e s =
+    both (ltb w 16) _ e λ b d.
+    sound-stored text t n n p w v s (le-refl n) (s .most) (ltb-true w 16 b)
+    (λ z. absurd (false≢true (rw z at d))) (λ z. absurd (false≢true (rw z at d))) (λ z. absurd (false≢true (rw z at d))) (λ z. absurd (false≢true (rw z at d)))
+
+-- the same of the table that a call leaves
+pub sound-with : (text t u : List ℕ) (n p w v : ℕ) → u ≡ withWord t p w v → isPlain w ≡ true → Sound text t n → Sound text u n
+sound-with text t u n p w v e b s = rw e (sound-plain text t n p w v b s)
+
+pub sound-sampled : (text t u : List ℕ) (n place kind : ℕ) → u ≡ sampled place kind t → Sound text t n → Sound text u n
+unfolding sampled
+sound-sampled text t u n place kind e s = rw e (sound-plain text _ n place samplesWord _ refl (sound-plain text t n place kindWord kind refl s))
+
+pub sound-touched : (text t u : List ℕ) (n place child : ℕ) → u ≡ touched place child t → Sound text t n → Sound text u n
+unfolding touched
+sound-touched text t u n place child e s =
+    rw e (if-either (λ x. Sound text x n) (eqb (word t child markWord) (word t place samplesWord)) s
+    (sound-plain text _ n child markWord _ refl (sound-plain text t n child heldWord _ refl s)))
+
+-- ---- a new last child
+packed-inside : (text : List ℕ) (name : Name) → Inside text name → name .length < 65536 → Inside text (unpackedName (packedName name))
+packed-inside text name i h =
+    let o : packedName name / 65536 ≡ name .offset = omega arith in
+    let l : packedName name % 65536 ≡ name .length = omega arith in
+    omega arith
+
+module _ (text t : List ℕ) (n place : ℕ) (ready : Ready text t n place) (room : n < 1024) where
+  sound-linked : Sound text (linked place n t) (n + 1)
+  unfolding linked
+  sound-linked =
+      let s : Sound text t n = ready .sound in
+      let b : place < n = ready .here in
+      let l : word t place lastWord < n = s .last place (omega arith) in
+      if-either (λ x. Sound text x (n + 1)) (eqb (word t place firstWord) 0)
+      (sound-stored text t n (n + 1) place firstWord n s (omega arith) (omega arith) (omega arith) (λ z. omega arith) (λ z. absurd (omega arith)) (λ z. absurd (omega arith)) (λ z. absurd (omega arith)))
+      (sound-stored text t n (n + 1) (word t place lastWord) nextWord n s (omega arith) (omega arith) (omega arith) (λ z. absurd (omega arith)) (λ z. absurd (omega arith)) (λ z. (omega arith, l)) (λ z. absurd (omega arith)))
+
+  sound-last : Sound text (withWord (linked place n t) place lastWord n) (n + 1)
+  sound-last =
+      sound-stored text _ (n + 1) (n + 1) place lastWord n sound-linked (le-refl (n + 1)) (omega arith) (omega arith) (λ z. absurd (omega arith)) (λ z. omega arith) (λ z. absurd (omega arith)) (λ z. absurd (omega arith))
+
+  pub sound-appended : (u : List ℕ) (code : ℕ) (name : Name) → u ≡ appended place code name n t → Inside text name → name .length < 65536 → Sound text u (n + 1)
+  unfolding described appended
+  sound-appended u code name e i h =
+      let s = sound-plain text _ (n + 1) n stepWord code refl (sound-plain text _ (n + 1) n parentWord place refl sound-last) in
+      rw e (sound-stored text _ (n + 1) (n + 1) n nameWord (packedName name) s (le-refl (n + 1)) (omega arith) (omega arith) (λ z. absurd (omega arith)) (λ z. absurd (omega arith)) (λ z. absurd (omega arith)) (λ z. packed-inside text name i h))
+
+-- ---- lengths
+length-either : (test : Bool) (x y : List ℕ) (n : ℕ) → length x ≡ n → length y ≡ n → length (if test then x else y) ≡ n
+length-either test x y n e d = if-either (λ z. length z ≡ n) test e d
+
+pub length-appended : (place code n : ℕ) (name : Name) (t : List ℕ) → length (appended place code name n t) ≡ length t
+unfolding appended described linked
+length-appended place code n name t =
+    simp length-set (length-either (eqb (word t place firstWord) 0) (withWord t place firstWord n) (withWord t (word t place lastWord) nextWord n) (length t) (simp length-set) (simp length-set))
+
+pub length-sampled : (place kind : ℕ) (t : List ℕ) → length (sampled place kind t) ≡ length t
+unfolding sampled
+length-sampled place kind t = simp length-set
+
+pub length-touched : (place child : ℕ) (t : List ℕ) → length (touched place child t) ≡ length t
+unfolding touched
+length-touched place child t = length-either _ t (withWord (withWord t child heldWord (onward (word t child heldWord))) child markWord (word t place samplesWord)) (length t) refl (simp length-set)
+
+-- ---- a cleared table is that of the root alone
+word-cleared : (t : List ℕ) (p w : ℕ) → p < 1024 → w < 16 → 16384 ≤ length t → word (cleared t 16384) p w ≡ 0
+unfolding cleared
+word-cleared t p w h b r =
+    let zeros : List ℕ = replicate 16384 0 in
+    let i : p * 16 + w < length zeros = rw length-replicate (omega arith) in
+    List·getD-append zeros (drop 16384 t) 0 (p * 16 + w) i ∙ getD-replicate 16384 (p * 16 + w) 0 0 (omega arith)
+
+pub sound-cleared : (text t : List ℕ) → 16384 ≤ length t → Sound text (cleared t 16384) 1
+unfolding cleared
+sound-cleared text t r =
+    record {
+      most = omega arith;
+      room = simp (length-append, length-replicate, length-drop) (omega arith);
+      first = λ p h. rw (word-cleared t p firstWord h (omega arith) r) (omega arith);
+      last = λ p h. rw (word-cleared t p lastWord h (omega arith) r) (omega arith);
+      next = λ p h. rw (word-cleared t p nextWord h (omega arith) r) (omega arith);
+      rises = λ p h z. absurd (z (word-cleared t p nextWord h (omega arith) r));
+      names = λ p h. rw (word-cleared t p nameWord h (omega arith) r) (omega arith);
+    }
+
+-- ---- links and names of a place
+module _ (text t : List ℕ) (n p x : ℕ) (s : Sound text t n) (h : p < n) where
+  pub first-below : x ≡ word t p firstWord → x < n
+  first-below e = let m : n ≤ 1024 = s .most in rw e (s .first p (omega arith))
+
+  pub last-below : x ≡ word t p lastWord → x < n
+  last-below e = let m : n ≤ 1024 = s .most in rw e (s .last p (omega arith))
+
+  pub next-below : x ≡ word t p nextWord → x < n
+  next-below e = let m : n ≤ 1024 = s .most in rw e (s .next p (omega arith))
+
+pub name-ends : (text t : List ℕ) (n p : ℕ) → Sound text t n → p < n → Inside text (unpackedName (word t p nameWord))
+name-ends text t n p s h = let m : n ≤ 1024 = s .most in s .names p (omega arith)
+
+-- ---- the search for a child
+-- how many children may still follow: numbers rise, and 0 is none
+abbrev pub childrenLeft : ℕ → ℕ
+childrenLeft child = (1025 - child) % 1025
+
+pub left-falls : (text t : List ℕ) (n child x : ℕ) → Sound text t n → child < n → (child ≡ 0 → ⊥) → x ≡ word t child nextWord → childrenLeft x < childrenLeft child
+left-falls text t n child x s h z e =
+    let m : n ≤ 1024 = s .most in
+    let b : x < n = next-below text t n child x s h e in
+    cases (eqb x 0)
+    (λ d. let o : x ≡ 0 = eqb-true x 0 d in omega arith)
+    (λ d. let o : (x ≡ 0 → ⊥) = eqb-false x 0 d in let l : child < x = rw e (s .rises child (omega arith) (rw e at o)) in omega arith)
+
+module _ (text t : List ℕ) (n code : ℕ) (name : Name) (s : Sound text t n) where
+  find-keeps : (child : ℕ) → child < n → Keeps (λ c. c < n) childrenLeft (childrenLeft child) (findTurn text code name t child)
+  unfolding findTurn if_then_else_
+  find-keeps child h =
+      cases (eqb child 0)
+      (λ e. rw e tt)
+      (λ e. cases (isAt text code name child t)
+      (λ f. rw (e, f) tt)
+      (λ f. rw (e, f) (next-below text t n child _ s h refl, left-falls text t n child _ s h (eqb-false child 0 e) refl)))
+
+  pub find-first : (place child : ℕ) → child ≡ word t place firstWord → findFrom text code name t child ≡ findIn text place code name t
+  find-first place child e = ap (findFrom text code name t) e
+
+  -- a child found is a place
+  pub find-below : (child : ℕ) → child < n → findFrom text code name t child < n
+  unfolding findFrom findTurn if_then_else_
+  find-below child h = holds (findTurn text code name t) (λ c. 0) (λ c. c < n) (λ c. c < n) kept (λ c l. omega arith) 1025 child h
+    where
+      kept : (c : ℕ) → c < n → Says (λ x. x < n) (λ x. x < n) (findTurn text code name t c)
+      kept c l =
+          cases (eqb c 0)
+          (λ e. rw e (omega arith))
+          (λ e. cases (isAt text code name c t)
+          (λ f. rw (e, f) l)
+          (λ f. rw (e, f) (next-below text t n c _ s l refl)))
+
+  module _ (child r : ℕ) (whole : findFrom text code name t child ≡ r) where
+    pub find-none : child ≡ 0 → 0 ≡ r
+    unfolding findFrom findTurn if_then_else_
+    find-none z = sym (ends-at (findTurn text code name t) (λ c. 0) 1025 child 0 (omega arith) (rw z)) ∙ whole
+
+    module _ (at : Bool) (known : child ≡ 0 → ⊥) (is-at : at ≡ isAt text code name child t) where
+      pub find-found : at ≡ true → child ≡ r
+      unfolding findFrom findTurn if_then_else_
+      find-found e = sym (ends-at (findTurn text code name t) (λ c. 0) 1025 child child (omega arith) (rw (ne-eqb child 0 known, ← is-at, e))) ∙ whole
+
+      pub find-next : (x : ℕ) → child < n → at ≡ false → x ≡ word t child nextWord → findFrom text code name t x ≡ r
+      unfolding findFrom findTurn if_then_else_
+      find-next x h e d =
+          rw d (sym (goes-on-within (findTurn text code name t) (λ c. 0) (λ c. c < n) childrenLeft find-keeps 1025 child (word t child nextWord) h (let m : n ≤ 1024 = s .most in omega arith) (rw (ne-eqb child 0 known, ← is-at, e))) ∙ whole)
+
+-- ---- a child that is ensured, and children that are made
+
+-- what is said of a child and the count of places, where there is one
+abbrev pub OnChild : (ℕ → ℕ → Type 0) → Ensuring → Type 0
+OnChild P (ensuring (E.Child child m) u) = P child m
+OnChild P (ensuring (E.Refused refusal) u) = Unit {0}
+
+abbrev pub OnPlaces : (ℕ → Type 0) → Making → Type 0
+OnPlaces P (making (D.Places m) u) = P m
+OnPlaces P (making (D.Refused refusal) u) = Unit {0}
+
+module _ (text t : List ℕ) (n place : ℕ) (step : Step) where
+  -- there are never fewer places than before
+  ensured-more : OnChild (λ child m. n ≤ m) (ensured text place step n t)
+  unfolding ensured ensuredBy confirmed
+  ensured-more =
+      let child : ℕ = findIn text place (codeOf step) (nameOf step) t in
+      if-either (OnChild (λ child m. n ≤ m)) (not (eqb child 0))
+      (if-either (λ r. OnChild (λ child m. n ≤ m) (ensuring r t)) (eqName (bytesOf text (unpackedName (word t child nameWord))) (bytesOf text (nameOf step))) (le-refl n) tt)
+      (if-either (OnChild (λ child m. n ≤ m)) (leb placeLimit n) tt (omega arith))
+
+  pub ensured-grows : (r : Ensured) (u : List ℕ) (child m : ℕ) → ensuring r u ≡ ensured text place step n t → r ≡ E.Child child m → n ≤ m
+  ensured-grows r u child m e p = rw (← e, p) at ensured-more
+
+  -- a child is none of place 0
+  ensured-child : Ready text t n place → OnChild (λ child m. 0 < child) (ensured text place step n t)
+  unfolding ensured ensuredBy confirmed if_then_else_
+  ensured-child ready =
+      let child : ℕ = findIn text place (codeOf step) (nameOf step) t in
+      let h : place < n = ready .here in
+      cases (eqb child 0)
+      (λ e. rw e (if-either (OnChild (λ child m. 0 < child)) (leb placeLimit n) tt (omega arith)))
+      (λ e. rw e (if-either (λ r. OnChild (λ child m. 0 < child) (ensuring r t)) (eqName (bytesOf text (unpackedName (word t child nameWord))) (bytesOf text (nameOf step))) (let z : (child ≡ 0 → ⊥) = eqb-false child 0 e in omega arith) tt))
+
+  pub ensured-above : (r : Ensured) (u : List ℕ) (child m : ℕ) → Ready text t n place → ensuring r u ≡ ensured text place step n t → r ≡ E.Child child m → 0 < child
+  ensured-above r u child m ready e p = rw (← e, p) at (ensured-child ready)
+
+made-more : (text : List ℕ) (place : ℕ) (steps : List Step) (n : ℕ) (t : List ℕ) → OnPlaces (λ m. n ≤ m) (madeAll text place steps n t)
+unfolding madeAll madeOne
+made-more text place [] n t = le-refl n
+made-more text place (s ∷ ss) n t = go (λ k u. made-more text place ss k u) (ensured text place s n t) (ensured-more text t n place s)
+  where
+    go : ((k : ℕ) (u : List ℕ) → OnPlaces (λ m. k ≤ m) (madeAll text place ss k u)) → (x : Ensuring) → OnChild (λ child m. n ≤ m) x → OnPlaces (λ m. n ≤ m) (thenMade (ofEnsuring x) (madeAll text place ss))
+    go ih (ensuring (E.Child child k) u) h = up (madeAll text place ss k u) (ih k u)
+      where
+        up : (y : Making) → OnPlaces (λ m. k ≤ m) y → OnPlaces (λ m. n ≤ m) y
+        up (making (D.Places m) v) l = omega arith
+        up (making (D.Refused refusal) v) l = tt
+    go ih (ensuring (E.Refused refusal) u) h = tt
+
+pub made-grows : (text t u : List ℕ) (n m place : ℕ) (steps : List Step) (r : Made) → making r u ≡ madeAll text place steps n t → r ≡ D.Places m → n ≤ m
+made-grows text t u n m place steps r e p = rw (← e, p) at (made-more text place steps n t)
+
+-- the place that children were made for is still one
+pub made-ready : (text t u : List ℕ) (n m place : ℕ) (steps : List Step) (r : Made) → Ready text t n place → making r u ≡ madeAll text place steps n t → SoundMade text u r → r ≡ D.Places m → Ready text u m place
+made-ready text t u n m place steps r ready e s p =
+    let h : place < n = ready .here in
+    let l : n ≤ m = made-grows text t u n m place steps r e p in
+    record { sound = rw p at s; here = omega arith }
+
+pub made-single : (text t : List ℕ) (n place : ℕ) (step : Step) → madeAll text place (step ∷ []) n t ≡ madeOne text place step n t
+unfolding madeAll
+made-single text t n place step = go (madeOne text place step n t)
+  where
+    go : (x : Making) → thenMade x (madeAll text place []) ≡ x
+    go (making (D.Places m) u) = refl
+    go (making (D.Refused refusal) u) = refl
+
+-- one child after another
+module _ (text t u : List ℕ) (n place : ℕ) (step : Step) (r : Made) (one : making r u ≡ madeOne text place step n t) where
+  pub one-ready : (m : ℕ) → Ready text t n place → SoundMade text u r → r ≡ D.Places m → Ready text u m place
+  one-ready m ready s p = made-ready text t u n m place (step ∷ []) r ready (one ∙ sym (made-single text t n place step)) s p
+
+  pub made-first : (steps : List Step) (m : ℕ) → r ≡ D.Places m → madeAll text place (step ∷ steps) n t ≡ madeAll text place steps m u
+  unfolding madeAll
+  made-first steps m p = rw (← one, p)
+
+  pub made-stops : (steps : List Step) (refusal : Refusal) → r ≡ D.Refused refusal → madeAll text place (step ∷ steps) n t ≡ making (D.Refused refusal) u
+  unfolding madeAll
+  made-stops steps refusal p = rw (← one, p)
+
+-- the positions of a tuple from one on
+pub positions-more : (i n : ℕ) → i < n → positionsFrom i (n - i) ≡ S.Position i ∷ positionsFrom (i + 1) (n - (i + 1))
+positions-more i n h = let e : n - i ≡ suc (n - (i + 1)) = omega arith in rw (e, add-one i)
+
+pub positions-none : (i n : ℕ) → n ≤ i → positionsFrom i (n - i) ≡ []
+positions-none i n h = let e : n - i ≡ 0 = omega arith in rw e

@@ -1,0 +1,57 @@
+-- How the tree of places stands in the work table, and what is always true of it.
+use mathlib.Core.Path.{_≡_}
+use mathlib.Core.List.{List}
+use Prim.Native.Nat.{ℕ, _<_, _≤_}
+use lib.ListN.{length}
+use Rattle.words.specs.Word.{word}
+use Rattle.shapes.specs.Steps.{unpackedName, Inside}
+
+-- a place's own words: kind, whether null was seen, samples, first and last child
+abbrev pub kindWord : ℕ
+kindWord = 0
+
+abbrev pub nullWord : ℕ
+nullWord = 1
+
+abbrev pub samplesWord : ℕ
+samplesWord = 2
+
+abbrev pub firstWord : ℕ
+firstWord = 3
+
+abbrev pub lastWord : ℕ
+lastWord = 4
+
+-- its words as a child: next child, parent, step, name, how many samples held it, the last of them
+abbrev pub nextWord : ℕ
+nextWord = 8
+
+abbrev pub parentWord : ℕ
+parentWord = 9
+
+abbrev pub stepWord : ℕ
+stepWord = 10
+
+abbrev pub nameWord : ℕ
+nameWord = 11
+
+abbrev pub heldWord : ℕ
+heldWord = 12
+
+abbrev pub markWord : ℕ
+markWord = 13
+
+-- What is always true of a table with n places: links are places, a next child has a higher number, and names end inside the text.
+pub record Sound (text t : List ℕ) (n : ℕ) : Type 0 where
+  pub most : n ≤ 1024
+  pub room : 16384 ≤ length t
+  pub first : (p : ℕ) → p < 1024 → word t p firstWord < n
+  pub last : (p : ℕ) → p < 1024 → word t p lastWord < n
+  pub next : (p : ℕ) → p < 1024 → word t p nextWord < n
+  pub rises : (p : ℕ) → p < 1024 → (word t p nextWord ≡ 0 → ⊥) → p < word t p nextWord
+  pub names : (p : ℕ) → p < 1024 → Inside text (unpackedName (word t p nameWord))
+
+-- and that place is one of them
+pub record Ready (text t : List ℕ) (n place : ℕ) : Type 0 where
+  pub sound : Sound text t n
+  pub here : place < n

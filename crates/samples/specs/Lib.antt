@@ -1,0 +1,5 @@
+pub mod Flat
+pub mod Onward
+pub mod Ways
+pub mod Loops
+pub mod Table

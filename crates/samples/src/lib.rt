@@ -1,0 +1,256 @@
+// Reads the values of a batch and traces each at its place (from_samples/mod.rs). A container's contents are read by a
+// call on itself, with the levels left falling from 20: a level for each step down, and one for each dot of its name.
+ghost use mathlib.Core.Path.{_≡_};
+ghost use Prim.Native.Nat.{_+_, _-_, _<_, _≤_};
+ghost use lib.ListN.{length};
+ghost use Rattle.shapes.specs.Steps.{Inside, nameOf};
+ghost use Rattle.places.specs.Layout.{Ready, Sound};
+ghost use Rattle.samples.specs.Flat.{Chain, isMark, marked, pastMarks, Out, stored, observed, dotsIn, partRead, partsBy, opened, containerBy, chosen, variantBy, readers, innerOf, valueAt, fromSamples, SoundTraced};
+
+use commands::Due;
+use commands::Read;
+use options::TracingOptions;
+use places::Ensured;
+use places::Made;
+use places::Met;
+use refusal::Refusal;
+use shapes::Contents;
+use shapes::Part;
+use shapes::Shape;
+use shapes::Step;
+use text::Name;
+
+// The offset behind what was read and the count of places, or a refusal and its place.
+pub enum Traced {
+    Next(usize, usize),
+    Refused(Refusal, usize),
+}
+
+const LEVELS: usize = 20;
+
+const SOME: u8 = 0x10;
+
+const NEWTYPE: u8 = 0x11;
+
+// Whether a command stands before a value as its mark.
+fn is_mark(byte: u8) -> bool
+    ensures { λ r. ⌜ r ≡ isMark byte ⌝ }
+{
+    byte == SOME || byte == NEWTYPE
+}
+
+// The place is nullable where the mark is `some`.
+fn mark(byte: u8, place: usize, table: &mut [u32])
+    requires { ⌜ (place < 1024) × (16384 ≤ length (now table)) ⌝ }
+    ensures { λ _. ⌜ now (table .exit) ≡ marked byte place (now (table .entry)) ⌝ }
+{
+    if byte == SOME {
+        words::set(table, place, places::NULL, 1);
+    }
+}
+
+// Marks the place nullable for each `some`, and gives the offset of the first command that is neither 10 nor 11.
+fn past_marks(commands: &[u8], at: usize, place: usize, table: &mut [u32]) -> usize
+    requires { ⌜ (place < 1024) × (16384 ≤ length (now table)) ⌝ }
+    ensures { λ r. ⌜ Chain.chain r (now (table .exit)) ≡ pastMarks (now (commands .entry)) at place (now (table .entry)) ⌝ }
+{
+    let mut here = at;
+    while here < commands.len() {
+        let byte = commands[here];
+        if !is_mark(byte) {
+            return here;
+        }
+        mark(byte, place, table);
+        here += 1;
+    }
+    here
+}
+
+// The place has that kind, and null was seen there if so.
+fn store(null: bool, kind: u32, place: usize, table: &mut [u32])
+    requires { ⌜ (place < 1024) × (16384 ≤ length (now table)) ⌝ }
+    ensures { λ _. ⌜ now (table .exit) ≡ stored null kind place (now (table .entry)) ⌝ }
+{
+    words::set(table, place, places::KIND, kind);
+    if null {
+        words::set(table, place, places::NULL, 1);
+    }
+}
+
+// A primitive at a place.
+fn observe(options: TracingOptions, null: bool, kind: u32, levels: usize, here: usize, next: usize, place: usize, count: usize, table: &mut [u32]) -> Traced
+    requires { ⌜ (place < 1024) × (16384 ≤ length (now table)) ⌝ }
+    ensures { λ r. ⌜ Out.out r (now (table .exit)) ≡ observed (options .word) null kind levels here next place count (now (table .entry)) ⌝ }
+{
+    let before = words::get(table, place, places::KIND);
+    match places::meet(options, levels, before, kind) {
+        Met::Kind(joint) => {
+            store(null, joint, place, table);
+            Traced::Next(next, count)
+        }
+        Met::Refused(refusal) => Traced::Refused(refusal, here),
+    }
+}
+
+// The levels left below a step.
+fn lower(levels: usize, name: Name, text: &[u8]) -> usize
+    requires { ⌜ Inside (now text) name ⌝ }
+    ensures { λ r. ⌜ r ≡ levels - dotsIn (now (text .entry)) name ⌝ }
+{
+    let dots = name.dots(text);
+    if levels <= dots { 0 } else { levels - dots }
+}
+
+// One value at a place, with so many levels left for containers.
+pub fn read_value(commands: &[u8], text: &[u8], options: TracingOptions, at: usize, levels: usize, place: usize, count: usize, table: &mut [u32]) -> Traced
+    requires { ⌜ Ready (now text) (now table) count place ⌝ }
+    ensures { λ r. ⌜ (Out.out r (now (table .exit)) ≡ valueAt (now (commands .entry)) (now (text .entry)) (options .word) levels at place count (now (table .entry))) × SoundTraced (now (text .entry)) (now (table .exit)) count r ⌝ }
+{
+    let here = past_marks(commands, at, place, table);
+    let read = commands::read_command(commands, text, here, Due::Value);
+    let Read::Command(command, next) = read else {
+        return Traced::Refused(read.refusal(), read.place());
+    };
+    match shapes::shape_of(command, text, options) {
+        Shape::Leaf(null, kind) => observe(options, null, kind, levels, here, next, place, count, table),
+        Shape::Parts(kind, n) => read_container(commands, text, options, kind, n, here, next, levels, place, count, table),
+        Shape::Variant(number, name, contents) => read_variant(commands, text, options, number, name, contents, here, next, levels, place, count, table),
+        Shape::NoValue => Traced::Refused(Refusal::BadCommand, here),
+    }
+}
+
+// A container whose command stands at `here` and whose parts start at `at`.
+fn read_container(commands: &[u8], text: &[u8], options: TracingOptions, kind: u32, positions: u16, here: usize, at: usize, levels: usize, place: usize, count: usize, table: &mut [u32]) -> Traced
+    requires { ⌜ Ready (now text) (now table) count place ⌝ }
+    requires { ⌜ 22 ≤ kind ⌝ }
+    ensures { λ r. ⌜ (Out.out r (now (table .exit)) ≡ containerBy (now (commands .entry)) (now (text .entry)) (options .word) levels (innerOf (now (commands .entry)) (now (text .entry)) (options .word) levels) kind positions here at place count (now (table .entry))) × SoundTraced (now (text .entry)) (now (table .exit)) count r ⌝ }
+{
+    let before = words::get(table, place, places::KIND);
+    match places::meet(options, levels, before, kind) {
+        Met::Kind(joint) => enter(commands, text, options, kind, positions, before, joint, here, at, levels, place, count, table),
+        Met::Refused(refusal) => Traced::Refused(refusal, here),
+    }
+}
+
+// The container is one more sample there, makes its children, and its parts are read.
+fn enter(commands: &[u8], text: &[u8], options: TracingOptions, kind: u32, positions: u16, before: u32, joint: u32, here: usize, at: usize, levels: usize, place: usize, count: usize, table: &mut [u32]) -> Traced
+    requires { ⌜ Ready (now text) (now table) count place ⌝ }
+    requires { ⌜ 0 < levels ⌝ }
+    ensures { λ r. ⌜ (Out.out r (now (table .exit)) ≡ opened (now (commands .entry)) (now (text .entry)) (innerOf (now (commands .entry)) (now (text .entry)) (options .word) levels) kind positions before joint here at place count (now (table .entry))) × SoundTraced (now (text .entry)) (now (table .exit)) count r ⌝ }
+{
+    places::sample(place, joint, table);
+    match places::make(text, place, kind, positions, before, count, table) {
+        Made::Places(more) => read_parts(commands, text, options, kind, positions, at, levels - 1, place, more, table),
+        Made::Refused(refusal) => Traced::Refused(refusal, here),
+    }
+}
+
+// The parts of a container, one after another. The levels are those left below it.
+fn read_parts(commands: &[u8], text: &[u8], options: TracingOptions, kind: u32, positions: u16, start: usize, levels: usize, place: usize, count: usize, table: &mut [u32]) -> Traced
+    requires { ⌜ Ready (now text) (now table) count place ⌝ }
+    ensures { λ r. ⌜ (Out.out r (now (table .exit)) ≡ partsBy (now (commands .entry)) (now (text .entry)) (readers (now (commands .entry)) (now (text .entry)) (options .word) levels) kind positions place start count (now (table .entry))) × SoundTraced (now (text .entry)) (now (table .exit)) count r ⌝ }
+{
+    let mut i: usize = 0;
+    let mut at = start;
+    let mut places = count;
+    loop {
+        match shapes::next_part(commands, text, kind, positions, i, at) {
+            Part::Ended(behind) => {
+                return Traced::Next(behind, places);
+            }
+            Part::Refused(refusal, offset) => {
+                return Traced::Refused(refusal, offset);
+            }
+            Part::Step(step, value) => match read_part(commands, text, options, step, at, value, levels, place, places, table) {
+                Traced::Next(behind, more) => {
+                    at = behind;
+                    places = more;
+                }
+                Traced::Refused(refusal, offset) => {
+                    return Traced::Refused(refusal, offset);
+                }
+            },
+        }
+        i += 1;
+    }
+}
+
+// The value of a part, at the child that its step leads to.
+fn read_part(commands: &[u8], text: &[u8], options: TracingOptions, step: Step, here: usize, at: usize, levels: usize, place: usize, count: usize, table: &mut [u32]) -> Traced
+    requires { ⌜ Ready (now text) (now table) count place ⌝ }
+    requires { ⌜ Inside (now text) (nameOf step) ⌝ }
+    ensures { λ r. ⌜ (Out.out r (now (table .exit)) ≡ partRead (now (text .entry)) (readers (now (commands .entry)) (now (text .entry)) (options .word) levels) step here at place count (now (table .entry))) × SoundTraced (now (text .entry)) (now (table .exit)) count r ⌝ }
+{
+    match places::ensure(text, place, step, count, table) {
+        Ensured::Child(child, more) => {
+            places::touch(place, child, table);
+            read_value(commands, text, options, at, lower(levels, step.name(), text), child, more, table)
+        }
+        Ensured::Refused(refusal) => Traced::Refused(refusal, here),
+    }
+}
+
+// A variant, whose command stands at `here` and whose contents start at `at`.
+fn read_variant(commands: &[u8], text: &[u8], options: TracingOptions, number: u16, name: Name, contents: Contents, here: usize, at: usize, levels: usize, place: usize, count: usize, table: &mut [u32]) -> Traced
+    requires { ⌜ Ready (now text) (now table) count place ⌝ }
+    requires { ⌜ Inside (now text) name ⌝ }
+    ensures { λ r. ⌜ (Out.out r (now (table .exit)) ≡ variantBy (now (text .entry)) (options .word) levels (innerOf (now (commands .entry)) (now (text .entry)) (options .word) levels) number name contents here at place count (now (table .entry))) × SoundTraced (now (text .entry)) (now (table .exit)) count r ⌝ }
+{
+    let before = words::get(table, place, places::KIND);
+    match places::meet(options, levels, before, shapes::UNION) {
+        Met::Kind(joint) => {
+            places::sample(place, joint, table);
+            read_choice(commands, text, options, number, name, contents, here, at, levels - 1, place, count, table)
+        }
+        Met::Refused(refusal) => Traced::Refused(refusal, here),
+    }
+}
+
+// The contents at the variant's place.
+fn read_choice(commands: &[u8], text: &[u8], options: TracingOptions, number: u16, name: Name, contents: Contents, here: usize, at: usize, levels: usize, place: usize, count: usize, table: &mut [u32]) -> Traced
+    requires { ⌜ Ready (now text) (now table) count place ⌝ }
+    requires { ⌜ Inside (now text) name ⌝ }
+    ensures { λ r. ⌜ (Out.out r (now (table .exit)) ≡ chosen (now (text .entry)) (readers (now (commands .entry)) (now (text .entry)) (options .word) levels) number name contents here at place count (now (table .entry))) × SoundTraced (now (text .entry)) (now (table .exit)) count r ⌝ }
+{
+    match places::ensure(text, place, Step::Variant(number, name), count, table) {
+        Ensured::Child(child, more) => {
+            places::touch(place, child, table);
+            read_contents(commands, text, options, contents, here, at, lower(levels, name, text), child, more, table)
+        }
+        Ensured::Refused(refusal) => Traced::Refused(refusal, here),
+    }
+}
+
+// A variant's contents are as for the plain form, their command being the variant's.
+fn read_contents(commands: &[u8], text: &[u8], options: TracingOptions, contents: Contents, here: usize, at: usize, levels: usize, place: usize, count: usize, table: &mut [u32]) -> Traced
+    requires { ⌜ Ready (now text) (now table) count place ⌝ }
+    ensures { λ r. ⌜ (Out.out r (now (table .exit)) ≡ readers (now (commands .entry)) (now (text .entry)) (options .word) levels 0 contents here at place count (now (table .entry))) × SoundTraced (now (text .entry)) (now (table .exit)) count r ⌝ }
+{
+    match contents {
+        Contents::Unit => observe(options, true, shapes::UNKNOWN, levels, here, at, place, count, table),
+        Contents::Value => read_value(commands, text, options, at, levels, place, count, table),
+        Contents::Positions(n) => read_container(commands, text, options, shapes::TUPLE, n, here, at, levels, place, count, table),
+        Contents::Fields => read_container(commands, text, options, shapes::STRUCT, 0, here, at, levels, place, count, table),
+    }
+}
+
+// All records of a batch at the root, which is place 0.
+pub fn from_samples(commands: &[u8], text: &[u8], options: TracingOptions, table: &mut [u32]) -> Traced
+    requires { ⌜ Sound (now text) (now table) 1 ⌝ }
+    ensures { λ r. ⌜ (Out.out r (now (table .exit)) ≡ fromSamples (now (commands .entry)) (now (text .entry)) (options .word) (now (table .entry))) × SoundTraced (now (text .entry)) (now (table .exit)) 1 r ⌝ }
+{
+    let mut at: usize = 0;
+    let mut places: usize = 1;
+    while at < commands.len() {
+        match read_value(commands, text, options, at, LEVELS, 0, places, table) {
+            Traced::Next(behind, more) => {
+                at = behind;
+                places = more;
+            }
+            Traced::Refused(refusal, offset) => {
+                return Traced::Refused(refusal, offset);
+            }
+        }
+    }
+    Traced::Next(at, places)
+}
