@@ -87,6 +87,13 @@ module _ (text t : List ℕ) (n place : ℕ) (ready : Ready text t n place) wher
     pub child-ready : (v : List ℕ) → v ≡ touched place child u → Ready text v m child
     child-ready v h = record { sound = sound-touched text u v m place child h (child-sound .0); here = child-sound .1 }
 
+-- ---- the root
+pub root-ready : (text t : List ℕ) → Sound text t 1 → Ready text t 1 0
+root-ready text t s = record { sound = s; here = omega arith }
+
+pub root-sound : (text t : List ℕ) (n at : ℕ) → Ready text t n 0 → SoundTraced text t 1 (T.Next at n)
+root-sound text t n at ready = let h : 0 < n = ready .here in (ready .sound, omega arith)
+
 -- ---- what a reader left
 module _ (text t : List ℕ) (n : ℕ) (r : Traced) (s : SoundTraced text t n r) where
   -- counted from fewer places
