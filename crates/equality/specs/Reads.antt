@@ -288,7 +288,7 @@ shape-good options text (C.NewtypeVariant k name) = refl
 shape-good options text (C.TupleVariant k name n) = refl
 shape-good options text (C.StructVariant k name) = refl
 
-shape-fits : (options : ℕ) (text : List ℕ) (c : Command) → shapeFits options (shapeOf options text c) ≡ true
+pub shape-fits : (options : ℕ) (text : List ℕ) (c : Command) → shapeFits options (shapeOf options text c) ≡ true
 shape-fits options text c = and-left (shapeFits options (shapeOf options text c)) (leb (layers (shapeOf options text c)) 3) (shape-good options text c)
 
 pub few-layers : (options : ℕ) (text : List ℕ) (c : Command) → layers (shapeOf options text c) ≤ 3

@@ -1,19 +1,17 @@
 -- What each function does to the words of the table.
-use mathlib.Core.Path.{_≡_}
 use mathlib.Core.Bool.{Bool, true, false, not, _&&_, _||_}
 use mathlib.Core.List.{List, [], _∷_}
 use mathlib.Core.Option.{Option, none, some}
 use Prim.Native.Nat.{ℕ, zero, suc, _+_, _%_, _^_, _<_}
-use lib.Dec.{eqb, leb, ltb}
+use lib.Dec.{eqb, leb}
 use Rattle.logic.specs.Test.{if_then_else_}
 use Rattle.logic.specs.Turns.{Turn, again, done, turns}
-use Rattle.refusal.specs.declared.Refusal.{Refusal}
 use Rattle.refusal.specs.declared.Refusal.the-variants as F
 use Rattle.text.specs.declared.Name.{Name}
 use Rattle.text.specs.Name.{bytesOf, eqName}
 use Rattle.words.specs.Word.{word, withWord}
 use Rattle.coerce.specs.Joint.{joint}
-use Rattle.model.specs.Kinds.{sequenceKind, mapKind, tupleKind, isContainer, isStruct}
+use Rattle.model.specs.Kinds.{sequenceKind, mapKind, tupleKind, isContainer}
 use Rattle.model.specs.Tracing.{sameContainer, placeLimit}
 use Rattle.datatype.specs.Codes.{null}
 use Rattle.shapes.specs.declared.Step.{Step}
@@ -25,7 +23,7 @@ use Rattle.places.specs.declared.Ensured.{Ensured}
 use Rattle.places.specs.declared.Ensured.the-variants as E
 use Rattle.places.specs.declared.Made.{Made}
 use Rattle.places.specs.declared.Made.the-variants as D
-use Rattle.places.specs.Layout.{kindWord, nullWord, samplesWord, firstWord, lastWord, nextWord, parentWord, stepWord, nameWord, heldWord, markWord, Sound}
+use Rattle.places.specs.Layout.{kindWord, samplesWord, firstWord, lastWord, nextWord, parentWord, stepWord, nameWord, heldWord, markWord, Sound}
 
 -- ---- kinds that meet, with so many levels left
 abbrev pub ofJoint : Option ℕ → Met

@@ -1,32 +1,30 @@
 -- Laws of the table of places: what stores keep, a new child, the search for a child, and a cleared table.
-use mathlib.Core.Path.{_≡_, refl, sym, ap, subst, _∙_}
+use mathlib.Core.Path.{_≡_, refl, sym, ap, _∙_}
 use mathlib.Core.Bool.{Bool, true, false, not, _&&_, _||_, false≢true}
 use mathlib.Core.List.{List, [], _∷_}
 use Prim.Native.Nat.{ℕ, zero, suc, _+_, _*_, _-_, _%_, _/_, _<_, _≤_}
 use native.Mathlib.Nat.{le-refl}
-use native.Mathlib.Numerals.{add-one}
 use native.Mathlib.Omega.{arith}
-use borrow.Author.Tests.{eq-eqb, ne-eqb, eqb-true, eqb-false, ltb-true}
+use borrow.Author.Tests.{ne-eqb, eqb-true, eqb-false, ltb-true}
 use lib.Dec.{eqb, ltb, leb}
-use lib.ListN.{length, getD, set, length-set, length-append, length-replicate, length-drop, getD-replicate, replicate, drop, List·getD-append}
+use lib.ListN.{length, getD, set, length-set, length-replicate, length-drop, getD-replicate, replicate, drop, List·getD-append}
 use Rattle.logic.specs.Test.{if_then_else_, cases, both}
 use Rattle.logic.specs.Flag.{if-either}
-use Rattle.logic.specs.Turns.{Turn, again, done, turns, Says, holds}
-use Rattle.logic.specs.Within.{Keeps, goes-on-within, ends-at}
+use Rattle.logic.specs.Turns.{Turn, done}
+use Rattle.logic.specs.Within.{Keeps, goes-on-within, ends-within, holds-within}
 use Rattle.text.specs.declared.Name.{Name}
 use Rattle.words.specs.Word.{word, withWord, cleared}
 use Rattle.refusal.specs.declared.Refusal.{Refusal}
 use Rattle.text.specs.Name.{bytesOf, eqName}
 use Rattle.model.specs.Tracing.{placeLimit}
 use Rattle.shapes.specs.declared.Step.{Step}
-use Rattle.shapes.specs.declared.Step.the-variants as S
 use Rattle.shapes.specs.Steps.{codeOf, nameOf, packedName, unpackedName, Inside}
 use Rattle.places.specs.declared.Ensured.{Ensured}
 use Rattle.places.specs.declared.Ensured.the-variants as E
 use Rattle.places.specs.declared.Made.{Made}
 use Rattle.places.specs.declared.Made.the-variants as D
-use Rattle.places.specs.Layout.{kindWord, nullWord, samplesWord, firstWord, lastWord, nextWord, parentWord, stepWord, nameWord, heldWord, markWord, Sound, Ready}
-use Rattle.places.specs.Flat.{isAt, findTurn, findFrom, findIn, linked, described, appended, Ensuring, ensuring, confirmed, ensuredBy, ensured, onward, touched, sampled, Making, making, ofEnsuring, madeOne, thenMade, madeAll, positionsFrom, SoundMade}
+use Rattle.places.specs.Layout.{kindWord, samplesWord, firstWord, lastWord, nextWord, parentWord, stepWord, nameWord, heldWord, markWord, Sound, Ready}
+use Rattle.places.specs.Flat.{isAt, findTurn, findFrom, findIn, linked, described, appended, Ensuring, ensuring, confirmed, ensuredBy, ensured, onward, touched, sampled, Making, making, ofEnsuring, madeOne, thenMade, madeAll, SoundEnsured, SoundMade}
 
 -- ---- words after a store
 set-keeps : (P : ℕ → Type 0) (l : List ℕ) (i j v : ℕ) → (j ≡ i → P v) → P (getD l j 0) → P (getD (set l i v) j 0)
@@ -141,7 +139,7 @@ unfolding cleared
 sound-cleared text t r =
     record {
       most = omega arith;
-      room = simp (length-append, length-replicate, length-drop) (omega arith);
+      room = simp length-drop (omega arith);
       first = λ p h. rw (word-cleared t p firstWord h (omega arith) r) (omega arith);
       last = λ p h. rw (word-cleared t p lastWord h (omega arith) r) (omega arith);
       next = λ p h. rw (word-cleared t p nextWord h (omega arith) r) (omega arith);
@@ -177,45 +175,48 @@ left-falls text t n child x s h z e =
     (λ d. let o : (x ≡ 0 → ⊥) = eqb-false x 0 d in let l : child < x = rw e (s .rises child (omega arith) (rw e at o)) in omega arith)
 
 module _ (text t : List ℕ) (n code : ℕ) (name : Name) (s : Sound text t n) where
-  find-keeps : (child : ℕ) → child < n → Keeps (λ c. c < n) childrenLeft (childrenLeft child) (findTurn text code name t child)
+  abbrev turn : ℕ → Turn ℕ ℕ
+  turn = findTurn text code name t
+
+  -- each turn leaves a place, with fewer that may follow, or gives one
+  turn-keeps : (child : ℕ) → child < n → Keeps (λ c. c < n) (λ c. c < n) childrenLeft (childrenLeft child) (turn child)
   unfolding findTurn if_then_else_
-  find-keeps child h =
+  turn-keeps child h =
       cases (eqb child 0)
-      (λ e. rw e tt)
+      (λ e. rw e (omega arith))
       (λ e. cases (isAt text code name child t)
-      (λ f. rw (e, f) tt)
+      (λ f. rw (e, f) h)
       (λ f. rw (e, f) (next-below text t n child _ s h refl, left-falls text t n child _ s h (eqb-false child 0 e) refl)))
+
+  enough : (child : ℕ) → child < n → childrenLeft child < 1025
+  enough child h = omega arith
+
+  -- a child found is a place
+  pub find-below : (child : ℕ) → child < n → findFrom text code name t child < n
+  unfolding findFrom
+  find-below child h = holds-within turn (λ c. 0) (λ c. c < n) (λ c. c < n) childrenLeft turn-keeps 1025 child h (enough child h)
 
   pub find-first : (place child : ℕ) → child ≡ word t place firstWord → findFrom text code name t child ≡ findIn text place code name t
   find-first place child e = ap (findFrom text code name t) e
 
-  -- a child found is a place
-  pub find-below : (child : ℕ) → child < n → findFrom text code name t child < n
-  unfolding findFrom findTurn if_then_else_
-  find-below child h = holds (findTurn text code name t) (λ c. 0) (λ c. c < n) (λ c. c < n) kept (λ c l. omega arith) 1025 child h
-    where
-      kept : (c : ℕ) → c < n → Says (λ x. x < n) (λ x. x < n) (findTurn text code name t c)
-      kept c l =
-          cases (eqb c 0)
-          (λ e. rw e (omega arith))
-          (λ e. cases (isAt text code name c t)
-          (λ f. rw (e, f) l)
-          (λ f. rw (e, f) (next-below text t n c _ s l refl)))
+  module _ (child r : ℕ) (h : child < n) (whole : findFrom text code name t child ≡ r) where
+    ends-there : (c : ℕ) → turn child ≡ done c → c ≡ r
+    unfolding findFrom
+    ends-there c e = sym (ends-within turn (λ c. 0) (λ c. c < n) (λ c. c < n) childrenLeft turn-keeps 1025 child c (enough child h) e) ∙ whole
 
-  module _ (child r : ℕ) (whole : findFrom text code name t child ≡ r) where
     pub find-none : child ≡ 0 → 0 ≡ r
-    unfolding findFrom findTurn if_then_else_
-    find-none z = sym (ends-at (findTurn text code name t) (λ c. 0) 1025 child 0 (omega arith) (rw z)) ∙ whole
+    unfolding findTurn if_then_else_
+    find-none z = ends-there 0 (rw z)
 
     module _ (at : Bool) (known : child ≡ 0 → ⊥) (is-at : at ≡ isAt text code name child t) where
       pub find-found : at ≡ true → child ≡ r
-      unfolding findFrom findTurn if_then_else_
-      find-found e = sym (ends-at (findTurn text code name t) (λ c. 0) 1025 child child (omega arith) (rw (ne-eqb child 0 known, ← is-at, e))) ∙ whole
+      unfolding findTurn if_then_else_
+      find-found e = ends-there child (rw (ne-eqb child 0 known, ← is-at, e))
 
-      pub find-next : (x : ℕ) → child < n → at ≡ false → x ≡ word t child nextWord → findFrom text code name t x ≡ r
+      pub find-next : (x : ℕ) → at ≡ false → x ≡ word t child nextWord → findFrom text code name t x ≡ r
       unfolding findFrom findTurn if_then_else_
-      find-next x h e d =
-          rw d (sym (goes-on-within (findTurn text code name t) (λ c. 0) (λ c. c < n) childrenLeft find-keeps 1025 child (word t child nextWord) h (let m : n ≤ 1024 = s .most in omega arith) (rw (ne-eqb child 0 known, ← is-at, e))) ∙ whole)
+      find-next x e d =
+          sym (goes-on-within turn (λ c. 0) (λ c. c < n) (λ c. c < n) childrenLeft turn-keeps 1025 child x h (enough child h) (rw (ne-eqb child 0 known, ← is-at, e, d))) ∙ whole
 
 -- ---- a child that is ensured, and children that are made
 
@@ -228,31 +229,43 @@ abbrev pub OnPlaces : (ℕ → Type 0) → Making → Type 0
 OnPlaces P (making (D.Places m) u) = P m
 OnPlaces P (making (D.Refused refusal) u) = Unit {0}
 
+-- a child that was ensured is ready
+pub child-ready : (text u : List ℕ) (r : Ensured) (child m : ℕ) → SoundEnsured text u r → r ≡ E.Child child m → Ready text u m child
+child-ready text u r child m s p = let h : Sound text u m × (child < m) = rw p at s in record { sound = h .0; here = h .1 }
+
 module _ (text t : List ℕ) (n place : ℕ) (step : Step) where
+  abbrev sought : ℕ
+  sought = findIn text place (codeOf step) (nameOf step) t
+
+  -- it is the child found, or place n
+  ensured-says : (P : ℕ → ℕ → Type 0) → ((sought ≡ 0 → ⊥) → P sought n) → P n (n + 1) → OnChild P (ensured text place step n t)
+  unfolding ensured ensuredBy confirmed if_then_else_
+  ensured-says P found new =
+      cases (eqb sought 0)
+      (λ e. rw e (if-either (OnChild P) (leb placeLimit n) tt new))
+      (λ e. rw e (if-either (λ r. OnChild P (ensuring r t)) (eqName (bytesOf text (unpackedName (word t sought nameWord))) (bytesOf text (nameOf step))) (found (eqb-false sought 0 e)) tt))
+
   -- there are never fewer places than before
   ensured-more : OnChild (λ child m. n ≤ m) (ensured text place step n t)
-  unfolding ensured ensuredBy confirmed
-  ensured-more =
-      let child : ℕ = findIn text place (codeOf step) (nameOf step) t in
-      if-either (OnChild (λ child m. n ≤ m)) (not (eqb child 0))
-      (if-either (λ r. OnChild (λ child m. n ≤ m) (ensuring r t)) (eqName (bytesOf text (unpackedName (word t child nameWord))) (bytesOf text (nameOf step))) (le-refl n) tt)
-      (if-either (OnChild (λ child m. n ≤ m)) (leb placeLimit n) tt (omega arith))
+  ensured-more = ensured-says (λ child m. n ≤ m) (λ z. le-refl n) (omega arith)
 
-  pub ensured-grows : (r : Ensured) (u : List ℕ) (child m : ℕ) → ensuring r u ≡ ensured text place step n t → r ≡ E.Child child m → n ≤ m
-  ensured-grows r u child m e p = rw (← e, p) at ensured-more
+  module _ (r : Ensured) (u : List ℕ) (child m : ℕ) (e : ensuring r u ≡ ensured text place step n t) (p : r ≡ E.Child child m) where
+    pub ensured-grows : n ≤ m
+    ensured-grows = rw (← e, p) at ensured-more
 
-  -- a child is none of place 0
-  ensured-child : Ready text t n place → OnChild (λ child m. 0 < child) (ensured text place step n t)
-  unfolding ensured ensuredBy confirmed if_then_else_
-  ensured-child ready =
-      let child : ℕ = findIn text place (codeOf step) (nameOf step) t in
-      let h : place < n = ready .here in
-      cases (eqb child 0)
-      (λ e. rw e (if-either (OnChild (λ child m. 0 < child)) (leb placeLimit n) tt (omega arith)))
-      (λ e. rw e (if-either (λ r. OnChild (λ child m. 0 < child) (ensuring r t)) (eqName (bytesOf text (unpackedName (word t child nameWord))) (bytesOf text (nameOf step))) (let z : (child ≡ 0 → ⊥) = eqb-false child 0 e in omega arith) tt))
+    -- the child is a place, and not the root
+    pub ensured-child : Ready text t n place → (0 < child) × (child < m)
+    ensured-child ready =
+        let h : place < n = ready .here in
+        let b : sought < n = find-below text t n (codeOf step) (nameOf step) (ready .sound) _ (first-below text t n place _ (ready .sound) h refl) in
+        rw (← e, p) at (ensured-says (λ child m. (0 < child) × (child < m)) (λ z. (omega arith, b)) (omega arith, omega arith))
 
-  pub ensured-above : (r : Ensured) (u : List ℕ) (child m : ℕ) → Ready text t n place → ensuring r u ≡ ensured text place step n t → r ≡ E.Child child m → 0 < child
-  ensured-above r u child m ready e p = rw (← e, p) at (ensured-child ready)
+    -- the place that it was ensured for is still one
+    pub ensured-ready : Ready text t n place → SoundEnsured text u r → Ready text u m place
+    ensured-ready ready s =
+        let h : place < n = ready .here in
+        let l : n ≤ m = ensured-grows in
+        record { sound = child-ready text u r child m s p .sound; here = omega arith }
 
 made-more : (text : List ℕ) (place : ℕ) (steps : List Step) (n : ℕ) (t : List ℕ) → OnPlaces (λ m. n ≤ m) (madeAll text place steps n t)
 unfolding madeAll madeOne
@@ -297,10 +310,3 @@ module _ (text t u : List ℕ) (n place : ℕ) (step : Step) (r : Made) (one : m
   pub made-stops : (steps : List Step) (refusal : Refusal) → r ≡ D.Refused refusal → madeAll text place (step ∷ steps) n t ≡ making (D.Refused refusal) u
   unfolding madeAll
   made-stops steps refusal p = rw (← one, p)
-
--- the positions of a tuple from one on
-pub positions-more : (i n : ℕ) → i < n → positionsFrom i (n - i) ≡ S.Position i ∷ positionsFrom (i + 1) (n - (i + 1))
-positions-more i n h = let e : n - i ≡ suc (n - (i + 1)) = omega arith in rw (e, add-one i)
-
-pub positions-none : (i n : ℕ) → n ≤ i → positionsFrom i (n - i) ≡ []
-positions-none i n h = let e : n - i ≡ 0 = omega arith in rw e

@@ -1,0 +1,18 @@
+-- Tracing in the words of the work table is the model's tracing: the same refusal and place, or a table that reads as the model's tree.
+use mathlib.Core.Path.{_≡_, _∙_}
+use mathlib.Core.List.{List}
+use Prim.Native.Nat.{ℕ, _≤_}
+use lib.ListN.{length}
+use Rattle.words.specs.Word.{cleared}
+use Rattle.model.specs.Answer.{tableWords, inputLimit}
+use Rattle.model.specs.Reading.{values}
+use Rattle.model.specs.Tracing.{trace}
+use Rattle.samples.specs.Flat.{fromSamples}
+use Rattle.refine.specs.Tree.{outcome}
+use Rattle.refine.specs.Commands.{Bytes}
+use Rattle.refine.specs.Main.{flat-outcome}
+use Rattle.refine.specs.Erase.{walk-is-model}
+
+pub traced-is-model : (options : ℕ) (commands text t : List ℕ) → Bytes commands → length commands ≤ inputLimit → tableWords ≤ length t →
+    outcome text (fromSamples commands text options (cleared t tableWords)) ≡ trace options (values options commands text)
+traced-is-model options commands text t bytes short long = flat-outcome options commands text t bytes long ∙ walk-is-model options commands text short

@@ -1,0 +1,156 @@
+-- The words of the table say the numbered tree; what changes one place, and what is kept.
+use mathlib.Core.Path.{_≡_, refl, sym, _∙_}
+use mathlib.Core.List.{List, [], _∷_}
+use mathlib.Core.Bool.{Bool, true, false, _||_}
+use Prim.Native.Nat.{ℕ, _+_, _*_, _-_, _<_, _≤_}
+use native.Mathlib.Omega.{arith}
+use lib.ListN.{length, getD, set, length-set}
+use lib.Seq.{getD-set-same, getD-set-other}
+use lib.Dec.{eqb}
+use borrow.Author.Tests.{eqb-true, eqb-false}
+use Rattle.logic.specs.Test.{cases}
+use Rattle.text.specs.Name.{bytesOf}
+use Rattle.words.specs.Word.{word, withWord}
+use Rattle.model.specs.Kinds.{Step}
+use Rattle.model.specs.Answer.{tableWords}
+use Rattle.model.specs.Tracing.{one, placeLimit}
+use Rattle.shapes.specs.Steps.{Inside, unpackedName}
+use Rattle.places.specs.Layout.{kindWord, nullWord, samplesWord, nextWord}
+use Rattle.refine.specs.Spots.{Spot, spot, Spots, no-spots, child, num, belowS}
+use Rattle.refine.specs.Steps.{stepCodeOf, nameIn}
+use Rattle.refine.specs.Numbers.{firstOf, lastFrom, within, withinIn, Good, or-right, not-both, self}
+
+-- ---- one word
+pub word-same : (t : List ℕ) (p f v : ℕ) → p * 16 + f < length t → word (withWord t p f v) p f ≡ v
+word-same t p f v l = getD-set-same t (p * 16 + f) v 0 l
+
+pub word-other : (t : List ℕ) (p f v q g : ℕ) → (q * 16 + g ≡ p * 16 + f → ⊥) → word (withWord t p f v) q g ≡ word t q g
+word-other t p f v q g n = getD-set-other t (p * 16 + f) (q * 16 + g) v 0 n
+
+pub size-with : (t : List ℕ) (p f v : ℕ) → length (withWord t p f v) ≡ length t
+size-with t p f v = length-set t (p * 16 + f) v
+
+-- ---- the words of a place, and of its cell among its siblings
+abbrev pub ownWords : Bool → ℕ → ℕ → Spots → List ℕ
+ownWords b k m ks = k ∷ one b ∷ m ∷ firstOf ks ∷ lastFrom 0 ks ∷ []
+
+-- next, parent, step, name, held, mark
+abbrev pub cellWords : ℕ → ℕ → ℕ → ℕ → ℕ → ℕ → List ℕ
+cellWords x p s nm h m = x ∷ p ∷ s ∷ nm ∷ h ∷ m ∷ []
+
+-- words of a place, from a base on
+abbrev pub Row : List ℕ → ℕ → ℕ → List ℕ → Type 0
+Row t p base xs = (f : ℕ) → f < length xs → word t p (base + f) ≡ getD xs f 0
+
+-- a child's cell: its words exactly, but for the name, of which many words say the bytes
+pub record Cell (text t : List ℕ) (q next p : ℕ) (s : Step) (h m : ℕ) : Type 0 where
+  pub name : ℕ
+  pub row : Row t q nextWord (cellWords next p (stepCodeOf s) name h m)
+  pub inside : Inside text (unpackedName name)
+  pub says : bytesOf text (unpackedName name) ≡ nameIn s
+
+-- the words of the table say the tree
+abbrev mutual
+  pub Rep : List ℕ → List ℕ → Spot → Type 0
+  Rep text t (spot p b k m ks) = Row t p kindWord (ownWords b k m ks) × RepIn text t p ks
+
+  pub RepIn : List ℕ → List ℕ → ℕ → Spots → Type 0
+  RepIn text t p no-spots = Unit {0}
+  RepIn text t p (child s h m u ks) = Cell text t (num u) (firstOf ks) p s h m × Rep text t u × RepIn text t p ks
+
+-- a cell whose words are kept
+pub same-cell : {text t t′ : List ℕ} {q x p : ℕ} {s : Step} {h m : ℕ} → Cell text t q x p s h m → ((f : ℕ) → f < 16 → word t′ q f ≡ word t q f) → Cell text t′ q x p s h m
+same-cell c w = record { name = c .name; row = λ f l. w (8 + f) (omega arith) ∙ c .row f l; inside = c .inside; says = c .says }
+
+-- one word of a row is written
+pub row-set : (t : List ℕ) (p base f v : ℕ) (xs : List ℕ) → p * 16 + (base + f) < length t → f < length xs → Row t p base xs → Row (withWord t p (base + f) v) p base (set xs f v)
+row-set t p base f v xs l i r g j =
+    cases (eqb g f)
+    (λ e. let d : g ≡ f = eqb-true g f e in rw d (word-same t p (base + f) v l ∙ sym (getD-set-same xs f v 0 i)))
+    (λ e. let d : g ≡ f → ⊥ = eqb-false g f e in
+    word-other t p (base + f) v p (base + g) (λ x. d (omega arith)) ∙ r g (rw (length-set xs f v) at j) ∙ sym (getD-set-other xs f g v 0 d))
+
+pub or-left : (a b : Bool) → a ≡ true → a || b ≡ true
+or-left a b e = rw e refl
+
+pub has-num : (u : Spot) (ks : Spots) → within (num u) u || withinIn (num u) ks ≡ true
+has-num u ks = or-left (within (num u) u) (withinIn (num u) ks) (self u)
+
+pub has-below : (q : ℕ) (u : Spot) → withinIn q (belowS u) ≡ true → within q u ≡ true
+has-below q (spot p b k m ks) e = or-right (eqb q p) (withinIn q ks) e
+
+module _ (text : List ℕ) where
+  -- words that are kept keep the tree
+  mutual
+    pub frame : (t t′ : List ℕ) (u : Spot) → Rep text t u → ((f : ℕ) → f < 5 → word t′ (num u) f ≡ word t (num u) f)
+        → ((q f : ℕ) → f < 16 → withinIn q (belowS u) ≡ true → word t′ q f ≡ word t q f) → Rep text t′ u
+    frame t t′ (spot p b k m ks) r o w = ((λ f l. o (0 + f) (omega arith) ∙ r .0 f l), frameIn t t′ p ks (r .1) w)
+
+    pub frameIn : (t t′ : List ℕ) (p : ℕ) (ks : Spots) → RepIn text t p ks → ((q f : ℕ) → f < 16 → withinIn q ks ≡ true → word t′ q f ≡ word t q f) → RepIn text t′ p ks
+    frameIn t t′ p no-spots r w = tt
+    frameIn t t′ p (child s h m u ks) r w = (
+      same-cell (r .0) (λ f l. w (num u) f l (has-num u ks)),
+      frame t t′ u (r .1) (λ f l. w (num u) f (omega arith) (has-num u ks)) (λ q f l a. w q f l (or-left (within q u) (withinIn q ks) (has-below q u a))),
+      frameIn t t′ p ks (r .2) (λ q f l a. w q f l (or-right (within q u) (withinIn q ks) a)),
+    )
+
+-- ---- what stands before a step of the walk, and what it leaves
+pub record Fits (text t : List ℕ) (n : ℕ) (u : Spot) : Type 0 where
+  pub rep : Rep text t u
+  pub good : Good n u
+  pub room : tableWords ≤ length t
+  pub most : n ≤ placeLimit
+  pub zeros : (q f : ℕ) → n ≤ q → q < placeLimit → f < 16 → word t q f ≡ 0
+
+pub record After (text t : List ℕ) (n : ℕ) (u : Spot) (t′ : List ℕ) (n′ : ℕ) (u′ : Spot) : Type 0 where
+  pub fits : Fits text t′ n′ u′
+  pub grown : n ≤ n′
+  pub same : num u′ ≡ num u
+  pub keeps : (q f : ℕ) → q < n → f < 16 → withinIn q (belowS u) ≡ false → (q ≡ num u → 5 ≤ f) → word t′ q f ≡ word t q f
+  pub kept : (q : ℕ) → q < n → withinIn q (belowS u′) ≡ withinIn q (belowS u)
+
+module _ (text : List ℕ) where
+  pub stays : (t : List ℕ) (n : ℕ) (u : Spot) → Fits text t n u → After text t n u t n u
+  stays t n u h = record { fits = h; grown = omega arith; same = refl; keeps = λ q f l i a b. refl; kept = λ q l. refl }
+
+  pub and-then : (t t₁ t₂ : List ℕ) (n n₁ n₂ : ℕ) (u u₁ u₂ : Spot) → After text t n u t₁ n₁ u₁ → After text t₁ n₁ u₁ t₂ n₂ u₂ → After text t n u t₂ n₂ u₂
+  and-then t t₁ t₂ n n₁ n₂ u u₁ u₂ a b = record {
+    fits = b .fits;
+    grown = omega arith;
+    same = b .same ∙ a .same;
+    keeps = λ q f l i x y. b .keeps q f (omega arith) i (a .kept q l ∙ x) (λ e. y (e ∙ a .same)) ∙ a .keeps q f l i x y;
+    kept = λ q l. b .kept q (omega arith) ∙ a .kept q l;
+  }
+
+  -- ---- a word of the place's own
+  pub own-with : (t t′ : List ℕ) (n p : ℕ) (b b′ : Bool) (k k′ m m′ : ℕ) (ks : Spots) → Fits text t n (spot p b k m ks) → tableWords ≤ length t′
+      → Row t′ p kindWord (ownWords b′ k′ m′ ks) → ((q f : ℕ) → f < 16 → (q ≡ p → 5 ≤ f) → word t′ q f ≡ word t q f) → After text t n (spot p b k m ks) t′ n (spot p b′ k′ m′ ks)
+  own-with t t′ n p b b′ k k′ m m′ ks h z o w = record {
+    fits = record {
+      rep = (o, frameIn text t t′ p ks (h .rep .1) (λ q f l a. w q f l (λ e. absurd (not-both (withinIn q ks) a (rw e (h .good .1))))));
+      good = h .good;
+      room = z;
+      most = h .most;
+      zeros = λ q f l y i. w q f i (λ e. let g : p < n = h .good .0 in absurd (omega arith)) ∙ h .zeros q f l y i;
+    };
+    grown = omega arith;
+    same = refl;
+    keeps = λ q f l i a y. w q f i y;
+    kept = λ q l. refl;
+  }
+
+  module _ (t : List ℕ) (n p : ℕ) (b : Bool) (k m : ℕ) (ks : Spots) (h : Fits text t n (spot p b k m ks)) where
+    pub in-row : (f : ℕ) → f < 16 → p * 16 + f < length t
+    in-row f l = omega (arith, h .good .0, h .room, h .most)
+
+    others : (f v : ℕ) → f < 5 → (q g : ℕ) → g < 16 → (q ≡ p → 5 ≤ g) → word (withWord t p f v) q g ≡ word t q g
+    others f v i q g j y = word-other t p f v q g (λ e. let d : q ≡ p = omega arith in let x = y d in omega arith)
+
+    pub set-kind : (j : ℕ) → After text t n (spot p b k m ks) (withWord t p kindWord j) n (spot p b j m ks)
+    set-kind j = own-with t (withWord t p kindWord j) n p b b k j m m ks h (rw size-with (h .room)) (row-set t p 0 0 j (ownWords b k m ks) (in-row 0 (omega arith)) (omega arith) (h .rep .0)) (others 0 j (omega arith))
+
+    pub set-null : After text t n (spot p b k m ks) (withWord t p nullWord 1) n (spot p true k m ks)
+    set-null = own-with t (withWord t p nullWord 1) n p b true k k m m ks h (rw size-with (h .room)) (row-set t p 0 1 1 (ownWords b k m ks) (in-row 1 (omega arith)) (omega arith) (h .rep .0)) (others 1 1 (omega arith))
+
+    pub set-samples : (v : ℕ) → After text t n (spot p b k m ks) (withWord t p samplesWord v) n (spot p b k v ks)
+    set-samples v = own-with t (withWord t p samplesWord v) n p b b k k m v ks h (rw size-with (h .room)) (row-set t p 0 2 v (ownWords b k m ks) (in-row 2 (omega arith)) (omega arith) (h .rep .0)) (others 2 v (omega arith))
