@@ -75,19 +75,19 @@ sampleOf kind samples = if isContainer kind then onward samples else samples
 unfoldable mutual
   pub walk : ℕ → ℕ → Value → ℕ → Spot → Result (Counted Spot)
   walk options depth (val at b kind positions ps) n u = do
-      j ← meet options depth at (kindS u) kind
-      x ← makeAllS at (made kind positions (kindS u)) n (belowS u)
-      q ← walkParts options depth (sampleOf kind (samplesS u)) ps (x .places) (x .what)
-      counted (q .places) (spot (num u) (nullS u || b) j (sampleOf kind (samplesS u)) (q .what))
+    j ← meet options depth at (kindS u) kind
+    x ← makeAllS at (made kind positions (kindS u)) n (belowS u)
+    q ← walkParts options depth (sampleOf kind (samplesS u)) ps (x .places) (x .what)
+    counted (q .places) (spot (num u) (nullS u || b) j (sampleOf kind (samplesS u)) (q .what))
   walk options depth (cut refusal place) n u = refused refusal place
 
   pub walkParts : ℕ → ℕ → ℕ → Parts → ℕ → Spots → Result (Counted Spots)
   walkParts options depth sample no-parts n ks = counted n ks
   walkParts options depth sample (cut-off refusal place) n ks = refused refusal place
   walkParts options depth sample (part at s v ps) n ks = do
-      r ← makeS at s n ks
-      q ← walk options (depth + dotsOf s) v (r .places) (spotAt s (r .what))
-      walkParts options depth sample ps (q .places) (putS s sample (q .what) (r .what))
+    r ← makeS at s n ks
+    q ← walk options (depth + dotsOf s) v (r .places) (spotAt s (r .what))
+    walkParts options depth sample ps (q .places) (putS s sample (q .what) (r .what))
 
 unfoldable pub walkAll : ℕ → List Value → ℕ → Spot → Result (Counted Spot)
 walkAll options [] n u = counted n u

@@ -51,8 +51,8 @@ moved-at low most behind m u h = h
 
 -- ---- the parts of a container
 module _ (commands text : List ℕ) (options levels kind positions place i at n : ℕ) (t : List ℕ) (r : Out)
-  (whole : partsFrom commands text (readers commands text options levels) kind positions place i at n t ≡ r)
-  (part : Part) (p : part ≡ partAt commands text kind positions i at) where
+    (whole : partsFrom commands text (readers commands text options levels) kind positions place i at n t ≡ r)
+    (part : Part) (p : part ≡ partAt commands text kind positions i at) where
   turn-is : partTurn commands text (readers commands text options levels) kind positions place (state i at n t) ≡ onPart text (readers commands text options levels) place i at n t part
   unfolding partTurn
   turn-is = rw p refl

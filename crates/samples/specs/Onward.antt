@@ -108,7 +108,7 @@ module _ (commands : List ℕ) where
   past-falls place (chain at t) =
       turn-has _ _ (ltb at (length commands)) _ _
       (λ e. let p : at < length commands = ltb-true at (length commands) e in
-        turn-has _ _ (isMark (getD commands at 0)) _ _ (λ f. omega arith) (λ f. tt))
+      turn-has _ _ (isMark (getD commands at 0)) _ _ (λ f. omega arith) (λ f. tt))
       (λ e. tt)
 
   abbrev FromChain : ℕ → Chain → Type 0
@@ -166,6 +166,7 @@ module _ (commands text : List ℕ) (inner : Readers) (on : On (length commands)
     where
       stop : (s : State) → Moved at (length commands) (partStop s)
       stop (state i here n t) = stopped at (length commands) F.BadCommand here t
+
       kept : (s : State) → From at s → Says (From at) (Moved at (length commands)) (partTurn commands text inner kind positions place s)
       kept (state i here n t) (p₀, p₁) = go (partAt commands text kind positions i here) (part-known commands text here kind positions i)
         where
@@ -179,7 +180,7 @@ module _ (commands text : List ℕ) (inner : Readers) (on : On (length commands)
   unfolding containerBy opened
   container-on options levels kind positions here at place n t h =
       on-met at (length commands) here t _ (λ joint. on-made at (length commands) here _ (λ m u. parts-on kind positions place 0 at m u h)
-        (made text place kind positions (word t place kindWord) n (sampled place joint t)))
+      (made text place kind positions (word t place kindWord) n (sampled place joint t)))
       (meeting options levels (word t place kindWord) kind)
 
   variant-on : (options levels number : ℕ) (name : Name) (contents : Contents) (here at place n : ℕ) (t : List ℕ) → at ≤ length commands → Moved at (length commands) (variantBy text options levels inner number name contents here at place n t)
@@ -187,7 +188,7 @@ module _ (commands text : List ℕ) (inner : Readers) (on : On (length commands)
   variant-on options levels number name contents here at place n t h =
       on-met at (length commands) here t _
       (λ joint. moved-from (from contents at) at (length commands) (from-above contents at) _
-        (child-on (dotsIn text name) contents place here at h (ensured text place (S.Variant number name) n (sampled place joint t))))
+      (child-on (dotsIn text name) contents place here at h (ensured text place (S.Variant number name) n (sampled place joint t))))
       (meeting options levels (word t place kindWord) unionKind)
 
   shape-on : (options levels here low behind place n : ℕ) (t : List ℕ) → low ≤ behind → behind ≤ length commands → (shape : Shape) → Moved low (length commands) (atShape commands text options levels inner here behind place n t shape)
@@ -228,7 +229,7 @@ module _ (commands text : List ℕ) (options : ℕ) where
   records-fall (state i at n t) =
       turn-has _ _ (ltb at (length commands)) _ _
       (λ e. let p : at < length commands = ltb-true at (length commands) e in
-        after-falls commands i at _ (readers-on levelLimit 0 N.Value 0 at 0 n t (omega arith)))
+      after-falls commands i at _ (readers-on levelLimit 0 N.Value 0 at 0 n t (omega arith)))
       (λ e. tt)
 
 -- levels left, less the dots of a name

@@ -52,6 +52,7 @@ module _ (text t : List ℕ) (n place : ℕ) (ready : Ready text t n place) wher
     where
       Ok : Chain → Type 0
       Ok (chain i x) = Sound text x n
+
       kept : (s : Chain) → Ok s → Says Ok Ok (pastTurn commands place s)
       kept (chain i x) h =
           if-either (Says Ok Ok) (ltb i (length commands))
@@ -65,6 +66,7 @@ module _ (text t : List ℕ) (n place : ℕ) (ready : Ready text t n place) wher
     where
       Ok : Out → Type 0
       Ok (out r x) = SoundTraced text x n r
+
       go : (met : Met) → Ok (onMet here t (λ joint. out (T.Next behind n) (stored isNull joint place t)) met)
       go (M.Kind joint) =
           (if-either (λ x. Sound text x n) isNull (sound-plain text _ n place nullWord 1 refl (sound-plain text t n place kindWord joint refl (ready .sound))) (sound-plain text t n place kindWord joint refl (ready .sound)), le-refl n)

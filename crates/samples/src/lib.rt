@@ -6,7 +6,6 @@ ghost use lib.ListN.{length};
 ghost use Rattle.shapes.specs.Steps.{Inside, nameOf};
 ghost use Rattle.places.specs.Layout.{Ready, Sound};
 ghost use Rattle.samples.specs.Flat.{Chain, isMark, marked, pastMarks, Out, stored, observed, dotsIn, partRead, partsBy, opened, containerBy, chosen, variantBy, readers, innerOf, valueAt, fromSamples, SoundTraced};
-
 use commands::Due;
 use commands::Read;
 use options::TracingOptions;
@@ -78,7 +77,17 @@ fn store(null: bool, kind: u32, place: usize, table: &mut [u32])
 }
 
 // A primitive at a place.
-fn observe(options: TracingOptions, null: bool, kind: u32, levels: usize, here: usize, next: usize, place: usize, count: usize, table: &mut [u32]) -> Traced
+fn observe(
+    options: TracingOptions,
+    null: bool,
+    kind: u32,
+    levels: usize,
+    here: usize,
+    next: usize,
+    place: usize,
+    count: usize,
+    table: &mut [u32],
+) -> Traced
     requires { ⌜ (place < 1024) × (16384 ≤ length (now table)) ⌝ }
     ensures { λ r. ⌜ Out.out r (now (table .exit)) ≡ observed (options .word) null kind levels here next place count (now (table .entry)) ⌝ }
 {
@@ -102,7 +111,16 @@ fn lower(levels: usize, name: Name, text: &[u8]) -> usize
 }
 
 // One value at a place, with so many levels left for containers.
-pub fn read_value(commands: &[u8], text: &[u8], options: TracingOptions, at: usize, levels: usize, place: usize, count: usize, table: &mut [u32]) -> Traced
+pub fn read_value(
+    commands: &[u8],
+    text: &[u8],
+    options: TracingOptions,
+    at: usize,
+    levels: usize,
+    place: usize,
+    count: usize,
+    table: &mut [u32],
+) -> Traced
     requires { ⌜ Ready (now text) (now table) count place ⌝ }
     ensures { λ r. ⌜ (Out.out r (now (table .exit)) ≡ valueAt (now (commands .entry)) (now (text .entry)) (options .word) levels at place count (now (table .entry))) × SoundTraced (now (text .entry)) (now (table .exit)) count r ⌝ }
 {
@@ -112,41 +130,138 @@ pub fn read_value(commands: &[u8], text: &[u8], options: TracingOptions, at: usi
         return Traced::Refused(read.refusal(), read.place());
     };
     match shapes::shape_of(command, text, options) {
-        Shape::Leaf(null, kind) => observe(options, null, kind, levels, here, next, place, count, table),
-        Shape::Parts(kind, n) => read_container(commands, text, options, kind, n, here, next, levels, place, count, table),
-        Shape::Variant(number, name, contents) => read_variant(commands, text, options, number, name, contents, here, next, levels, place, count, table),
+        Shape::Leaf(null, kind) => observe(
+            options,
+            null,
+            kind,
+            levels,
+            here,
+            next,
+            place,
+            count,
+            table,
+        ),
+        Shape::Parts(kind, n) => read_container(
+            commands,
+            text,
+            options,
+            kind,
+            n,
+            here,
+            next,
+            levels,
+            place,
+            count,
+            table,
+        ),
+        Shape::Variant(number, name, contents) => read_variant(
+            commands,
+            text,
+            options,
+            number,
+            name,
+            contents,
+            here,
+            next,
+            levels,
+            place,
+            count,
+            table,
+        ),
         Shape::NoValue => Traced::Refused(Refusal::BadCommand, here),
     }
 }
 
 // A container whose command stands at `here` and whose parts start at `at`.
-fn read_container(commands: &[u8], text: &[u8], options: TracingOptions, kind: u32, positions: u16, here: usize, at: usize, levels: usize, place: usize, count: usize, table: &mut [u32]) -> Traced
+fn read_container(
+    commands: &[u8],
+    text: &[u8],
+    options: TracingOptions,
+    kind: u32,
+    positions: u16,
+    here: usize,
+    at: usize,
+    levels: usize,
+    place: usize,
+    count: usize,
+    table: &mut [u32],
+) -> Traced
     requires { ⌜ Ready (now text) (now table) count place ⌝ }
     requires { ⌜ 22 ≤ kind ⌝ }
     ensures { λ r. ⌜ (Out.out r (now (table .exit)) ≡ containerBy (now (commands .entry)) (now (text .entry)) (options .word) levels (innerOf (now (commands .entry)) (now (text .entry)) (options .word) levels) kind positions here at place count (now (table .entry))) × SoundTraced (now (text .entry)) (now (table .exit)) count r ⌝ }
 {
     let before = words::get(table, place, places::KIND);
     match places::meet(options, levels, before, kind) {
-        Met::Kind(joint) => enter(commands, text, options, kind, positions, before, joint, here, at, levels, place, count, table),
+        Met::Kind(joint) => enter(
+            commands,
+            text,
+            options,
+            kind,
+            positions,
+            before,
+            joint,
+            here,
+            at,
+            levels,
+            place,
+            count,
+            table,
+        ),
         Met::Refused(refusal) => Traced::Refused(refusal, here),
     }
 }
 
 // The container is one more sample there, makes its children, and its parts are read.
-fn enter(commands: &[u8], text: &[u8], options: TracingOptions, kind: u32, positions: u16, before: u32, joint: u32, here: usize, at: usize, levels: usize, place: usize, count: usize, table: &mut [u32]) -> Traced
+fn enter(
+    commands: &[u8],
+    text: &[u8],
+    options: TracingOptions,
+    kind: u32,
+    positions: u16,
+    before: u32,
+    joint: u32,
+    here: usize,
+    at: usize,
+    levels: usize,
+    place: usize,
+    count: usize,
+    table: &mut [u32],
+) -> Traced
     requires { ⌜ Ready (now text) (now table) count place ⌝ }
     requires { ⌜ 0 < levels ⌝ }
     ensures { λ r. ⌜ (Out.out r (now (table .exit)) ≡ opened (now (commands .entry)) (now (text .entry)) (innerOf (now (commands .entry)) (now (text .entry)) (options .word) levels) kind positions before joint here at place count (now (table .entry))) × SoundTraced (now (text .entry)) (now (table .exit)) count r ⌝ }
 {
     places::sample(place, joint, table);
     match places::make(text, place, kind, positions, before, count, table) {
-        Made::Places(more) => read_parts(commands, text, options, kind, positions, at, levels - 1, place, more, table),
+        Made::Places(more) => read_parts(
+            commands,
+            text,
+            options,
+            kind,
+            positions,
+            at,
+            levels - 1,
+            place,
+            more,
+            table,
+        ),
         Made::Refused(refusal) => Traced::Refused(refusal, here),
     }
 }
 
 // The parts of a container, one after another. The levels are those left below it.
-fn read_parts(commands: &[u8], text: &[u8], options: TracingOptions, kind: u32, positions: u16, start: usize, levels: usize, place: usize, count: usize, table: &mut [u32]) -> Traced
+fn read_parts(
+    commands: &[u8],
+    text: &[u8],
+    options: TracingOptions,
+    kind: u32,
+    positions: u16,
+    start: usize,
+    levels: usize,
+    place: usize,
+    count: usize,
+    table: &mut [u32],
+) -> Traced
     requires { ⌜ Ready (now text) (now table) count place ⌝ }
     ensures { λ r. ⌜ (Out.out r (now (table .exit)) ≡ partsBy (now (commands .entry)) (now (text .entry)) (readers (now (commands .entry)) (now (text .entry)) (options .word) levels) kind positions place start count (now (table .entry))) × SoundTraced (now (text .entry)) (now (table .exit)) count r ⌝ }
 {
@@ -161,7 +276,18 @@ fn read_parts(commands: &[u8], text: &[u8], options: TracingOptions, kind: u32, 
             Part::Refused(refusal, offset) => {
                 return Traced::Refused(refusal, offset);
             }
-            Part::Step(step, value) => match read_part(commands, text, options, step, at, value, levels, place, places, table) {
+            Part::Step(step, value) => match read_part(
+                commands,
+                text,
+                options,
+                step,
+                at,
+                value,
+                levels,
+                place,
+                places,
+                table,
+            ) {
                 Traced::Next(behind, more) => {
                     at = behind;
                     places = more;
@@ -176,7 +302,18 @@ fn read_parts(commands: &[u8], text: &[u8], options: TracingOptions, kind: u32, 
 }
 
 // The value of a part, at the child that its step leads to.
-fn read_part(commands: &[u8], text: &[u8], options: TracingOptions, step: Step, here: usize, at: usize, levels: usize, place: usize, count: usize, table: &mut [u32]) -> Traced
+fn read_part(
+    commands: &[u8],
+    text: &[u8],
+    options: TracingOptions,
+    step: Step,
+    here: usize,
+    at: usize,
+    levels: usize,
+    place: usize,
+    count: usize,
+    table: &mut [u32],
+) -> Traced
     requires { ⌜ Ready (now text) (now table) count place ⌝ }
     requires { ⌜ Inside (now text) (nameOf step) ⌝ }
     ensures { λ r. ⌜ (Out.out r (now (table .exit)) ≡ partRead (now (text .entry)) (readers (now (commands .entry)) (now (text .entry)) (options .word) levels) step here at place count (now (table .entry))) × SoundTraced (now (text .entry)) (now (table .exit)) count r ⌝ }
@@ -184,14 +321,36 @@ fn read_part(commands: &[u8], text: &[u8], options: TracingOptions, step: Step, 
     match places::ensure(text, place, step, count, table) {
         Ensured::Child(child, more) => {
             places::touch(place, child, table);
-            read_value(commands, text, options, at, lower(levels, step.name(), text), child, more, table)
+            read_value(
+                commands,
+                text,
+                options,
+                at,
+                lower(levels, step.name(), text),
+                child,
+                more,
+                table,
+            )
         }
         Ensured::Refused(refusal) => Traced::Refused(refusal, here),
     }
 }
 
 // A variant, whose command stands at `here` and whose contents start at `at`.
-fn read_variant(commands: &[u8], text: &[u8], options: TracingOptions, number: u16, name: Name, contents: Contents, here: usize, at: usize, levels: usize, place: usize, count: usize, table: &mut [u32]) -> Traced
+fn read_variant(
+    commands: &[u8],
+    text: &[u8],
+    options: TracingOptions,
+    number: u16,
+    name: Name,
+    contents: Contents,
+    here: usize,
+    at: usize,
+    levels: usize,
+    place: usize,
+    count: usize,
+    table: &mut [u32],
+) -> Traced
     requires { ⌜ Ready (now text) (now table) count place ⌝ }
     requires { ⌜ Inside (now text) name ⌝ }
     ensures { λ r. ⌜ (Out.out r (now (table .exit)) ≡ variantBy (now (text .entry)) (options .word) levels (innerOf (now (commands .entry)) (now (text .entry)) (options .word) levels) number name contents here at place count (now (table .entry))) × SoundTraced (now (text .entry)) (now (table .exit)) count r ⌝ }
@@ -200,14 +359,40 @@ fn read_variant(commands: &[u8], text: &[u8], options: TracingOptions, number: u
     match places::meet(options, levels, before, shapes::UNION) {
         Met::Kind(joint) => {
             places::sample(place, joint, table);
-            read_choice(commands, text, options, number, name, contents, here, at, levels - 1, place, count, table)
+            read_choice(
+                commands,
+                text,
+                options,
+                number,
+                name,
+                contents,
+                here,
+                at,
+                levels - 1,
+                place,
+                count,
+                table,
+            )
         }
         Met::Refused(refusal) => Traced::Refused(refusal, here),
     }
 }
 
 // The contents at the variant's place.
-fn read_choice(commands: &[u8], text: &[u8], options: TracingOptions, number: u16, name: Name, contents: Contents, here: usize, at: usize, levels: usize, place: usize, count: usize, table: &mut [u32]) -> Traced
+fn read_choice(
+    commands: &[u8],
+    text: &[u8],
+    options: TracingOptions,
+    number: u16,
+    name: Name,
+    contents: Contents,
+    here: usize,
+    at: usize,
+    levels: usize,
+    place: usize,
+    count: usize,
+    table: &mut [u32],
+) -> Traced
     requires { ⌜ Ready (now text) (now table) count place ⌝ }
     requires { ⌜ Inside (now text) name ⌝ }
     ensures { λ r. ⌜ (Out.out r (now (table .exit)) ≡ chosen (now (text .entry)) (readers (now (commands .entry)) (now (text .entry)) (options .word) levels) number name contents here at place count (now (table .entry))) × SoundTraced (now (text .entry)) (now (table .exit)) count r ⌝ }
@@ -215,27 +400,88 @@ fn read_choice(commands: &[u8], text: &[u8], options: TracingOptions, number: u1
     match places::ensure(text, place, Step::Variant(number, name), count, table) {
         Ensured::Child(child, more) => {
             places::touch(place, child, table);
-            read_contents(commands, text, options, contents, here, at, lower(levels, name, text), child, more, table)
+            read_contents(
+                commands,
+                text,
+                options,
+                contents,
+                here,
+                at,
+                lower(levels, name, text),
+                child,
+                more,
+                table,
+            )
         }
         Ensured::Refused(refusal) => Traced::Refused(refusal, here),
     }
 }
 
 // A variant's contents are as for the plain form, their command being the variant's.
-fn read_contents(commands: &[u8], text: &[u8], options: TracingOptions, contents: Contents, here: usize, at: usize, levels: usize, place: usize, count: usize, table: &mut [u32]) -> Traced
+fn read_contents(
+    commands: &[u8],
+    text: &[u8],
+    options: TracingOptions,
+    contents: Contents,
+    here: usize,
+    at: usize,
+    levels: usize,
+    place: usize,
+    count: usize,
+    table: &mut [u32],
+) -> Traced
     requires { ⌜ Ready (now text) (now table) count place ⌝ }
     ensures { λ r. ⌜ (Out.out r (now (table .exit)) ≡ readers (now (commands .entry)) (now (text .entry)) (options .word) levels 0 contents here at place count (now (table .entry))) × SoundTraced (now (text .entry)) (now (table .exit)) count r ⌝ }
 {
     match contents {
-        Contents::Unit => observe(options, true, shapes::UNKNOWN, levels, here, at, place, count, table),
+        Contents::Unit => observe(
+            options,
+            true,
+            shapes::UNKNOWN,
+            levels,
+            here,
+            at,
+            place,
+            count,
+            table,
+        ),
         Contents::Value => read_value(commands, text, options, at, levels, place, count, table),
-        Contents::Positions(n) => read_container(commands, text, options, shapes::TUPLE, n, here, at, levels, place, count, table),
-        Contents::Fields => read_container(commands, text, options, shapes::STRUCT, 0, here, at, levels, place, count, table),
+        Contents::Positions(n) => read_container(
+            commands,
+            text,
+            options,
+            shapes::TUPLE,
+            n,
+            here,
+            at,
+            levels,
+            place,
+            count,
+            table,
+        ),
+        Contents::Fields => read_container(
+            commands,
+            text,
+            options,
+            shapes::STRUCT,
+            0,
+            here,
+            at,
+            levels,
+            place,
+            count,
+            table,
+        ),
     }
 }
 
 // All records of a batch at the root, which is place 0.
-pub fn from_samples(commands: &[u8], text: &[u8], options: TracingOptions, table: &mut [u32]) -> Traced
+pub fn from_samples(
+    commands: &[u8],
+    text: &[u8],
+    options: TracingOptions,
+    table: &mut [u32],
+) -> Traced
     requires { ⌜ Sound (now text) (now table) 1 ⌝ }
     ensures { λ r. ⌜ (Out.out r (now (table .exit)) ≡ fromSamples (now (commands .entry)) (now (text .entry)) (options .word) (now (table .entry))) × SoundTraced (now (text .entry)) (now (table .exit)) 1 r ⌝ }
 {

@@ -160,6 +160,7 @@ read-variant-below t =
     read-variant-kinds.ps
     (falls 3 read-variant-kinds.ps _<_ μ-read-variant t)
     read-variant.Pre
+
 abbrev enter-claims : ℕ → enter-lts.Claims
 enter-claims t = (sample-reads.Asked, sample-reads.Learnt, make-reads.Asked, make-reads.Learnt, read-parts-below t, read-parts.Post)
 
@@ -183,7 +184,6 @@ read-value-claims t = (past-marks-reads.Asked, past-marks-reads.Learnt, read-com
 
 abbrev read-variant-claims : ℕ → read-variant-lts.Claims
 read-variant-claims t = (get-reads.Asked, get-reads.Learnt, meet-reads.Asked, meet-reads.Learnt, sample-reads.Asked, sample-reads.Learnt, read-choice-below t, read-choice.Post)
-
 
 -- src/lib.rt:141:5
 enter-sample-requires : (t : ℕ) → enter-lts.Need-sample-requires (enter-claims t) (enter-at t) enter.Post
@@ -491,12 +491,13 @@ read-parts-loop-less t c = search (parts-less, needs)
 
 -- src/lib.rt:156:5
 read-parts-loop-again : (t : ℕ) → read-parts-lts.Need-loop-again (read-parts-claims t) (read-parts-at t) read-parts.Post read-parts-Inv-loop read-parts-μ-loop
-read-parts-loop-again t c =
-    (parts-more _ _ _ _ _ _ _ _ _ _ _ _ (c .before .before .before .before .before .before .before .before .before .before .before .loop .inv .0) _ (c .before .before .before .before .before .before .before .before .before .before .next-part .ensures) _ _ (c .before .before .before .before .before .before .before .before .step .given .1) _ _ (c .before .before .before .before .before .read-part .ensures .0) _ _ (c .before .behind2 .given .1),
-    search (traced-ready, needs),
-    le-trans (c .before .before .before .before .before .before .before .before .before .before .before .loop .inv .2) (traced-grows _ _ _ _ (c .before .before .before .before .before .read-part .ensures .1) _ _ (c .before .behind2 .given .1)),
-    parts-counted _ _ _ _ _ _ _ _ _ _ _ _ (c .before .before .before .before .before .before .before .before .before .before .before .loop .inv .0) _ (c .before .before .before .before .before .before .before .before .before .before .next-part .ensures) _ _ (c .before .before .before .before .before .before .before .before .step .given .1) _ _ (c .before .before .before .before .before .read-part .ensures .0) _ _ (c .before .behind2 .given .1) (c .before .before .before .before .before .before .before .before .before .before .before .loop .inv .3),
-    search needs)
+read-parts-loop-again t c = (
+  parts-more _ _ _ _ _ _ _ _ _ _ _ _ (c .before .before .before .before .before .before .before .before .before .before .before .loop .inv .0) _ (c .before .before .before .before .before .before .before .before .before .before .next-part .ensures) _ _ (c .before .before .before .before .before .before .before .before .step .given .1) _ _ (c .before .before .before .before .before .read-part .ensures .0) _ _ (c .before .behind2 .given .1),
+  search (traced-ready, needs),
+  le-trans (c .before .before .before .before .before .before .before .before .before .before .before .loop .inv .2) (traced-grows _ _ _ _ (c .before .before .before .before .before .read-part .ensures .1) _ _ (c .before .behind2 .given .1)),
+  parts-counted _ _ _ _ _ _ _ _ _ _ _ _ (c .before .before .before .before .before .before .before .before .before .before .before .loop .inv .0) _ (c .before .before .before .before .before .before .before .before .before .before .next-part .ensures) _ _ (c .before .before .before .before .before .before .before .before .step .given .1) _ _ (c .before .before .before .before .before .read-part .ensures .0) _ _ (c .before .behind2 .given .1) (c .before .before .before .before .before .before .before .before .before .before .before .loop .inv .3),
+  search needs,
+)
 
 -- src/lib.rt:109:9
 read-value-past-marks-requires : (t : ℕ) → read-value-lts.Need-past-marks-requires (read-value-claims t) (read-value-at t) read-value.Post

@@ -1,0 +1,103 @@
+// Traces each batch of batches.bin, and prints the places that it gives: parent, step, kind, null, samples and held.
+ghost use Prim.Native.Nat.{_+_, _<_, _≤_};
+ghost use lib.ListN.{length};
+use libc::STDOUT_FILENO;
+use options::TracingOptions;
+use samples::Traced;
+
+const WORDS: usize = 16384;
+
+fn print_number(n: u32, after: &[u8]) {
+    io::print_decimal(STDOUT_FILENO, n as u64);
+    io::write_all(STDOUT_FILENO, after);
+}
+
+fn print_place(table: &[u32], place: usize)
+    requires { ⌜ (place < 1024) × (16384 ≤ length (now table)) ⌝ }
+{
+    print_number(words::get(table, place, places::PARENT), b" ");
+    print_number(words::get(table, place, places::STEP), b" ");
+    print_number(words::get(table, place, places::KIND), b" ");
+    print_number(words::get(table, place, places::NULL), b" ");
+    print_number(words::get(table, place, places::SAMPLES), b" ");
+    print_number(words::get(table, place, places::HELD), b"\n");
+}
+
+fn print_places(table: &[u32], count: usize)
+    requires { ⌜ (count ≤ 1024) × (16384 ≤ length (now table)) ⌝ }
+{
+    io::write_all(STDOUT_FILENO, b"places ");
+    io::print_decimal(STDOUT_FILENO, count as u64);
+    io::write_all(STDOUT_FILENO, b"\n");
+    let mut place = 0;
+    while place < count {
+        print_place(table, place);
+        place += 1;
+    }
+}
+
+fn print_refusal(number: u8, place: usize) {
+    io::write_all(STDOUT_FILENO, b"refused ");
+    print_number(number as u32, b" ");
+    io::print_decimal(STDOUT_FILENO, place as u64);
+    io::write_all(STDOUT_FILENO, b"\n");
+}
+
+fn trace(options: u16, commands: &[u8], text: &[u8], table: &mut [u32])
+    requires { ⌜ 16384 ≤ length (now table) ⌝ }
+{
+    words::clear(table, WORDS);
+    match samples::from_samples(commands, text, TracingOptions::new(options), table) {
+        Traced::Next(_, count) => {
+            print_places(table, count);
+        }
+        Traced::Refused(refusal, place) => {
+            print_refusal(refusal.number(), place);
+        }
+    }
+}
+
+fn wide(byte: u8) -> usize
+    ensures { λ r. ⌜ r < 256 ⌝ }
+{
+    byte as usize
+}
+
+// Two bytes, low byte first.
+fn two_bytes(batches: &[u8], at: usize) -> usize
+    requires { ⌜ at + 1 < length (now batches) ⌝ }
+    ensures { λ r. ⌜ r < 65536 ⌝ }
+{
+    wide(batches[at]) + wide(batches[at + 1]) * 256
+}
+
+// A batch is the options word, the lengths of commands and text, and both. One that is cut off is the last.
+fn trace_all(batches: &[u8], table: &mut [u32])
+    requires { ⌜ 16384 ≤ length (now table) ⌝ }
+{
+    let mut at = 0;
+    while batches.len() - at >= 6 {
+        let options = two_bytes(batches, at) as u16;
+        let commands = two_bytes(batches, at + 2);
+        let text = two_bytes(batches, at + 4);
+        let start = at + 6;
+        if batches.len() - start < commands + text {
+            return;
+        }
+        let middle = start + commands;
+        at = middle + text;
+        trace(
+            options,
+            &batches[start..middle],
+            &batches[middle..at],
+            table,
+        );
+    }
+}
+
+fn main() {
+    let mut buffer = [0u8; 65536];
+    let mut table = [0u32; 16384];
+    let n = replay::load(b"batches.bin", &mut buffer);
+    trace_all(&buffer[..n], &mut table);
+}
