@@ -321,16 +321,8 @@ fn read_part(
     match places::ensure(text, place, step, count, table) {
         Ensured::Child(child, more) => {
             places::touch(place, child, table);
-            read_value(
-                commands,
-                text,
-                options,
-                at,
-                lower(levels, step.name(), text),
-                child,
-                more,
-                table,
-            )
+            let below = lower(levels, step.name(), text);
+            read_value(commands, text, options, at, below, child, more, table)
         }
         Ensured::Refused(refusal) => Traced::Refused(refusal, here),
     }
@@ -400,6 +392,7 @@ fn read_choice(
     match places::ensure(text, place, Step::Variant(number, name), count, table) {
         Ensured::Child(child, more) => {
             places::touch(place, child, table);
+            let below = lower(levels, name, text);
             read_contents(
                 commands,
                 text,
@@ -407,7 +400,7 @@ fn read_choice(
                 contents,
                 here,
                 at,
-                lower(levels, name, text),
+                below,
                 child,
                 more,
                 table,
