@@ -1,3 +1,4 @@
 pub mod Layout
 pub mod Flat
 pub mod Laws
+pub mod Tail

@@ -3,3 +3,4 @@ pub mod Onward
 pub mod Ways
 pub mod Loops
 pub mod Table
+pub mod Tail

@@ -14,3 +14,7 @@ withWord table place field value = set table (place * 16 + field) value
 -- the table with its first words zero, and the others as they were
 unfoldable pub cleared : List ℕ → ℕ → List ℕ
 cleared table count = replicate count 0 ++ drop count table
+
+-- the words past those of all places
+abbrev pub tailOf : List ℕ → List ℕ
+tailOf table = drop 16384 table
