@@ -1,0 +1,54 @@
+-- `put_field` writes the name, and the record of a dictionary or of the kind.
+use borrow.Author.Needs.{needs}
+use mathlib.Core.Path.{_≡_, sym, _∙_}
+use mathlib.Core.Bool.{Bool, true, false}
+use mathlib.Core.List.{List}
+use Prim.Native.Nat.{ℕ, _%_}
+use lib.ListN.{length}
+use Rattle.logic.specs.Test.{if_then_else_}
+use Rattle.datatype.specs.declared.DataType.{DataType}
+use Rattle.datatype.specs.Codes.{codeOf, noStrategy}
+use Rattle.options.specs.Word.{dictionaryType}
+use Rattle.words.specs.Word.{word}
+use Rattle.model.specs.Emission.{typeOf, strategyOf}
+use Rattle.places.specs.Layout.{kindWord}
+use Rattle.walk.specs.Order.{childName}
+use Rattle.schema.specs.Put.{put, putBytes, recordOf}
+use Rattle.schema.specs.Emit.{writing, both, isDictionary, fieldCount, fieldAt}
+use Rattle.schema.proofs.put_field.Statement.{statement}
+use Rattle.schema.proofs.put_field.Tie as tie
+
+module _ (options : ℕ) (text t : List ℕ) (place : ℕ) (nullable : Bool) (number i j next named size : ℕ) (fields names records bytes : List ℕ)
+    (is : Bool) (d : is ≡ isDictionary options text t place) (l : size ≡ length (childName text t place)) (q : put named bytes ≡ putBytes (childName text t place) names j) where
+  of-dictionary : (type : DataType) (code : ℕ) → is ≡ true → codeOf type ≡ dictionaryType options → code ≡ codeOf type → put next records ≡ putBytes (recordOf code nullable noStrategy number size 0) fields i →
+      writing next named records bytes ≡ fieldAt options text t place nullable number (writing i j fields names)
+  unfolding fieldAt both if_then_else_
+  of-dictionary type code p e f r = rw (sym d ∙ p, ← l, ← (f ∙ e), ← r, ← q)
+
+  of-kind : (kind code strategy count : ℕ) → is ≡ false → kind ≡ word t place kindWord → code ≡ typeOf options kind % 256 → strategy ≡ strategyOf kind → count ≡ fieldCount text t kind place →
+      put next records ≡ putBytes (recordOf code nullable strategy number size count) fields i →
+      writing next named records bytes ≡ fieldAt options text t place nullable number (writing i j fields names)
+  unfolding fieldAt both if_then_else_
+  of-kind kind code strategy count p k e s n r = rw (sym d ∙ p, ← k, ← l, ← e, ← s, ← n, ← r, ← q)
+
+pub put-field-spec : {M : Type 1} → statement M
+put-field-spec =
+    tie.close
+    (tie.spec
+    (λ c κs. search needs)
+    (λ c κs. search needs)
+    (λ c κs. search needs)
+    (λ c κs. search needs)
+    (λ c κs. search needs)
+    (λ c κs. search needs)
+    (λ c κs. search needs)
+    (λ c. search needs)
+    (λ c. search needs)
+    (λ c. (search (of-dictionary, needs), search needs, search needs))
+    (λ c κs. search needs)
+    (λ c κs. search needs)
+    (λ c κs. search needs)
+    (λ c κs. search needs)
+    (λ c. search needs)
+    (λ c. search needs)
+    (λ c. (search (of-kind, needs), search needs, search needs)))

@@ -1,0 +1,138 @@
+-- The second walk: what it writes; and the schema, with refusals 15 to 18.
+use mathlib.Core.Bool.{Bool, true, false, not, _&&_, _||_}
+use mathlib.Core.List.{List, [], _∷_}
+use Prim.Native.Nat.{ℕ, zero, suc, _*_, _%_, _≤_}
+use lib.Dec.{eqb, ltb}
+use lib.ListN.{length}
+use Rattle.logic.specs.Test.{if_then_else_}
+use Rattle.datatype.specs.Codes.{null, struct, noStrategy}
+use Rattle.options.specs.Word.{enumsWithoutDataAsStrings, dictionaryType}
+use Rattle.refusal.specs.declared.Refusal.the-variants as F
+use Rattle.words.specs.Word.{word}
+use Rattle.model.specs.Kinds.{mapKind, unionKind, tupleKind, isContainer, isStruct}
+use Rattle.model.specs.Emission.{typeOf, strategyOf, entriesName}
+use Rattle.places.specs.Layout.{kindWord, nullWord, samplesWord, heldWord}
+use Rattle.walk.specs.declared.Walked.{Walked}
+use Rattle.walk.specs.declared.Walked.the-variants as W
+use Rattle.schema.specs.declared.Emitted.{Emitted}
+use Rattle.schema.specs.declared.Emitted.the-variants as E
+use Rattle.walk.specs.Order.{variantAt, childName, nextChild, datalessAt, childLimit}
+use Rattle.walk.specs.Walk.{sumOf, gapsAt, walked}
+use Rattle.schema.specs.Put.{Put, put, putBytes, recordOf, putGaps}
+
+-- how many fields with a child: of a union the slots up to its own
+abbrev pub countWith : ℕ → List ℕ → ℕ → ℕ → ℕ
+countWith kind t child count = if eqb kind unionKind then sumOf (variantAt t child) 1 else sumOf count 1
+
+-- how many fields a place's field has
+unfoldable pub countFrom : List ℕ → List ℕ → ℕ → ℕ → ℕ → ℕ → ℕ → ℕ
+countFrom text t kind place zero count child = count
+countFrom text t kind place (suc left) count child =
+    elim (eqb child 0) [
+      | true ↦ count
+      | false ↦ countFrom text t kind place left (countWith kind t child count) (nextChild text t false kind place child)
+    ]
+
+unfoldable pub fieldCount : List ℕ → List ℕ → ℕ → ℕ → ℕ
+fieldCount text t kind place = if eqb kind mapKind then 1 else countFrom text t kind place childLimit 0 (nextChild text t false kind place 0)
+
+abbrev pub lackingAt : List ℕ → ℕ → ℕ → ℕ → Bool
+lackingAt t kind place child = isStruct kind && ltb (word t child heldWord) (word t place samplesWord)
+
+abbrev pub isDictionary : ℕ → List ℕ → List ℕ → ℕ → Bool
+isDictionary options text t place = eqb (word t place kindWord) unionKind && enumsWithoutDataAsStrings options && datalessAt text t place
+
+-- where the next record and the next name go, and both buffers
+pub data Writing : Type 0 where
+  writing : (i j : ℕ) → (fields names : List ℕ) → Writing
+
+-- they go inside
+abbrev pub Fits : Writing → Type 0
+Fits (writing i j fields names) = (i ≤ length fields) × (j ≤ length names)
+
+abbrev pub asWriting : Put → Put → Writing
+asWriting (put i fields) (put j names) = writing i j fields names
+
+-- a record and a name
+unfoldable pub both : List ℕ → List ℕ → Writing → Writing
+both bytes name (writing i j fields names) = asWriting (putBytes bytes fields i) (putBytes name names j)
+
+unfoldable pub gapsIn : ℕ → ℕ → Writing → Writing
+gapsIn slot count (writing i j fields names) = asWriting (putGaps slot 0 count (put i fields)) (put j names)
+
+-- a map's entries
+unfoldable pub entriesIn : ℕ → Writing → Writing
+entriesIn kind w = if eqb kind mapKind then both (recordOf struct false noStrategy 0 (length entriesName) 2) entriesName w else w
+
+-- the record and the name of a place, with nothing below it
+unfoldable pub fieldAt : ℕ → List ℕ → List ℕ → ℕ → Bool → ℕ → Writing → Writing
+fieldAt options text t place nullable number w =
+    if isDictionary options text t place then both (recordOf (dictionaryType options) nullable noStrategy number (length (childName text t place)) 0) (childName text t place) w
+    else both
+    (recordOf (typeOf options (word t place kindWord) % 256) nullable (strategyOf (word t place kindWord)) number (length (childName text t place)) (fieldCount text t (word t place kindWord) place))
+    (childName text t place) w
+
+-- whether nothing is emitted below a place
+unfoldable pub isLeaf : ℕ → List ℕ → List ℕ → Bool → ℕ → Bool
+isLeaf options text t flat place = not (isContainer (word t place kindWord)) || flat || isDictionary options text t place
+
+-- a writer of the field of a place, which a sample lacks or not, with a variant number
+abbrev pub Writer : Type 0
+Writer = ℕ → Bool → ℕ → Writing → Writing
+
+-- a child, after the slots of a union never seen
+unfoldable pub childIn : List ℕ → Writer → ℕ → ℕ → ℕ → ℕ → Writing → Writing
+childIn t inner kind place slot child w = inner child (lackingAt t kind place child) (variantAt t child % 256) (gapsIn slot (gapsAt kind t slot child) w)
+
+-- the fields below a place, from a child on
+unfoldable pub fieldsFrom : List ℕ → List ℕ → Writer → ℕ → ℕ → ℕ → ℕ → ℕ → Writing → Writing
+fieldsFrom text t inner kind place zero slot child w = w
+fieldsFrom text t inner kind place (suc left) slot child w =
+    elim (eqb child 0) [
+      | true ↦ w
+      | false ↦ fieldsFrom text t inner kind place left (sumOf (variantAt t child) 1) (nextChild text t true kind place child) (childIn t inner kind place slot child w)
+    ]
+
+abbrev pub fieldsBelow : List ℕ → List ℕ → Writer → ℕ → ℕ → Writing → Writing
+fieldsBelow text t inner kind place w = fieldsFrom text t inner kind place childLimit 0 (nextChild text t true kind place 0) (entriesIn kind w)
+
+unfoldable pub emittedBy : ℕ → List ℕ → List ℕ → Bool → (ℕ → ℕ → Writing → Writing) → Writer
+emittedBy options text t flat inner place lacking number w =
+    let own = fieldAt options text t place (lacking || eqb (word t place nullWord) 1) number w in
+    if isLeaf options text t flat place then own else inner (word t place kindWord) place own
+
+-- with so many levels left
+unfoldable pub emittedAt : ℕ → List ℕ → List ℕ → ℕ → Writer
+emittedAt options text t zero = emittedBy options text t true (λ kind place w. w)
+emittedAt options text t (suc levels) = emittedBy options text t false (fieldsBelow text t (emittedAt options text t levels))
+
+-- ---- the schema of what was traced, whose root is place 0
+-- more levels than the tree is deep: a place's number is above its parent's
+abbrev pub levelLimit : ℕ
+levelLimit = 1024
+
+abbrev pub isStructRoot : ℕ → Bool
+isStructRoot kind = isStruct kind || eqb kind tupleKind
+
+-- what is answered, and both buffers then
+pub data Answered : Type 0 where
+  answered : Emitted → List ℕ → List ℕ → Answered
+
+abbrev pub asAnswered : Emitted → Writing → Answered
+asAnswered e (writing i j fields names) = answered e fields names
+
+unfoldable pub finished : ℕ → List ℕ → List ℕ → List ℕ → List ℕ → ℕ → ℕ → ℕ → Answered
+finished options text t fields names records bytes below =
+    if eqb (word t 0 nullWord) 1 then answered (E.Refused F.NullableRoot) fields names
+    else if eqb (word t 0 kindWord) null then answered (E.Refused F.NullRoot) fields names
+    else if not (isStructRoot (word t 0 kindWord)) then answered (E.Refused F.RootNotStruct) fields names
+    else if ltb (length fields) (records * 8) || ltb (length names) bytes then answered (E.Refused F.ShortBuffer) fields names
+    else asAnswered (E.Schema records bytes below)
+    (fieldsBelow text t (emittedAt options text t levelLimit) (word t 0 kindWord) 0 (writing 0 0 fields names))
+
+abbrev pub onWalked : (ℕ → ℕ → ℕ → Answered) → List ℕ → List ℕ → Walked → Answered
+onWalked k fields names (W.Refused refusal) = answered (E.Refused refusal) fields names
+onWalked k fields names (W.Below records bytes below) = k records bytes below
+
+unfoldable pub toSchemaAt : ℕ → List ℕ → List ℕ → List ℕ → List ℕ → Answered
+toSchemaAt options text t fields names = onWalked (finished options text t fields names) fields names (walked options text t levelLimit 0)
