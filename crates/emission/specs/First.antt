@@ -1,39 +1,38 @@
 -- The first walk over the words gives the model's refusal, or the model's counts.
 use Prim.{Unit, tt}
-use mathlib.Core.Path.{_≡_, refl, sym, ap, ap₂, _∙_}
-use mathlib.Core.Bool.{Bool, true, false, not, _&&_, _||_, false≢true}
-use mathlib.Core.List.{List, [], _∷_, _++_}
+use mathlib.Core.Path.{_≡_, refl, sym, ap, _∙_}
+use mathlib.Core.Bool.{Bool, true, false, _&&_, _||_}
+use mathlib.Core.List.{List, [], _++_}
 use mathlib.Core.Option.{Option, none, some}
-use Prim.Native.Nat.{ℕ, zero, suc, _+_, _-_, _*_, _%_, _^_, _≤_, _<_}
+use Prim.Native.Nat.{ℕ, zero, suc, _+_, _-_, _^_, _≤_, _<_}
 use native.Mathlib.Nat.{zero-add}
 use native.Mathlib.Omega.{arith}
-use lib.Dec.{eqb, ltb, leb}
+use lib.Dec.{eqb}
 use lib.ListN.{length, length-append}
-use borrow.Author.Tests.{leb-true, leb-false, eqb-true, eq-eqb, ne-eqb}
-use Rattle.logic.specs.Test.{if_then_else_, cases, both}
+use borrow.Author.Tests.{leb-true, leb-false, eqb-true, ne-eqb}
+use Rattle.logic.specs.Test.{if_then_else_, cases}
 use Rattle.datatype.specs.Codes.{null, struct, noStrategy}
 use Rattle.options.specs.Word.{allowNullFields, enumsWithoutDataAsStrings}
-use Rattle.refusal.specs.declared.Refusal.{Refusal}
 use Rattle.refusal.specs.declared.Refusal.the-variants as F
 use Rattle.refusal.specs.Number.{numberOf}
 use Rattle.words.specs.Word.{word}
 use Rattle.model.specs.Kinds.{sequenceKind, unionKind, mapKind, mapModeKind, isContainer, Step, variantOf}
 use Rattle.model.specs.Tracing.{placeLimit}
-use Rattle.model.specs.Emission.{Place, shown, Places, none-below, below, byNumber, placeOf, placesOf, isMissing, isDataless, dataless, firstOf, walk, walks, Field, mk, Fields, no-fields, more, nameIn, nameOf, entriesName, byName, gaps, arranged, fieldOf, fieldsOf, childCount, namesOf, namesIn, columnsOf, columnsIn, countOf, countIn}
+use Rattle.model.specs.Emission.{shown, byNumber, placeOf, placesOf, isMissing, isDataless, dataless, walk, walks, Field, mk, Fields, no-fields, more, nameOf, entriesName, byName, gaps, arranged, fieldOf, fieldsOf, childCount, namesOf, namesIn, columnsOf, columnsIn, countOf, countIn}
 use Rattle.model.specs.Emission as Model
 use Rattle.places.specs.Layout.{kindWord}
-use Rattle.refine.specs.Spots.{Spot, spot, Spots, no-spots, child, num, kindS, belowS}
+use Rattle.refine.specs.Spots.{Spot, spot, Spots, no-spots, child, num, kindS}
 use Rattle.refine.specs.Numbers.{Good, GoodIn}
-use Rattle.refine.specs.Rep.{Cell, Rep, RepIn}
+use Rattle.refine.specs.Rep.{Rep, RepIn}
 use Rattle.refine.specs.Erase.{erase, eraseIn}
 use Rattle.walk.specs.declared.Walked.{Walked}
 use Rattle.walk.specs.declared.Walked.the-variants as W
-use Rattle.walk.specs.Order.{variantAt, childName, nextChild, nearest, onward, datalessAt, childLimit}
+use Rattle.walk.specs.Order.{variantAt, nextChild, nearest, onward, datalessAt}
 use Rattle.walk.specs.Order as Order
 use Rattle.walk.specs.Walk.{childrenBelow, walkedBy, walked}
-use Rattle.emission.specs.Arranged.{byNumberS, orderS, Enumerates, Orders, OrdersIn, FitS, FitIn}
-use Rattle.emission.specs.FirstSums.{sorted-count, sorted-columns, sorted-names}
-use Rattle.emission.specs.FirstPlaces.{sizeS, sizeIn, manyS, size-some, many-few, places-few, AllS, number-places, number-all, number-size, variant-small, child-variant, child-name, name-short}
+use Rattle.emission.specs.Arranged.{orderS, Enumerates, Orders, OrdersIn, FitS, FitIn}
+use Rattle.emission.specs.FirstSums.{sorted-count, sorted-columns, sorted-names, columns-few}
+use Rattle.emission.specs.FirstPlaces.{sizeS, sizeIn, manyS, many-few, places-few, AllS, number-places, number-all, number-size, variant-small, child-variant, child-name, name-short}
 use Rattle.emission.specs.FirstChildren.{fieldsOfField, Says, turned, told, Child, kids-say}
 
 -- A place that is no container has none below it, and a map has some.
@@ -251,3 +250,17 @@ pub first-walk : (options : ℕ) (text t : List ℕ) (n : ℕ) (u : Spot) (missi
     → WalkSays (walked options text t levels (num u)) (walk options (placeOf missing (erase u))) (fieldsOfField (fieldOf options name number (placeOf missing (erase u))))
 first-walk options text t n u missing name number levels l g r f e s i =
     walk-says (walk options (placeOf missing (erase u))) (fieldsOfField (fieldOf options name number (placeOf missing (erase u)))) (sizeS u) (place-says options text t n u missing name number levels l g r f e s i)
+
+-- and where nothing is refused, no count comes near 32 bits
+says-few : (o : Option ℕ) (fs : Fields) (size : ℕ) {w : Walked} → size ≤ placeLimit → o ≡ none → Says o 0 0 0 fs 129 69993 size w → (countIn fs < 2 ^ 18) × (length (namesIn fs) < 2 ^ 27) × (columnsIn fs < 2 ^ 18)
+says-few o fs size l e (turned d) = let z : _≡_ {A = ℕ} 0 1 = cc in absurd (omega arith)
+says-few o fs size l e (told d er en ec br bn) = (omega arith, omega arith, omega (arith, columns-few fs))
+
+pub first-few : (options : ℕ) (text t : List ℕ) (n : ℕ) (u : Spot) (missing : Bool) (name : List ℕ) (number : ℕ) → n ≤ placeLimit → Good n u → Rep text t u → FitS u → Orders text t u → Sane u
+    → walk options (placeOf missing (erase u)) ≡ none
+    → (countIn (fieldsOfField (fieldOf options name number (placeOf missing (erase u)))) < 2 ^ 18)
+    × (length (namesIn (fieldsOfField (fieldOf options name number (placeOf missing (erase u))))) < 2 ^ 27)
+    × (columnsIn (fieldsOfField (fieldOf options name number (placeOf missing (erase u)))) < 2 ^ 18)
+first-few options text t n u missing name number l g r f e s z =
+    says-few (walk options (placeOf missing (erase u))) (fieldsOfField (fieldOf options name number (placeOf missing (erase u)))) (sizeS u) (omega (arith, places-few n u g)) z
+    (place-says options text t n u missing name number n l g r f e s (omega arith))

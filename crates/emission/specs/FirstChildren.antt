@@ -1,37 +1,34 @@
 -- The first walk over a place's children, once each child is walked as the model says.
-use Prim.{Unit, tt}
 use mathlib.Core.Path.{_≡_, refl, sym, ap, ap₂, _∙_}
-use mathlib.Core.Bool.{Bool, true, false, _&&_, _||_, false≢true}
-use mathlib.Core.List.{List, [], _∷_, _++_}
+use mathlib.Core.Bool.{Bool, true, false, _&&_}
+use mathlib.Core.List.{List}
 use mathlib.Core.Option.{Option, none, some}
-use Prim.Native.Nat.{ℕ, zero, suc, _+_, _-_, _*_, _%_, _^_, _≤_, _<_}
+use Prim.Native.Nat.{ℕ, zero, suc, _+_, _-_, _*_, _^_, _≤_, _<_}
 use native.Mathlib.Nat.{zero-add}
 use native.Mathlib.Omega.{arith}
-use lib.Dec.{eqb, ltb, leb}
+use lib.Dec.{eqb, leb}
 use lib.ListN.{length, length-append}
-use borrow.Author.Tests.{leb-true, leb-false, eqb-true, eq-eqb, ne-eqb}
-use Rattle.logic.specs.Test.{if_then_else_, cases, both}
-use Rattle.datatype.specs.Codes.{null}
+use borrow.Author.Tests.{leb-false, ne-eqb}
+use Rattle.logic.specs.Test.{if_then_else_, cases}
 use Rattle.options.specs.Word.{enumsWithoutDataAsStrings}
 use Rattle.refusal.specs.declared.Refusal.{Refusal}
 use Rattle.refusal.specs.declared.Refusal.the-variants as F
 use Rattle.refusal.specs.Number.{numberOf}
 use Rattle.words.specs.Word.{word}
-use Rattle.model.specs.Kinds.{unionKind, mapKind, Step, variantOf}
-use Rattle.model.specs.Emission.{Place, shown, Places, placeOf, placesOf, isMissing, isDataless, firstOf, walk, walks, Field, mk, Fields, no-fields, more, nameIn, nameOf, gaps, fieldOf, fieldsOf, childCount, namesOf, namesIn, columnsOf, columnsIn, countOf, countIn}
+use Rattle.model.specs.Kinds.{unionKind, Step, variantOf}
+use Rattle.model.specs.Emission.{Place, shown, placeOf, placesOf, isMissing, firstOf, walk, walks, Field, mk, Fields, more, nameIn, nameOf, gaps, fieldOf, fieldsOf, namesOf, namesIn, columnsOf, columnsIn, countOf, countIn}
 use Rattle.model.specs.Emission as Model
 use Rattle.places.specs.Layout.{kindWord}
-use Rattle.refine.specs.Spots.{Spot, spot, Spots, no-spots, child, num, kindS}
+use Rattle.refine.specs.Spots.{Spot, Spots, no-spots, child, num, kindS}
 use Rattle.refine.specs.Erase.{erase, eraseIn}
 use Rattle.walk.specs.declared.Walked.{Walked}
 use Rattle.walk.specs.declared.Walked.the-variants as W
-use Rattle.walk.specs.Order.{variantAt, childName, nextChild, nearest, onward, childLimit}
-use Rattle.walk.specs.Order as Order
+use Rattle.walk.specs.Order.{variantAt, childName, nextChild, onward}
 use Rattle.walk.specs.Walk.{sumOf, gapsAt, slotBehind, isBeyond, recordsWith, namesWith, columnsWith, withChild, childrenFrom}
 use Rattle.walk.specs.Walk as Flat
 use Rattle.emission.specs.Arranged.{Enumerates}
-use Rattle.emission.specs.FirstSums.{gaps-count, gaps-columns, gaps-names, columns-are, columns-few, column-few}
-use Rattle.emission.specs.FirstPlaces.{sizeS, sizeIn, manyS, size-some, AllS}
+use Rattle.emission.specs.FirstSums.{gaps-count, gaps-columns, gaps-names, columns-are, column-few}
+use Rattle.emission.specs.FirstPlaces.{sizeS, sizeIn, manyS, AllS}
 
 -- the children of a field
 abbrev pub fieldsOfField : Field → Fields

@@ -1,20 +1,19 @@
 -- How many places a numbered tree has, its children by number, and what a child's words say of it.
 use Prim.{Unit, tt}
-use mathlib.Core.Path.{_≡_, refl, sym, ap, ap₂, _∙_}
+use mathlib.Core.Path.{_≡_, refl, sym, ap, _∙_}
 use mathlib.Core.Bool.{Bool, true, false, _||_, false≢true}
-use mathlib.Core.List.{List, [], _∷_, _++_}
-use Prim.Native.Nat.{ℕ, zero, suc, _+_, _-_, _*_, _/_, _%_, _^_, _≤_, _<_}
+use mathlib.Core.List.{List}
+use Prim.Native.Nat.{ℕ, zero, suc, _+_, _-_, _*_, _/_, _%_, _≤_, _<_}
 use native.Mathlib.Omega.{arith}
-use lib.Dec.{eqb, ltb, leb}
-use lib.ListN.{length, take, drop, length-append, length-take}
-use borrow.Author.Tests.{ltb-true, eqb-true, eqb-false, eq-eqb, ne-eqb, lt-ltb, le-ltb}
+use lib.Dec.{eqb, ltb}
+use lib.ListN.{length, length-append, length-take}
+use borrow.Author.Tests.{ltb-true, eqb-true, eqb-false, eq-eqb, ne-eqb, le-ltb}
 use Rattle.logic.specs.Test.{if_then_else_, cases}
 use Rattle.text.specs.Name.{bytesOf}
 use Rattle.text.specs.Decimal.{numeral, decimal}
-use Rattle.words.specs.Word.{word}
-use Rattle.model.specs.Kinds.{unionKind, mapModeKind, isStruct, Step, field, element, position, key, value, variant, variantOf}
+use Rattle.model.specs.Kinds.{unionKind, isStruct, Step, field, element, position, key, value, variant, variantOf}
 use Rattle.model.specs.Tracing.{one}
-use Rattle.model.specs.Emission.{Place, shown, Places, none-below, below, insertVariant, byNumber, isMissing, placeOf, placesOf, nameOf}
+use Rattle.model.specs.Emission.{insertVariant, byNumber, isMissing, placeOf, placesOf, nameOf}
 use Rattle.shapes.specs.Steps.{unpackedName}
 use Rattle.refine.specs.Spots.{Spot, spot, Spots, no-spots, child, num}
 use Rattle.refine.specs.Steps.{stepCodeOf}
@@ -22,7 +21,7 @@ use Rattle.refine.specs.Numbers.{within, withinIn, Good, GoodIn, or-right}
 use Rattle.refine.specs.Rep.{Cell}
 use Rattle.refine.specs.Erase.{erase, eraseIn}
 use Rattle.walk.specs.Order.{variantAt, childName, variantCode}
-use Rattle.emission.specs.Arranged.{insertNumberS, byNumberS, orderS, stepFits}
+use Rattle.emission.specs.Arranged.{insertNumberS, byNumberS, stepFits}
 
 -- ---- how many places a tree has, and how many children a place
 abbrev mutual

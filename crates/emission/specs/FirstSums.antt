@@ -1,7 +1,7 @@
 -- Counts of fields: what sorting, gaps and a field's children add to them.
 use mathlib.Core.Path.{_≡_, refl, sym, ap, _∙_}
 use mathlib.Core.Bool.{Bool, true, false}
-use mathlib.Core.List.{List, [], _∷_, _++_}
+use mathlib.Core.List.{List}
 use Prim.Native.Nat.{ℕ, zero, suc, _+_, _≤_}
 use native.Mathlib.Omega.{arith}
 use lib.Dec.{eqb}
@@ -89,9 +89,3 @@ mutual
   pub columns-few : (fs : Fields) → columnsIn fs ≤ countIn fs
   columns-few no-fields = omega arith
   columns-few (more f fs) = omega (arith, column-few f, columns-few fs)
-
--- some field, some record
-pub some-count : (fs : Fields) → eqb (countIn fs) 0 ≡ eqb (childCount fs) 0
-unfolding countOf
-some-count no-fields = refl
-some-count (more (mk a b c d e gs) fs) = ne-eqb (suc (countIn gs) + countIn fs) 0 (omega arith) ∙ sym (ne-eqb (suc (childCount fs)) 0 (omega arith))

@@ -5,3 +5,4 @@ pub mod FirstSums
 pub mod FirstPlaces
 pub mod FirstChildren
 pub mod First
+pub mod FirstSane
