@@ -6,3 +6,9 @@ pub mod FirstPlaces
 pub mod FirstChildren
 pub mod First
 pub mod FirstSane
+pub mod SecondWords
+pub mod SecondPut
+pub mod Second
+pub mod SecondNeat
+pub mod SecondRoot
+pub mod Refinement

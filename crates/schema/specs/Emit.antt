@@ -1,6 +1,6 @@
 -- The second walk: what it writes; and the schema, with refusals 15 to 18.
 use mathlib.Core.Bool.{Bool, true, false, not, _&&_, _||_}
-use mathlib.Core.List.{List, [], _∷_}
+use mathlib.Core.List.{List}
 use Prim.Native.Nat.{ℕ, zero, suc, _*_, _%_, _≤_}
 use lib.Dec.{eqb, ltb}
 use lib.ListN.{length}
