@@ -202,8 +202,8 @@ mutual
       bind-holds (Filled h (x .what)) Sane (walkParts options depth (sampleOf h m) ps (x .places) (x .what)) _ (parts-sane options depth (sampleOf h m) h ps (x .places) (x .what) b (o .0 .0)) (λ q f. (
         (λ c. let z = d .0 c in f .1 (z .1) ∙ o .1 .1 (z .1) ∙ s .0 (z .0)),
         (λ c. or-cases (eqb k mapKind) (eqb h mapKind) (d .1 c)
-        (λ y. omega (arith, s .1 y, o .0 .1, f .0 .1))
-        (λ y. omega (arith, o .1 .0 y, f .0 .1))),
+            (λ y. omega (arith, s .1 y, o .0 .1, f .0 .1))
+            (λ y. omega (arith, o .1 .0 y, f .0 .1))),
         f .0 .0,
       ))))
 

@@ -77,7 +77,7 @@ module _ (options end : ℕ) (text t fields names : List ℕ) (n : ℕ) (u : Spo
       go (walked options text t levelLimit 0)
       (rw root at (first-walk options text t n u false rootName 0 levelLimit (fits .most) (fits .good) (fits .rep) fit (orders text t n u (fits .most) (fits .good) (fits .rep) fit) sane (omega (arith, fits .most))))
     where
-      go : (w : Walked) → WalkSays w (walk options (placeOf false (erase u))) fs → Emits fields names (elim (walk options (placeOf false (erase u))) [ | some refusal ↦ refused refusal end | none ↦ rootFields end (fieldOf options rootName 0 (placeOf false (erase u))) ]) (onWalked (finished options text t fields names) fields names w)
+      go : (w : Walked) → WalkSays w (walk options (placeOf false (erase u))) fs → Emits fields names (elim (walk options (placeOf false (erase u))) [ some refusal ↦ refused refusal end | none ↦ rootFields end (fieldOf options rootName 0 (placeOf false (erase u))) ]) (onWalked (finished options text t fields names) fields names w)
       go (W.Refused refusal) e = rw e (refusal, refl, refl)
       go (W.Below records bytes columns) (e, r, b, c) =
           rw e (counts-are records bytes columns _ _ refl r b c
