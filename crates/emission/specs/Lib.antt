@@ -5,7 +5,6 @@ pub mod FirstSums
 pub mod FirstPlaces
 pub mod FirstChildren
 pub mod First
-pub mod FirstSane
 pub mod SecondWords
 pub mod SecondPut
 pub mod Second

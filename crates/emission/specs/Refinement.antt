@@ -1,5 +1,6 @@
 -- Emission over the words of the table is the model's: the same refusal, both buffers untouched, or the model's counts, records and names,
 -- what stands past them untouched.
+use Prim.{Unit, tt}
 use mathlib.Core.Path.{_≡_, refl, sym, ap, _∙_}
 use mathlib.Core.Bool.{Bool, true, false}
 use mathlib.Core.List.{List}
@@ -20,7 +21,7 @@ use Rattle.model.specs.Emission.{placeOf, walk, Field, mk, Fields, fieldOf, roo
 use Rattle.model.specs.Answer.{tableWords, inputLimit, Batch, schemaOf}
 use Rattle.samples.specs.declared.Traced.the-variants as T
 use Rattle.samples.specs.Flat.{out, fromSamples}
-use Rattle.refine.specs.Spots.{Spot, newSpot, num, walkAll}
+use Rattle.refine.specs.Spots.{Spot, spot, Spots, no-spots, child, newSpot, num, walkAll}
 use Rattle.refine.specs.Commands.{Bytes}
 use Rattle.refine.specs.Rep.{Fits}
 use Rattle.refine.specs.Erase.{erase, erased, walk-is-model}
@@ -33,10 +34,10 @@ use Rattle.schema.specs.Emit.{Answered, answered, levelLimit, finished, onWalke
 use Rattle.emission.specs.Arranged.{FitS}
 use Rattle.emission.specs.Order.{orders}
 use Rattle.emission.specs.Fit.{fit}
+use Rattle.emission.specs.FirstPlaces.{manyS}
 use Rattle.emission.specs.FirstChildren.{fieldsOfField}
-use Rattle.emission.specs.First.{Sane, WalkSays, first-walk}
-use Rattle.emission.specs.FirstSane.{tree-sane}
-use Rattle.emission.specs.SecondWords.{Neat}
+use Rattle.emission.specs.First.{Sane, SaneIn, WalkSays, first-walk}
+use Rattle.emission.specs.SecondWords.{Neat, NeatIn}
 use Rattle.emission.specs.SecondNeat.{neat}
 use Rattle.emission.specs.SecondRoot.{Finishes, finishes}
 
@@ -60,7 +61,16 @@ root-fields end (mk type nullable strategy number name fs) schema e =
     last true q = cc
     last false q = not-refused (sym q)
 
-module _ (options end : ℕ) (text t fields names : List ℕ) (n : ℕ) (u : Spot) (fits : Fits text t n u) (root : num u ≡ 0) (fit : FitS u) (sane : Sane u) (neat : Neat u) where
+-- what the first walk asks of a tree follows from what the second asks
+mutual
+  neat-sane : (u : Spot) → Neat u → Sane u
+  neat-sane (spot p b k m ks) (a, two, is) = (a, (λ e. let c : manyS ks ≡ 2 = two e in omega arith), neat-sane-in k ks is)
+
+  neat-sane-in : (k : ℕ) (ks : Spots) → NeatIn k ks → SaneIn ks
+  neat-sane-in k no-spots is = tt
+  neat-sane-in k (child s h m u ks) (v, i, is) = (neat-sane u i, neat-sane-in k ks is)
+
+module _ (options end : ℕ) (text t fields names : List ℕ) (n : ℕ) (u : Spot) (fits : Fits text t n u) (root : num u ≡ 0) (fit : FitS u) (neat : Neat u) where
   abbrev fs : Fields
   fs = fieldsOfField (fieldOf options rootName 0 (placeOf false (erase u)))
 
@@ -75,7 +85,7 @@ module _ (options end : ℕ) (text t fields names : List ℕ) (n : ℕ) (u : Spo
   unfolding toSchema toSchemaAt
   emitted-is-model =
       go (walked options text t levelLimit 0)
-      (rw root at (first-walk options text t n u false rootName 0 levelLimit (fits .most) (fits .good) (fits .rep) fit (orders text t n u (fits .most) (fits .good) (fits .rep) fit) sane (omega (arith, fits .most))))
+      (rw root at (first-walk options text t n u false rootName 0 levelLimit (fits .most) (fits .good) (fits .rep) fit (orders text t n u (fits .most) (fits .good) (fits .rep) fit) (neat-sane u neat) (omega (arith, fits .most))))
     where
       go : (w : Walked) → WalkSays w (walk options (placeOf false (erase u))) fs → Emits fields names (elim (walk options (placeOf false (erase u))) [ some refusal ↦ refused refusal end | none ↦ rootFields end (fieldOf options rootName 0 (placeOf false (erase u))) ]) (onWalked (finished options text t fields names) fields names w)
       go (W.Refused refusal) e = rw e (refusal, refl, refl)
@@ -95,4 +105,4 @@ unfolding schemaOf
 schema-is-model options commands text t bytes short long behind n traced fields names e =
     let (u, is, root, fits) = tree-said (rw e at (flat-is-walk options commands text t bytes long)) in
     let tree : trace options (values options commands text) ≡ counted n (erase u) = sym (walk-is-model options commands text short) ∙ ap erased is in
-    rw tree (emitted-is-model options (length commands) text traced fields names n u fits root (fit options commands text bytes n u is) (tree-sane options commands text _ is) (neat options commands text n u short is))
+    rw tree (emitted-is-model options (length commands) text traced fields names n u fits root (fit options commands text bytes n u is) (neat options commands text n u short is))

@@ -33,7 +33,9 @@ use Rattle.schema.specs.Put.{recordOf}
 use Rattle.schema.specs.Emit.{countFrom, fieldCount, isDictionary, Writing, writing, both, gapsIn, entriesIn, fieldAt, isLeaf, Writer, childIn, fieldsFrom, fieldsBelow, emittedBy, emittedAt, levelLimit}
 use Rattle.emission.specs.Arranged.{byNumberS, insertNameS, byNameS, orderS, Enumerates, Orders, FitS}
 use Rattle.emission.specs.SecondPut.{wrote, Writes, writes-none, writes-next, writes-as, writes-both, record-is, gapRecords, gap-records, gap-names, gap-count, writes-gaps, writes-entries, entries-none}
-use Rattle.emission.specs.SecondWords.{one-is, Neat, count, variant-is, name-is, short-name, All, all-order, count-order, few, Kid, known, place-is, dataless-is}
+use Rattle.emission.specs.FirstPlaces.{manyS}
+use Rattle.emission.specs.FirstChildren.{fieldsOfField}
+use Rattle.emission.specs.SecondWords.{one-is, Neat, variant-is, name-is, short-name, All, all-order, count-order, few, Kid, known, place-is, dataless-is}
 
 -- ---- the model's fields over the numbered tree's children, and their order by name
 abbrev fieldsS : ℕ → ℕ → ℕ → ℕ → Spots → Fields
@@ -195,8 +197,8 @@ module _ (options : ℕ) (text t : List ℕ) (n p k m : ℕ) where
   Told s h x u = Kid text t n k p s h x u × Passed options k m s h x u
 
   -- outside unions as many as children
-  count-plain : (left c last : ℕ) (ks : Spots) → eqb k unionKind ≡ false → count ks ≤ left → c + left ≤ 2048 → All Told ks → Enumerates text t false k p last ks
-      → countFrom text t k p left c (nextChild text t false k p last) ≡ c + count ks
+  count-plain : (left c last : ℕ) (ks : Spots) → eqb k unionKind ≡ false → manyS ks ≤ left → c + left ≤ 2048 → All Told ks → Enumerates text t false k p last ks
+      → countFrom text t k p left c (nextChild text t false k p last) ≡ c + manyS ks
   unfolding countFrom if_then_else_
   count-plain zero c last no-spots f l z a h = omega arith
   count-plain (suc left) c last no-spots f l z a h = rw h (omega arith)
@@ -206,13 +208,13 @@ module _ (options : ℕ) (text t : List ℕ) (n p k m : ℕ) where
       let ih = count-plain left (c + 1) (num u) ks f (omega arith) (omega arith) (a .1) (h .1) in
       rw (h .0) (rw (ne-eqb (num u) 0 (omega (arith, a .0 .0 .above)), countFrom) (rw (f, on, ih) (omega arith)))
 
-  fields-plain : (slot : ℕ) (ks : Spots) → eqb k unionKind ≡ false → childCount (fieldsS options k m slot ks) ≡ count ks
+  fields-plain : (slot : ℕ) (ks : Spots) → eqb k unionKind ≡ false → childCount (fieldsS options k m slot ks) ≡ manyS ks
   unfolding fieldsOf placesOf gaps if_then_else_
   fields-plain slot no-spots f = refl
   fields-plain slot (child s i j u ks) f = rw f (ap suc (fields-plain (variantOf s + 1) ks f))
 
   -- of a union up to the last slot
-  count-union : (left last : ℕ) (ks : Spots) → eqb k unionKind ≡ true → count ks ≤ left → slotAfter t last ≤ 128 → All Told ks → Enumerates text t false k p last ks
+  count-union : (left last : ℕ) (ks : Spots) → eqb k unionKind ≡ true → manyS ks ≤ left → slotAfter t last ≤ 128 → All Told ks → Enumerates text t false k p last ks
       → (countFrom text t k p left (slotAfter t last) (nextChild text t false k p last) ≡ slotAfter t last + childCount (fieldsS options k m (slotAfter t last) ks))
       × (slotAfter t last + childCount (fieldsS options k m (slotAfter t last) ks) ≤ 128)
   unfolding countFrom fieldsOf placesOf if_then_else_
@@ -235,7 +237,7 @@ module _ (options : ℕ) (text t : List ℕ) (n p k m : ℕ) where
         rw (f, g) (omega (arith, ih′ .1)),
       )
 
-  counted : (ks : Spots) → eqb k mapKind ≡ false → count ks < 1024 → All Told (orderS false k ks) → Enumerates text t false k p 0 (orderS false k ks)
+  counted : (ks : Spots) → eqb k mapKind ≡ false → manyS ks < 1024 → All Told (orderS false k ks) → Enumerates text t false k p 0 (orderS false k ks)
       → (fieldCount text t k p ≡ childCount (fieldsS options k m 0 (orderS true k ks))) × (childCount (fieldsS options k m 0 (orderS true k ks)) < 65536)
   unfolding fieldCount if_then_else_
   counted ks e l a h = rw e (cases (eqb k unionKind)
@@ -278,7 +280,7 @@ module _ (options : ℕ) (text t : List ℕ) (n p k m : ℕ) where
       let md : variantOf s % 256 ≡ variantOf s = let y : variantOf s < 256 = omega arith in mod-eq-of-lt y in
       rw (gaps-at slot s (num u) v, v, he, sm, md) refl
 
-  fields-write : (inner : Writer) (left slot last : ℕ) (ks : Spots) → count ks ≤ left → slot ≤ 128 → word t p samplesWord ≡ m → All (Inner inner) ks → Enumerates text t true k p last ks
+  fields-write : (inner : Writer) (left slot last : ℕ) (ks : Spots) → manyS ks ≤ left → slot ≤ 128 → word t p samplesWord ≡ m → All (Inner inner) ks → Enumerates text t true k p last ks
       → Writes (fieldsFrom text t inner k p left slot (nextChild text t true k p last)) (recordsIn (fieldsS options k m slot ks)) (namesIn (fieldsS options k m slot ks))
   unfolding fieldsFrom fieldsOf placesOf recordsIn namesIn
   fields-write inner zero slot last no-spots l z sm a h w room = writes-none w room
@@ -304,7 +306,7 @@ module _ (options : ℕ) (text t : List ℕ) (n p k m : ℕ) where
       _ _ _ _ er en all w room
 
   -- with a map's entries
-  below-write : (inner : Writer) (ks : Spots) → count ks < 1024 → (eqb k mapKind ≡ true → count ks ≡ 2) → word t p samplesWord ≡ m → All (Inner inner) (orderS true k ks) → Enumerates text t true k p 0 (orderS true k ks)
+  below-write : (inner : Writer) (ks : Spots) → manyS ks < 1024 → (eqb k mapKind ≡ true → manyS ks ≡ 2) → word t p samplesWord ≡ m → All (Inner inner) (orderS true k ks) → Enumerates text t true k p 0 (orderS true k ks)
       → Writes (fieldsBelow text t inner k p) (recordsIn (arranged k (fieldsS options k m 0 (orderS false k ks)))) (namesIn (arranged k (fieldsS options k m 0 (orderS false k ks))))
   below-write inner ks l two sm a h w room = cases (eqb k mapKind) (λ e. with-entries e w room) (λ e. without e w room)
     where
@@ -378,7 +380,7 @@ module _ (options : ℕ) (text t : List ℕ) where
   unfolding emittedAt emittedBy if_then_else_
   emitted-below levels p lacking number w e = rw e refl
 
-  module _ (n p : ℕ) (b : Bool) (k m : ℕ) (ks : Spots) (r : Row t p kindWord (k ∷ one b ∷ m ∷ [])) (few : count ks < 1024) (kids : All (Kid text t n k p) ks)
+  module _ (n p : ℕ) (b : Bool) (k m : ℕ) (ks : Spots) (r : Row t p kindWord (k ∷ one b ∷ m ∷ [])) (few : manyS ks < 1024) (kids : All (Kid text t n k p) ks)
       (order : Enumerates text t false k p 0 (orderS false k ks)) where
     abbrev ps : Places
     ps = placesOf k m (eraseIn (orderS false k ks))
@@ -397,7 +399,7 @@ module _ (options : ℕ) (text t : List ℕ) where
         rw d (swap (eqb k unionKind) (enumsWithoutDataAsStrings options) (dataless ps)))
         (λ e. rw e refl))
       where
-        union-dataless : k ≡ unionKind → (is : Spots) → count is ≤ 1024 → All (Kid text t n k p) is → Enumerates text t false k p 0 is → datalessAt text t p ≡ dataless (placesOf k m (eraseIn is))
+        union-dataless : k ≡ unionKind → (is : Spots) → manyS is ≤ 1024 → All (Kid text t n k p) is → Enumerates text t false k p 0 is → datalessAt text t p ≡ dataless (placesOf k m (eraseIn is))
         union-dataless z is l a h = rw z (dataless-is text t n p m is l (rw z at a) (rw z at h))
 
     -- the record and the name of a dictionary, and of any other place
@@ -429,7 +431,7 @@ module _ (options : ℕ) (text t : List ℕ) where
     leaf-count : isContainer k ≡ false → ks ≡ no-spots → fieldCount text t k p ≡ 0
     leaf-count c z = count-none options text t n p k m c (rw z at order)
 
-    counts : (eqb k mapKind ≡ true → count ks ≡ 2) → All (Told options text t n p k m) (orderS false k ks)
+    counts : (eqb k mapKind ≡ true → manyS ks ≡ 2) → All (Told options text t n p k m) (orderS false k ks)
         → (fieldCount text t k p ≡ childCount (arranged k (fieldsS options k m 0 (orderS false k ks)))) × (childCount (arranged k (fieldsS options k m 0 (orderS false k ks))) < 65536)
     unfolding fieldCount if_then_else_
     counts two told = cases (eqb k mapKind)
@@ -463,7 +465,7 @@ module _ (options : ℕ) (text t : List ℕ) where
           rw (emitted-leaf levels p lacking number w (leaf-is (λ c′. absurd (true≢false (sym c′ ∙ c)))), d, q)
           (writes-as (fieldAt options text t p (lacking || eqb (word t p nullWord) 1) number) _ name _ (name ++ []) (sym (append-nil _)) (sym (append-nil name)) own w (rw (d, q) at room))
 
-      place-inner : asWords ≡ false → isContainer k ≡ true → k < 256 → (eqb k mapKind ≡ true → count ks ≡ 2) → All (Told options text t n p k m) (orderS false k ks)
+      place-inner : asWords ≡ false → isContainer k ≡ true → k < 256 → (eqb k mapKind ≡ true → manyS ks ≡ 2) → All (Told options text t n p k m) (orderS false k ks)
           → All (Inner options text t n p k m (emittedAt options text t levels)) (orderS true k ks) → Enumerates text t true k p 0 (orderS true k ks)
           → Writes (emittedAt options text t (suc levels) p lacking number) (recordsOf it) (namesOf it)
       unfolding fieldOf recordsOf namesOf if_then_else_
@@ -476,10 +478,6 @@ module _ (options : ℕ) (text t : List ℕ) where
           rw (emitted-below levels p lacking number w (inner-is c d), e₀, d) (all w (rw d at room))
 
 -- ---- the second walk
--- the fields below a field
-abbrev pub fieldsUnder : Field → Fields
-fieldsUnder (mk type nullable strategy number name fs) = fs
-
 own-row : (t : List ℕ) (p : ℕ) (b : Bool) (k m : ℕ) (ks : Spots) → Row t p kindWord (ownWords b k m ks) → Row t p kindWord (k ∷ one b ∷ m ∷ [])
 own-row t p b k m ks r zero l = r 0 (omega arith)
 own-row t p b k m ks r (suc zero) l = r 1 (omega arith)
@@ -501,7 +499,7 @@ module _ (options : ℕ) (text t : List ℕ) (n : ℕ) (most : n ≤ placeLimit)
   second zero (spot p b k m ks) lacking number name nm g r f o z l e = absurd (omega (arith, g .0))
   second (suc levels) (spot p b k m ks) lacking number name nm g r f o z l e =
       let kids : All (Kid text t n k p) ks = known text t n k p p ks (omega arith) (r .1) (g .2) (f .1) (o .2) (z .2) in
-      let some : count ks < 1024 = omega (arith, few n p ks (g .0) (g .2)) in
+      let some : manyS ks < 1024 = omega (arith, few n p ks (g .0) (g .2)) in
       let row : Row t p kindWord (k ∷ one b ∷ m ∷ []) = own-row t p b k m ks (r .0) in
       rw (place-is lacking p b k m ks)
       (cases (eqb k unionKind && dataless (placesOf k m (eraseIn (orderS false k ks))) && enumsWithoutDataAsStrings options)
@@ -520,12 +518,12 @@ module _ (options : ℕ) (text t : List ℕ) (n : ℕ) (most : n ≤ placeLimit)
   pub below-writes : (levels p : ℕ) (b lacking : Bool) (k m : ℕ) (ks : Spots) (number : ℕ) (name : List ℕ)
       → Good n (spot p b k m ks) → Rep text t (spot p b k m ks) → FitS (spot p b k m ks) → Orders text t (spot p b k m ks) → Neat (spot p b k m ks) → n ≤ p + 1 + levels
       → isContainer k ≡ true → eqb k unionKind ≡ false → walk options (placeOf lacking (erase (spot p b k m ks))) ≡ none
-      → Writes (fieldsBelow text t (emittedAt options text t levels) k p) (recordsIn (fieldsUnder (fieldOf options name number (placeOf lacking (erase (spot p b k m ks))))))
-      (namesIn (fieldsUnder (fieldOf options name number (placeOf lacking (erase (spot p b k m ks))))))
+      → Writes (fieldsBelow text t (emittedAt options text t levels) k p) (recordsIn (fieldsOfField (fieldOf options name number (placeOf lacking (erase (spot p b k m ks))))))
+      (namesIn (fieldsOfField (fieldOf options name number (placeOf lacking (erase (spot p b k m ks))))))
   unfolding fieldOf if_then_else_
   below-writes levels p b lacking k m ks number name g r f o z l c v e =
       let kids : All (Kid text t n k p) ks = known text t n k p p ks (omega arith) (r .1) (g .2) (f .1) (o .2) (z .2) in
-      let some : count ks < 1024 = omega (arith, few n p ks (g .0) (g .2)) in
+      let some : manyS ks < 1024 = omega (arith, few n p ks (g .0) (g .2)) in
       let told = told-below p b lacking k m ks kids c (rw v refl) e in
       rw (place-is lacking p b k m ks, v)
       (below-write options text t n p k m (emittedAt options text t levels) ks some (z .1) (r .0 2 (omega arith))
@@ -555,14 +553,14 @@ from-start r n fields names =
 -- below the root, from the start of both buffers
 pub root-written : (options : ℕ) (text t : List ℕ) (n : ℕ) (u : Spot) (name : List ℕ) (fields names : List ℕ) → n ≤ placeLimit → num u ≡ 0
     → Good n u → Rep text t u → FitS u → Orders text t u → Neat u → isContainer (kindS u) ≡ true → eqb (kindS u) unionKind ≡ false → walk options (placeOf false (erase u)) ≡ none
-    → length (recordsIn (fieldsUnder (fieldOf options name 0 (placeOf false (erase u))))) ≤ length fields
-    → length (namesIn (fieldsUnder (fieldOf options name 0 (placeOf false (erase u))))) ≤ length names
+    → length (recordsIn (fieldsOfField (fieldOf options name 0 (placeOf false (erase u))))) ≤ length fields
+    → length (namesIn (fieldsOfField (fieldOf options name 0 (placeOf false (erase u))))) ≤ length names
     → fieldsBelow text t (emittedAt options text t levelLimit) (kindS u) 0 (writing 0 0 fields names)
-    ≡ writing (length (recordsIn (fieldsUnder (fieldOf options name 0 (placeOf false (erase u)))))) (length (namesIn (fieldsUnder (fieldOf options name 0 (placeOf false (erase u))))))
-    (recordsIn (fieldsUnder (fieldOf options name 0 (placeOf false (erase u)))) ++ drop (length (recordsIn (fieldsUnder (fieldOf options name 0 (placeOf false (erase u)))))) fields)
-    (namesIn (fieldsUnder (fieldOf options name 0 (placeOf false (erase u)))) ++ drop (length (namesIn (fieldsUnder (fieldOf options name 0 (placeOf false (erase u)))))) names)
+    ≡ writing (length (recordsIn (fieldsOfField (fieldOf options name 0 (placeOf false (erase u)))))) (length (namesIn (fieldsOfField (fieldOf options name 0 (placeOf false (erase u))))))
+    (recordsIn (fieldsOfField (fieldOf options name 0 (placeOf false (erase u)))) ++ drop (length (recordsIn (fieldsOfField (fieldOf options name 0 (placeOf false (erase u)))))) fields)
+    (namesIn (fieldsOfField (fieldOf options name 0 (placeOf false (erase u)))) ++ drop (length (namesIn (fieldsOfField (fieldOf options name 0 (placeOf false (erase u)))))) names)
 root-written options text t n (spot p b k m ks) name fields names most q g r f o z c v e x y =
-    let rs : List ℕ = recordsIn (fieldsUnder (fieldOf options name 0 (placeOf false (erase (spot p b k m ks))))) in
-    let ns : List ℕ = namesIn (fieldsUnder (fieldOf options name 0 (placeOf false (erase (spot p b k m ks))))) in
+    let rs : List ℕ = recordsIn (fieldsOfField (fieldOf options name 0 (placeOf false (erase (spot p b k m ks))))) in
+    let ns : List ℕ = namesIn (fieldsOfField (fieldOf options name 0 (placeOf false (erase (spot p b k m ks))))) in
     let a = below-writes options text t n most levelLimit p b false k m ks 0 name g r f o z (omega arith) c v e (writing 0 0 fields names) (omega arith, omega arith) in
     rw q at a ∙ from-start rs ns fields names

@@ -25,7 +25,8 @@ use Rattle.equality.specs.Reads.{choice}
 use Rattle.equality.specs.Wellformed.{accepted-proper}
 use Rattle.refine.specs.Spots.{Spot, spot, Spots, no-spots, child, stepsS, newSpot, spotAt, putS, addS, makeS, makeAllS, sampleOf, walk, walkParts, walkAll}
 use Rattle.refine.specs.Erase.{erase, erased, walk-is-model}
-use Rattle.emission.specs.SecondWords.{count, Neat, NeatIn}
+use Rattle.emission.specs.FirstPlaces.{manyS}
+use Rattle.emission.specs.SecondWords.{Neat, NeatIn}
 
 -- a map has its key and value
 abbrev pair : List Step
@@ -39,7 +40,7 @@ abbrev mutual
   StrongIn kind no-spots = Unit {0}
   StrongIn kind (child s h m u ks) = (eqb kind unionKind ≡ false → isVariant s ≡ false) × Strong u × StrongIn kind ks
 
-two : (ks : Spots) → stepsS ks ≡ pair → count ks ≡ 2
+two : (ks : Spots) → stepsS ks ≡ pair → manyS ks ≡ 2
 unfolding stepsS
 two no-spots e = let z : _≡_ {A = ℕ} 0 1 = cc in absurd (omega arith)
 two (child s h m u no-spots) e = let z : _≡_ {A = ℕ} 0 1 = cc in absurd (omega arith)

@@ -29,8 +29,9 @@ use Rattle.refine.specs.Erase.{erase, eraseIn}
 use Rattle.schema.specs.declared.Emitted.the-variants as E
 use Rattle.schema.specs.Emit.{isStructRoot, Answered, answered, writing, fieldsBelow, emittedAt, levelLimit, finished}
 use Rattle.emission.specs.Arranged.{orderS, Orders, FitS}
+use Rattle.emission.specs.FirstChildren.{fieldsOfField}
 use Rattle.emission.specs.SecondWords.{Neat, place-is}
-use Rattle.emission.specs.Second.{fieldsUnder, root-written}
+use Rattle.emission.specs.Second.{root-written}
 
 -- an answer is the model's: its refusal with both buffers untouched, or its records and names where there is room for them
 abbrev pub Finishes : List ℕ → List ℕ → ℕ → ℕ → ℕ → Result Fields → Answered → Type 0
@@ -120,12 +121,12 @@ module _ (options : ℕ) (text t : List ℕ) (fields names : List ℕ) (end reco
 
   -- The root's refusals, and the schema: what the walks counted is what the model's fields count.
   pub finishes : (n : ℕ) (u : Spot) (name : List ℕ) → n ≤ placeLimit → num u ≡ 0 → Good n u → Rep text t u → FitS u → Orders text t u → Neat u → walk options (placeOf false (erase u)) ≡ none
-      → records ≡ countIn (fieldsUnder (fieldOf options name 0 (placeOf false (erase u)))) → bytes ≡ length (namesIn (fieldsUnder (fieldOf options name 0 (placeOf false (erase u)))))
+      → records ≡ countIn (fieldsOfField (fieldOf options name 0 (placeOf false (erase u)))) → bytes ≡ length (namesIn (fieldsOfField (fieldOf options name 0 (placeOf false (erase u)))))
       → Finishes fields names records bytes columns (rootFields end (fieldOf options name 0 (placeOf false (erase u)))) (finished options text t fields names records bytes columns)
   finishes n (spot p b k m ks) name most q g r f o z e rc nc =
       by (fieldOf options name 0 (placeOf false (erase (spot p b k m ks)))) refl (rw (place-is false p b k m ks) (field-type options name b k (placesOf k m (eraseIn (orderS false k ks))))) rc nc
     where
-      by : (it : Field) → fieldOf options name 0 (placeOf false (erase (spot p b k m ks))) ≡ it → Typed b k it → records ≡ countIn (fieldsUnder it) → bytes ≡ length (namesIn (fieldsUnder it))
+      by : (it : Field) → fieldOf options name 0 (placeOf false (erase (spot p b k m ks))) ≡ it → Typed b k it → records ≡ countIn (fieldsOfField it) → bytes ≡ length (namesIn (fieldsOfField it))
           → Finishes fields names records bytes columns (rootFields end it) (finished options text t fields names records bytes columns)
       by (mk type nullable strategy number x fs) d y rc nc =
           let e₀ : word t 0 kindWord ≡ k = rw q at (r .0 0 (omega arith)) in

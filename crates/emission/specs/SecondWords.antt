@@ -28,6 +28,7 @@ use Rattle.refine.specs.Rep.{Cell, Rep, RepIn}
 use Rattle.refine.specs.Erase.{erase, eraseIn}
 use Rattle.walk.specs.Order.{variantAt, positionAt, givenName, childName, nearest, nextChild, onward, childLimit}
 use Rattle.walk.specs.Order.{datalessFrom as datalessAtFrom}
+use Rattle.emission.specs.FirstPlaces.{manyS}
 use Rattle.emission.specs.Arranged.{insertNumberS, byNumberS, insertNameS, byNameS, orderS, Enumerates, Orders, OrdersIn, stepFits, FitS, FitIn}
 
 -- ---- tests
@@ -39,14 +40,10 @@ pub one-is : (b : Bool) → eqb (one b) 1 ≡ b
 one-is true = refl
 one-is false = refl
 
-abbrev pub count : Spots → ℕ
-count no-spots = 0
-count (child s h m u ks) = suc (count ks)
-
 -- ---- what is true beside `FitS`: a place that is no container has no children, a map has two, and only a union has variants
 abbrev mutual
   pub Neat : Spot → Type 0
-  Neat (spot p b k m ks) = (isContainer k ≡ false → ks ≡ no-spots) × (eqb k mapKind ≡ true → count ks ≡ 2) × NeatIn k ks
+  Neat (spot p b k m ks) = (isContainer k ≡ false → ks ≡ no-spots) × (eqb k mapKind ≡ true → manyS ks ≡ 2) × NeatIn k ks
 
   pub NeatIn : ℕ → Spots → Type 0
   NeatIn kind no-spots = Unit {0}
@@ -153,32 +150,32 @@ module _ (P : Step → ℕ → ℕ → Spot → Type 0) where
   unfolding orderS if_then_else_
   all-order sorted k ks b = cases (eqb k unionKind) (λ e. rw e (all-number ks b)) (λ e. rw e (cases (sorted && eqb k mapModeKind) (λ f. rw f (all-name ks b)) (λ f. rw f b)))
 
-count-insert-number : (s : Step) (h m : ℕ) (u : Spot) (ks : Spots) → count (insertNumberS s h m u ks) ≡ suc (count ks)
+count-insert-number : (s : Step) (h m : ℕ) (u : Spot) (ks : Spots) → manyS (insertNumberS s h m u ks) ≡ suc (manyS ks)
 unfolding insertNumberS if_then_else_
 count-insert-number s h m u no-spots = refl
 count-insert-number s h m u (child r i j v ks) = cases (ltb (variantOf s) (variantOf r)) (λ e. rw e refl) (λ e. rw e (ap suc (count-insert-number s h m u ks)))
 
-count-number : (ks : Spots) → count (byNumberS ks) ≡ count ks
+count-number : (ks : Spots) → manyS (byNumberS ks) ≡ manyS ks
 unfolding byNumberS
 count-number no-spots = refl
 count-number (child s h m u ks) = count-insert-number s h m u (byNumberS ks) ∙ ap suc (count-number ks)
 
-count-insert-name : (s : Step) (h m : ℕ) (u : Spot) (ks : Spots) → count (insertNameS s h m u ks) ≡ suc (count ks)
+count-insert-name : (s : Step) (h m : ℕ) (u : Spot) (ks : Spots) → manyS (insertNameS s h m u ks) ≡ suc (manyS ks)
 unfolding insertNameS if_then_else_
 count-insert-name s h m u no-spots = refl
 count-insert-name s h m u (child r i j v ks) = cases (ltName (nameOf r) (nameOf s)) (λ e. rw e (ap suc (count-insert-name s h m u ks))) (λ e. rw e refl)
 
-count-name : (ks : Spots) → count (byNameS ks) ≡ count ks
+count-name : (ks : Spots) → manyS (byNameS ks) ≡ manyS ks
 unfolding byNameS
 count-name no-spots = refl
 count-name (child s h m u ks) = count-insert-name s h m u (byNameS ks) ∙ ap suc (count-name ks)
 
-pub count-order : (sorted : Bool) (k : ℕ) (ks : Spots) → count (orderS sorted k ks) ≡ count ks
+pub count-order : (sorted : Bool) (k : ℕ) (ks : Spots) → manyS (orderS sorted k ks) ≡ manyS ks
 unfolding orderS if_then_else_
 count-order sorted k ks = cases (eqb k unionKind) (λ e. rw e (count-number ks)) (λ e. rw e (cases (sorted && eqb k mapModeKind) (λ f. rw f (count-name ks)) (λ f. rw f refl)))
 
 -- fewer than there are numbers
-pub few : (n c : ℕ) (ks : Spots) → c < n → GoodIn n c ks → c + count ks < n
+pub few : (n c : ℕ) (ks : Spots) → c < n → GoodIn n c ks → c + manyS ks < n
 few n c no-spots l g = omega arith
 few n c (child s h m (spot p b k x is) ks) l g = let i = few n p ks (g .1 .0) (g .3) in omega (arith, g .0)
 
@@ -224,7 +221,7 @@ dataless-kind : (b : Bool) (u : Spot) → isDataless (placeOf b (erase u)) ≡ e
 dataless-kind b (spot p c k m ks) = rw (place-is b p c k m ks) refl
 
 module _ (text t : List ℕ) (n p m : ℕ) where
-  dataless-from : (left slot last : ℕ) (ks : Spots) → count ks ≤ left → slot + left ≤ 2048 → All (Kid text t n unionKind p) ks → Enumerates text t false unionKind p last ks
+  dataless-from : (left slot last : ℕ) (ks : Spots) → manyS ks ≤ left → slot + left ≤ 2048 → All (Kid text t n unionKind p) ks → Enumerates text t false unionKind p last ks
       → datalessAtFrom text t p left slot (nearest text t false p last) ≡ datalessFrom slot (placesOf unionKind m (eraseIn ks))
   unfolding datalessAtFrom datalessFrom placesOf nextChild if_then_else_
   dataless-from zero slot last no-spots l z a h = refl
@@ -239,6 +236,6 @@ module _ (text t : List ℕ) (n p m : ℕ) where
       rw e (rw (ne-eqb (num u) 0 (omega (arith, a .0 .above)), datalessAtFrom, v, w, dataless-kind (isMissing unionKind m i) u)
       (cases (eqb (variantOf s) slot && eqb (kindS u) null) (λ d. rw (d, on) ih) (λ d. rw d refl)))
 
-  pub dataless-is : (ks : Spots) → count ks ≤ childLimit → All (Kid text t n unionKind p) ks → Enumerates text t false unionKind p 0 ks
+  pub dataless-is : (ks : Spots) → manyS ks ≤ childLimit → All (Kid text t n unionKind p) ks → Enumerates text t false unionKind p 0 ks
       → datalessAtFrom text t p childLimit 0 (nearest text t false p 0) ≡ datalessFrom 0 (placesOf unionKind m (eraseIn ks))
   dataless-is ks l a h = dataless-from childLimit 0 0 ks l (omega arith) a h
