@@ -1,5 +1,5 @@
 -- The children of a place in the order of a walk, and what is known of them.
-use Prim.{Unit, tt}
+use Prim.{Unit}
 use mathlib.Core.Path.{_≡_}
 use mathlib.Core.Bool.{Bool, true, false, _&&_}
 use mathlib.Core.List.{List}

@@ -1,10 +1,10 @@
 -- Emission over the words of the table is the model's: the same refusal, both buffers untouched, or the model's counts, records and names,
 -- what stands past them untouched.
-use Prim.{Unit, tt}
+use Prim.{tt}
 use mathlib.Core.Path.{_≡_, refl, sym, ap, _∙_}
 use mathlib.Core.Bool.{Bool, true, false}
 use mathlib.Core.List.{List}
-use mathlib.Core.Option.{Option, none, some}
+use mathlib.Core.Option.{none, some}
 use Prim.Native.Nat.{ℕ, _≤_}
 use native.Mathlib.Omega.{arith}
 use lib.ListN.{length}
@@ -12,25 +12,24 @@ use Rattle.words.specs.Word.{cleared}
 use lib.Dec.{eqb}
 use Rattle.logic.specs.Test.{if_then_else_}
 use Rattle.datatype.specs.Codes.{null, struct}
-use Rattle.refusal.specs.Number.{numberOf, nullableRoot, nullRoot, rootNotStruct}
+use Rattle.refusal.specs.Number.{nullableRoot, nullRoot, rootNotStruct}
 use Rattle.equality.specs.Base.{not-refused}
 use Rattle.model.specs.Result.{Result, accepted, refused}
 use Rattle.model.specs.Reading.{values}
-use Rattle.model.specs.Tracing.{placeLimit, trace, Counted, counted}
+use Rattle.model.specs.Tracing.{trace, Counted, counted}
 use Rattle.model.specs.Emission.{placeOf, walk, Field, mk, Fields, fieldOf, rootFields, rootName, toSchema, namesIn, columnsIn, countIn}
-use Rattle.model.specs.Answer.{tableWords, inputLimit, Batch, schemaOf}
+use Rattle.model.specs.Answer.{tableWords, inputLimit, schemaOf}
 use Rattle.samples.specs.declared.Traced.the-variants as T
 use Rattle.samples.specs.Flat.{out, fromSamples}
-use Rattle.refine.specs.Spots.{Spot, spot, Spots, no-spots, child, newSpot, num, walkAll}
+use Rattle.refine.specs.Spots.{Spot, spot, Spots, no-spots, child, num}
 use Rattle.refine.specs.Commands.{Bytes}
 use Rattle.refine.specs.Rep.{Fits}
 use Rattle.refine.specs.Erase.{erase, erased, walk-is-model}
-use Rattle.refine.specs.Whole.{Ends, ends, turned-down, flat-is-walk}
+use Rattle.refine.specs.Whole.{Ends, ends, flat-is-walk}
 use Rattle.walk.specs.declared.Walked.{Walked}
 use Rattle.walk.specs.declared.Walked.the-variants as W
 use Rattle.walk.specs.Walk.{walked}
-use Rattle.schema.specs.declared.Emitted.the-variants as E
-use Rattle.schema.specs.Emit.{Answered, answered, levelLimit, finished, onWalked, toSchemaAt}
+use Rattle.schema.specs.Emit.{Answered, levelLimit, finished, onWalked, toSchemaAt}
 use Rattle.emission.specs.Arranged.{FitS}
 use Rattle.emission.specs.Order.{orders}
 use Rattle.emission.specs.Fit.{fit}

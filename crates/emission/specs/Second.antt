@@ -4,7 +4,7 @@ use mathlib.Core.Path.{_≡_, refl, sym, ap, _∙_}
 use mathlib.Core.Bool.{Bool, true, false, not, _&&_, _||_, true≢false}
 use mathlib.Core.List.{List, [], _∷_, _++_, append-assoc, append-nil}
 use mathlib.Core.Option.{Option, none, some}
-use Prim.Native.Nat.{ℕ, zero, suc, _+_, _-_, _%_, _^_, _<_, _≤_}
+use Prim.Native.Nat.{_-_, ℕ, zero, suc, _+_, _%_, _^_, _<_, _≤_}
 use native.Mathlib.Nat.{mod-eq-of-lt}
 use native.Mathlib.Omega.{arith}
 use lib.Dec.{eqb, leb, ltb}
@@ -33,9 +33,9 @@ use Rattle.schema.specs.Put.{recordOf}
 use Rattle.schema.specs.Emit.{countFrom, fieldCount, isDictionary, Writing, writing, both, gapsIn, entriesIn, fieldAt, isLeaf, Writer, childIn, fieldsFrom, fieldsBelow, emittedBy, emittedAt, levelLimit}
 use Rattle.emission.specs.Arranged.{byNumberS, insertNameS, byNameS, orderS, Enumerates, Orders, FitS}
 use Rattle.emission.specs.SecondPut.{wrote, Writes, writes-none, writes-next, writes-as, writes-both, record-is, gapRecords, gap-records, gap-names, gap-count, writes-gaps, writes-entries, entries-none}
-use Rattle.emission.specs.FirstPlaces.{manyS}
+use Rattle.emission.specs.FirstPlaces.{manyS, AllS}
 use Rattle.emission.specs.FirstChildren.{fieldsOfField}
-use Rattle.emission.specs.SecondWords.{one-is, Neat, variant-is, name-is, short-name, All, all-order, count-order, few, Kid, known, place-is, dataless-is}
+use Rattle.emission.specs.SecondWords.{one-is, Neat, variant-is, name-is, short-name, all-order, count-order, few, Kid, known, place-is, dataless-is}
 
 -- ---- the model's fields over the numbered tree's children, and their order by name
 abbrev fieldsS : ℕ → ℕ → ℕ → ℕ → Spots → Fields
@@ -99,7 +99,7 @@ first-none : (a b : Option ℕ) → firstOf a b ≡ none → (a ≡ none) × (b 
 first-none none b e = (refl, e)
 first-none (some r) b e = let z : _≡_ {A = ℕ} 0 1 = cc in absurd (omega arith)
 
-passed : (options k m : ℕ) (ks : Spots) → walks options k (placesOf k m (eraseIn ks)) ≡ none → All (Passed options k m) ks
+passed : (options k m : ℕ) (ks : Spots) → walks options k (placesOf k m (eraseIn ks)) ≡ none → AllS (Passed options k m) ks
 unfolding walks placesOf if_then_else_
 passed options k m no-spots e = tt
 passed options k m (child s h x u ks) e =
@@ -118,15 +118,15 @@ walk-below options admits k ps c d e =
     (λ f. rw f at e′)
 
 module _ (P Q : Step → ℕ → ℕ → Spot → Type 0) where
-  zip : (ks : Spots) → All P ks → All Q ks → All (λ s h x u. P s h x u × Q s h x u) ks
+  zip : (ks : Spots) → AllS P ks → AllS Q ks → AllS (λ s h x u. P s h x u × Q s h x u) ks
   zip no-spots a b = tt
   zip (child s h x u ks) a b = ((a .0, b .0), zip ks (a .1) (b .1))
 
-  each : ((s : Step) (h x : ℕ) (u : Spot) → P s h x u → Q s h x u) → (ks : Spots) → All P ks → All Q ks
+  each : ((s : Step) (h x : ℕ) (u : Spot) → P s h x u → Q s h x u) → (ks : Spots) → AllS P ks → AllS Q ks
   each f no-spots a = tt
   each f (child s h x u ks) a = (f s h x u (a .0), each f ks (a .1))
 
-resorted : (P : Step → ℕ → ℕ → Spot → Type 0) (k : ℕ) (ks : Spots) → All P (orderS false k ks) → All P (orderS true k ks)
+resorted : (P : Step → ℕ → ℕ → Spot → Type 0) (k : ℕ) (ks : Spots) → AllS P (orderS false k ks) → AllS P (orderS true k ks)
 unfolding orderS if_then_else_
 resorted P k ks a = cases (eqb k unionKind) (λ e. rw e (rw e at a)) (λ e. all-order P true k ks (rw e at a))
 
@@ -197,7 +197,7 @@ module _ (options : ℕ) (text t : List ℕ) (n p k m : ℕ) where
   Told s h x u = Kid text t n k p s h x u × Passed options k m s h x u
 
   -- outside unions as many as children
-  count-plain : (left c last : ℕ) (ks : Spots) → eqb k unionKind ≡ false → manyS ks ≤ left → c + left ≤ 2048 → All Told ks → Enumerates text t false k p last ks
+  count-plain : (left c last : ℕ) (ks : Spots) → eqb k unionKind ≡ false → manyS ks ≤ left → c + left ≤ 2048 → AllS Told ks → Enumerates text t false k p last ks
       → countFrom text t k p left c (nextChild text t false k p last) ≡ c + manyS ks
   unfolding countFrom if_then_else_
   count-plain zero c last no-spots f l z a h = omega arith
@@ -214,7 +214,7 @@ module _ (options : ℕ) (text t : List ℕ) (n p k m : ℕ) where
   fields-plain slot (child s i j u ks) f = rw f (ap suc (fields-plain (variantOf s + 1) ks f))
 
   -- of a union up to the last slot
-  count-union : (left last : ℕ) (ks : Spots) → eqb k unionKind ≡ true → manyS ks ≤ left → slotAfter t last ≤ 128 → All Told ks → Enumerates text t false k p last ks
+  count-union : (left last : ℕ) (ks : Spots) → eqb k unionKind ≡ true → manyS ks ≤ left → slotAfter t last ≤ 128 → AllS Told ks → Enumerates text t false k p last ks
       → (countFrom text t k p left (slotAfter t last) (nextChild text t false k p last) ≡ slotAfter t last + childCount (fieldsS options k m (slotAfter t last) ks))
       × (slotAfter t last + childCount (fieldsS options k m (slotAfter t last) ks) ≤ 128)
   unfolding countFrom fieldsOf placesOf if_then_else_
@@ -237,7 +237,7 @@ module _ (options : ℕ) (text t : List ℕ) (n p k m : ℕ) where
         rw (f, g) (omega (arith, ih′ .1)),
       )
 
-  counted : (ks : Spots) → eqb k mapKind ≡ false → manyS ks < 1024 → All Told (orderS false k ks) → Enumerates text t false k p 0 (orderS false k ks)
+  counted : (ks : Spots) → eqb k mapKind ≡ false → manyS ks < 1024 → AllS Told (orderS false k ks) → Enumerates text t false k p 0 (orderS false k ks)
       → (fieldCount text t k p ≡ childCount (fieldsS options k m 0 (orderS true k ks))) × (childCount (fieldsS options k m 0 (orderS true k ks)) < 65536)
   unfolding fieldCount if_then_else_
   counted ks e l a h = rw e (cases (eqb k unionKind)
@@ -280,7 +280,7 @@ module _ (options : ℕ) (text t : List ℕ) (n p k m : ℕ) where
       let md : variantOf s % 256 ≡ variantOf s = let y : variantOf s < 256 = omega arith in mod-eq-of-lt y in
       rw (gaps-at slot s (num u) v, v, he, sm, md) refl
 
-  fields-write : (inner : Writer) (left slot last : ℕ) (ks : Spots) → manyS ks ≤ left → slot ≤ 128 → word t p samplesWord ≡ m → All (Inner inner) ks → Enumerates text t true k p last ks
+  fields-write : (inner : Writer) (left slot last : ℕ) (ks : Spots) → manyS ks ≤ left → slot ≤ 128 → word t p samplesWord ≡ m → AllS (Inner inner) ks → Enumerates text t true k p last ks
       → Writes (fieldsFrom text t inner k p left slot (nextChild text t true k p last)) (recordsIn (fieldsS options k m slot ks)) (namesIn (fieldsS options k m slot ks))
   unfolding fieldsFrom fieldsOf placesOf recordsIn namesIn
   fields-write inner zero slot last no-spots l z sm a h w room = writes-none w room
@@ -306,7 +306,7 @@ module _ (options : ℕ) (text t : List ℕ) (n p k m : ℕ) where
       _ _ _ _ er en all w room
 
   -- with a map's entries
-  below-write : (inner : Writer) (ks : Spots) → manyS ks < 1024 → (eqb k mapKind ≡ true → manyS ks ≡ 2) → word t p samplesWord ≡ m → All (Inner inner) (orderS true k ks) → Enumerates text t true k p 0 (orderS true k ks)
+  below-write : (inner : Writer) (ks : Spots) → manyS ks < 1024 → (eqb k mapKind ≡ true → manyS ks ≡ 2) → word t p samplesWord ≡ m → AllS (Inner inner) (orderS true k ks) → Enumerates text t true k p 0 (orderS true k ks)
       → Writes (fieldsBelow text t inner k p) (recordsIn (arranged k (fieldsS options k m 0 (orderS false k ks)))) (namesIn (arranged k (fieldsS options k m 0 (orderS false k ks))))
   below-write inner ks l two sm a h w room = cases (eqb k mapKind) (λ e. with-entries e w room) (λ e. without e w room)
     where
@@ -380,7 +380,7 @@ module _ (options : ℕ) (text t : List ℕ) where
   unfolding emittedAt emittedBy if_then_else_
   emitted-below levels p lacking number w e = rw e refl
 
-  module _ (n p : ℕ) (b : Bool) (k m : ℕ) (ks : Spots) (r : Row t p kindWord (k ∷ one b ∷ m ∷ [])) (few : manyS ks < 1024) (kids : All (Kid text t n k p) ks)
+  module _ (n p : ℕ) (b : Bool) (k m : ℕ) (ks : Spots) (r : Row t p kindWord (k ∷ one b ∷ m ∷ [])) (few : manyS ks < 1024) (kids : AllS (Kid text t n k p) ks)
       (order : Enumerates text t false k p 0 (orderS false k ks)) where
     abbrev ps : Places
     ps = placesOf k m (eraseIn (orderS false k ks))
@@ -394,12 +394,12 @@ module _ (options : ℕ) (text t : List ℕ) where
         rw e₀ (cases (eqb k unionKind)
         (λ e.
         let z : k ≡ unionKind = eqb-true k unionKind e in
-        let a : All (Kid text t n k p) (orderS false k ks) = all-order (Kid text t n k p) false k ks kids in
+        let a : AllS (Kid text t n k p) (orderS false k ks) = all-order (Kid text t n k p) false k ks kids in
         let d : datalessAt text t p ≡ dataless ps = union-dataless z (orderS false k ks) (rw count-order (omega arith)) a order in
         rw d (swap (eqb k unionKind) (enumsWithoutDataAsStrings options) (dataless ps)))
         (λ e. rw e refl))
       where
-        union-dataless : k ≡ unionKind → (is : Spots) → manyS is ≤ 1024 → All (Kid text t n k p) is → Enumerates text t false k p 0 is → datalessAt text t p ≡ dataless (placesOf k m (eraseIn is))
+        union-dataless : k ≡ unionKind → (is : Spots) → manyS is ≤ 1024 → AllS (Kid text t n k p) is → Enumerates text t false k p 0 is → datalessAt text t p ≡ dataless (placesOf k m (eraseIn is))
         union-dataless z is l a h = rw z (dataless-is text t n p m is l (rw z at a) (rw z at h))
 
     -- the record and the name of a dictionary, and of any other place
@@ -431,7 +431,7 @@ module _ (options : ℕ) (text t : List ℕ) where
     leaf-count : isContainer k ≡ false → ks ≡ no-spots → fieldCount text t k p ≡ 0
     leaf-count c z = count-none options text t n p k m c (rw z at order)
 
-    counts : (eqb k mapKind ≡ true → manyS ks ≡ 2) → All (Told options text t n p k m) (orderS false k ks)
+    counts : (eqb k mapKind ≡ true → manyS ks ≡ 2) → AllS (Told options text t n p k m) (orderS false k ks)
         → (fieldCount text t k p ≡ childCount (arranged k (fieldsS options k m 0 (orderS false k ks)))) × (childCount (arranged k (fieldsS options k m 0 (orderS false k ks))) < 65536)
     unfolding fieldCount if_then_else_
     counts two told = cases (eqb k mapKind)
@@ -465,8 +465,8 @@ module _ (options : ℕ) (text t : List ℕ) where
           rw (emitted-leaf levels p lacking number w (leaf-is (λ c′. absurd (true≢false (sym c′ ∙ c)))), d, q)
           (writes-as (fieldAt options text t p (lacking || eqb (word t p nullWord) 1) number) _ name _ (name ++ []) (sym (append-nil _)) (sym (append-nil name)) own w (rw (d, q) at room))
 
-      place-inner : asWords ≡ false → isContainer k ≡ true → k < 256 → (eqb k mapKind ≡ true → manyS ks ≡ 2) → All (Told options text t n p k m) (orderS false k ks)
-          → All (Inner options text t n p k m (emittedAt options text t levels)) (orderS true k ks) → Enumerates text t true k p 0 (orderS true k ks)
+      place-inner : asWords ≡ false → isContainer k ≡ true → k < 256 → (eqb k mapKind ≡ true → manyS ks ≡ 2) → AllS (Told options text t n p k m) (orderS false k ks)
+          → AllS (Inner options text t n p k m (emittedAt options text t levels)) (orderS true k ks) → Enumerates text t true k p 0 (orderS true k ks)
           → Writes (emittedAt options text t (suc levels) p lacking number) (recordsOf it) (namesOf it)
       unfolding fieldOf recordsOf namesOf if_then_else_
       place-inner d c kl two told inner h w room =
@@ -486,9 +486,9 @@ own-row t p b k m ks r (suc (suc (suc f))) l = absurd (omega arith)
 
 module _ (options : ℕ) (text t : List ℕ) (n : ℕ) (most : n ≤ placeLimit) where
   -- the children, of which the walk refuses none
-  told-below : (p : ℕ) (b lacking : Bool) (k m : ℕ) (ks : Spots) → All (Kid text t n k p) ks → isContainer k ≡ true
+  told-below : (p : ℕ) (b lacking : Bool) (k m : ℕ) (ks : Spots) → AllS (Kid text t n k p) ks → isContainer k ≡ true
       → (eqb k unionKind && dataless (placesOf k m (eraseIn (orderS false k ks))) && enumsWithoutDataAsStrings options) ≡ false → walk options (placeOf lacking (erase (spot p b k m ks))) ≡ none
-      → All (Told options text t n p k m) (orderS false k ks)
+      → AllS (Told options text t n p k m) (orderS false k ks)
   told-below p b lacking k m ks kids c d e =
       zip (Kid text t n k p) (Passed options k m) (orderS false k ks) (all-order (Kid text t n k p) false k ks kids)
       (passed options k m (orderS false k ks) (walk-below options (lacking || b) k (placesOf k m (eraseIn (orderS false k ks))) c d (rw (place-is lacking p b k m ks) at e)))
@@ -498,7 +498,7 @@ module _ (options : ℕ) (text t : List ℕ) (n : ℕ) (most : n ≤ placeLimit)
       → Writes (emittedAt options text t levels (num u) lacking number) (recordsOf (fieldOf options name number (placeOf lacking (erase u)))) (namesOf (fieldOf options name number (placeOf lacking (erase u))))
   second zero (spot p b k m ks) lacking number name nm g r f o z l e = absurd (omega (arith, g .0))
   second (suc levels) (spot p b k m ks) lacking number name nm g r f o z l e =
-      let kids : All (Kid text t n k p) ks = known text t n k p p ks (omega arith) (r .1) (g .2) (f .1) (o .2) (z .2) in
+      let kids : AllS (Kid text t n k p) ks = known text t n k p p ks (omega arith) (r .1) (g .2) (f .1) (o .2) (z .2) in
       let some : manyS ks < 1024 = omega (arith, few n p ks (g .0) (g .2)) in
       let row : Row t p kindWord (k ∷ one b ∷ m ∷ []) = own-row t p b k m ks (r .0) in
       rw (place-is lacking p b k m ks)
@@ -522,7 +522,7 @@ module _ (options : ℕ) (text t : List ℕ) (n : ℕ) (most : n ≤ placeLimit)
       (namesIn (fieldsOfField (fieldOf options name number (placeOf lacking (erase (spot p b k m ks))))))
   unfolding fieldOf if_then_else_
   below-writes levels p b lacking k m ks number name g r f o z l c v e =
-      let kids : All (Kid text t n k p) ks = known text t n k p p ks (omega arith) (r .1) (g .2) (f .1) (o .2) (z .2) in
+      let kids : AllS (Kid text t n k p) ks = known text t n k p p ks (omega arith) (r .1) (g .2) (f .1) (o .2) (z .2) in
       let some : manyS ks < 1024 = omega (arith, few n p ks (g .0) (g .2)) in
       let told = told-below p b lacking k m ks kids c (rw v refl) e in
       rw (place-is lacking p b k m ks, v)

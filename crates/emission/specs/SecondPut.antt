@@ -1,14 +1,14 @@
 -- Bytes written one after another: records and names, where there is room for them.
+use Rattle.logic.specs.Test.{if_then_else_}
 use mathlib.Core.Path.{_≡_, refl, sym}
 use mathlib.Core.Bool.{Bool, true, false}
 use mathlib.Core.List.{List, [], _∷_, _++_, append-assoc}
-use Prim.Native.Nat.{ℕ, zero, suc, _+_, _-_, _/_, _%_, _<_, _≤_}
+use Prim.Native.Nat.{_-_, ℕ, zero, suc, _+_, _/_, _%_, _<_, _≤_}
 use native.Mathlib.Nat.{add-zero, add-assoc}
 use native.Mathlib.Omega.{arith}
 use lib.Dec.{eqb}
 use lib.ListN.{length, length-append, take-append-drop}
 use borrow.Author.Tests.{le-ltb}
-use Rattle.logic.specs.Test.{if_then_else_}
 use Rattle.logic.specs.Buffer.{written, length-written, written-next}
 use Rattle.datatype.specs.Codes.{null, struct, noStrategy, unknownVariant}
 use Rattle.model.specs.Kinds.{mapKind}

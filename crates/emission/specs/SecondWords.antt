@@ -1,41 +1,36 @@
 -- What the words of a place and of its children say, for a walk over the children in order.
 use Prim.{Unit, tt}
 use mathlib.Core.Path.{_≡_, refl, ap, _∙_}
-use mathlib.Core.Bool.{Bool, true, false, not, _&&_, _||_, false≢true}
+use mathlib.Core.Bool.{Bool, true, false, not, _&&_, _||_}
 use mathlib.Core.List.{List}
-use Prim.Native.Nat.{ℕ, zero, suc, _+_, _*_, _-_, _/_, _%_, _^_, _<_, _≤_}
+use Prim.Native.Nat.{ℕ, zero, suc, _+_, _%_, _^_, _<_, _≤_}
 use native.Mathlib.Nat.{mod-eq-of-lt}
 use native.Mathlib.Omega.{arith}
 use lib.Dec.{eqb, ltb}
 use lib.ListN.{length, length-take}
-use borrow.Author.Tests.{eq-eqb, ne-eqb, le-ltb, ltb-true}
+use borrow.Author.Tests.{ne-eqb}
 use Rattle.logic.specs.Test.{if_then_else_, cases}
 use Rattle.datatype.specs.Codes.{null}
 use Rattle.text.specs.Name.{bytesOf, ltName}
 use Rattle.text.specs.Decimal.{decimal}
 use Rattle.text.specs.DecimalLaws.{length-u16}
 use Rattle.words.specs.Word.{word}
-use Rattle.model.specs.Kinds.{mapKind, unionKind, mapModeKind, isContainer, isStruct, Step, field, element, position, key, value, variant, variantOf, isVariant}
+use Rattle.model.specs.Kinds.{mapKind, unionKind, mapModeKind, isContainer, Step, element, key, value, variantOf, isVariant}
 use Rattle.model.specs.Tracing.{one}
-use Rattle.model.specs.Emission.{nameOf, below, shown, insertVariant, byNumber, isMissing, placeOf, placesOf, isDataless, datalessFrom}
-use Rattle.shapes.specs.declared.Step.the-variants as S
-use Rattle.shapes.specs.Steps.{fieldCode, unpackedName}
-use Rattle.places.specs.Layout.{kindWord, stepWord, nameWord}
+use Rattle.model.specs.Emission.{nameOf, shown, isMissing, placeOf, placesOf, isDataless, datalessFrom}
+use Rattle.shapes.specs.Steps.{fieldCode}
+use Rattle.places.specs.Layout.{kindWord, stepWord}
 use Rattle.refine.specs.Spots.{Spot, spot, Spots, no-spots, child, num, kindS}
-use Rattle.refine.specs.Steps.{stepCodeOf, nameIn}
 use Rattle.refine.specs.Numbers.{Good, GoodIn}
 use Rattle.refine.specs.Rep.{Cell, Rep, RepIn}
 use Rattle.refine.specs.Erase.{erase, eraseIn}
 use Rattle.walk.specs.Order.{variantAt, positionAt, givenName, childName, nearest, nextChild, onward, childLimit}
 use Rattle.walk.specs.Order.{datalessFrom as datalessAtFrom}
-use Rattle.emission.specs.FirstPlaces.{manyS}
+use Rattle.emission.specs.FirstPlaces as First
+use Rattle.emission.specs.FirstPlaces.{manyS, AllS, number-all, number-places, child-variant}
 use Rattle.emission.specs.Arranged.{insertNumberS, byNumberS, insertNameS, byNameS, orderS, Enumerates, Orders, OrdersIn, stepFits, FitS, FitIn}
 
 -- ---- tests
-or-yes : (t : Bool) → t || true ≡ true
-or-yes true = refl
-or-yes false = refl
-
 pub one-is : (b : Bool) → eqb (one b) 1 ≡ b
 one-is true = refl
 one-is false = refl
@@ -50,20 +45,8 @@ abbrev mutual
   NeatIn kind (child s h m u ks) = (eqb kind unionKind ≡ false → isVariant s ≡ false) × Neat u × NeatIn kind ks
 
 -- ---- a child's words
-variant-by : (s : Step) → (if ltb (stepCodeOf s) 5 || eqb (stepCodeOf s % 2) 0 then 0 else (stepCodeOf s - 5) / 2) ≡ variantOf s
-unfolding if_then_else_
-variant-by (field name) = refl
-variant-by element = refl
-variant-by (position i) = rw (eq-eqb ((4 + 2 * i) % 2) 0 (omega arith), or-yes (ltb (4 + 2 * i) 5)) refl
-variant-by key = refl
-variant-by value = refl
-variant-by (variant k name) =
-    let e : (5 + 2 * k - 5) / 2 ≡ k = omega arith in
-    rw (le-ltb (5 + 2 * k) 5 (omega arith), ne-eqb ((5 + 2 * k) % 2) 0 (omega arith)) e
-
 pub variant-is : {text t : List ℕ} {q x p : ℕ} {s : Step} {h m : ℕ} → Cell text t q x p s h m → variantAt t q ≡ variantOf s
-unfolding variantAt
-variant-is {t = t} {q = q} {s = s} c = let w : word t q stepWord ≡ stepCodeOf s = c .row 2 (omega arith) in rw w (variant-by s)
+variant-is {text} {t} {q} {x} {p} {s} {h} {m} c = child-variant text t q x p s h m c
 
 -- the name by the word and the name given
 unfoldable nameBy : ℕ → ℕ → List ℕ → List ℕ
@@ -74,33 +57,12 @@ nameBy code at given =
     else if not (eqb code fieldCode) && eqb (code % 2) 0 then decimal at
     else given
 
-name-by : (k : ℕ) (s : Step) → stepFits k s ≡ true → nameBy (stepCodeOf s) ((stepCodeOf s - 4) / 2 % 2 ^ 16) (nameIn s) ≡ nameOf s
-unfolding nameBy if_then_else_
-name-by k (field name) e = refl
-name-by k element e = refl
-name-by k (position i) e =
-    let a : i < 2 ^ 16 = ltb-true i (2 ^ 16) (small e) in
-    let b : (4 + 2 * i - 4) / 2 ≡ i = omega arith in
-    let d : i % 2 ^ 16 ≡ i = mod-eq-of-lt a in
-    rw (ne-eqb (4 + 2 * i) 0 (omega arith), ne-eqb (4 + 2 * i) 1 (omega arith), ne-eqb (4 + 2 * i) 2 (omega arith), ne-eqb (4 + 2 * i) 3 (omega arith), eq-eqb ((4 + 2 * i) % 2) 0 (omega arith), b, d) refl
-  where
-    small : (if eqb k unionKind then false else if isStruct k then false else ltb i (2 ^ 16)) ≡ true → ltb i (2 ^ 16) ≡ true
-    small e = cases (eqb k unionKind) (λ x. absurd (false≢true (rw x at e))) (λ x. cases (isStruct k) (λ y. absurd (false≢true (rw (x, y) at e))) (λ y. rw (x, y) at e))
-name-by k key e = refl
-name-by k value e = refl
-name-by k (variant number name) e =
-    rw (ne-eqb (5 + 2 * number) 0 (omega arith), ne-eqb (5 + 2 * number) 1 (omega arith), ne-eqb (5 + 2 * number) 2 (omega arith), ne-eqb (5 + 2 * number) 3 (omega arith), ne-eqb ((5 + 2 * number) % 2) 0 (omega arith)) refl
-
 child-name : (text t : List ℕ) (q : ℕ) → childName text t q ≡ nameBy (word t q stepWord) (positionAt t q) (bytesOf text (givenName t q))
 unfolding childName nameBy
 child-name text t q = refl
 
 pub name-is : {text t : List ℕ} {q x p : ℕ} {s : Step} {h m : ℕ} (k : ℕ) → Cell text t q x p s h m → stepFits k s ≡ true → childName text t q ≡ nameOf s
-name-is {text = text} {t = t} {q = q} {s = s} k c e =
-    let w : word t q stepWord ≡ stepCodeOf s = c .row 2 (omega arith) in
-    let v : word t q nameWord ≡ c .name = c .row 3 (omega arith) in
-    let n : bytesOf text (unpackedName (word t q nameWord)) ≡ nameIn s = rw v (c .says) in
-    child-name text t q ∙ (rw (n, w) (name-by k s e))
+name-is {text} {t} {q} {x} {p} {s} {h} {m} k c e = First.child-name text t q x p k s h m c e
 
 -- a name's length is of 16 bits
 by-short : (code at : ℕ) (given : List ℕ) → at < 2 ^ 16 → length given < 65536 → length (nameBy code at given) < 65536
@@ -119,36 +81,21 @@ pub kind-word : (text t : List ℕ) (u : Spot) → Rep text t u → word t (num 
 kind-word text t (spot p b k m ks) r = r .0 0 (omega arith)
 
 -- ---- something of every child
-abbrev pub All : (Step → ℕ → ℕ → Spot → Type 0) → Spots → Type 0
-All P no-spots = Unit {0}
-All P (child s h m u ks) = P s h m u × All P ks
-
 module _ (P : Step → ℕ → ℕ → Spot → Type 0) where
-  pub all-insert-number : (s : Step) (h m : ℕ) (u : Spot) (ks : Spots) → P s h m u → All P ks → All P (insertNumberS s h m u ks)
-  unfolding insertNumberS if_then_else_
-  all-insert-number s h m u no-spots a b = (a, b)
-  all-insert-number s h m u (child r i j v ks) a b =
-      cases (ltb (variantOf s) (variantOf r)) (λ e. rw e (a, b)) (λ e. rw e (b .0, all-insert-number s h m u ks a (b .1)))
-
-  pub all-number : (ks : Spots) → All P ks → All P (byNumberS ks)
-  unfolding byNumberS
-  all-number no-spots b = b
-  all-number (child s h m u ks) b = all-insert-number s h m u (byNumberS ks) (b .0) (all-number ks (b .1))
-
-  pub all-insert-name : (s : Step) (h m : ℕ) (u : Spot) (ks : Spots) → P s h m u → All P ks → All P (insertNameS s h m u ks)
+  pub all-insert-name : (s : Step) (h m : ℕ) (u : Spot) (ks : Spots) → P s h m u → AllS P ks → AllS P (insertNameS s h m u ks)
   unfolding insertNameS if_then_else_
   all-insert-name s h m u no-spots a b = (a, b)
   all-insert-name s h m u (child r i j v ks) a b =
       cases (ltName (nameOf r) (nameOf s)) (λ e. rw e (b .0, all-insert-name s h m u ks a (b .1))) (λ e. rw e (a, b))
 
-  pub all-name : (ks : Spots) → All P ks → All P (byNameS ks)
+  pub all-name : (ks : Spots) → AllS P ks → AllS P (byNameS ks)
   unfolding byNameS
   all-name no-spots b = b
   all-name (child s h m u ks) b = all-insert-name s h m u (byNameS ks) (b .0) (all-name ks (b .1))
 
-  pub all-order : (sorted : Bool) (k : ℕ) (ks : Spots) → All P ks → All P (orderS sorted k ks)
+  pub all-order : (sorted : Bool) (k : ℕ) (ks : Spots) → AllS P ks → AllS P (orderS sorted k ks)
   unfolding orderS if_then_else_
-  all-order sorted k ks b = cases (eqb k unionKind) (λ e. rw e (all-number ks b)) (λ e. rw e (cases (sorted && eqb k mapModeKind) (λ f. rw f (all-name ks b)) (λ f. rw f b)))
+  all-order sorted k ks b = cases (eqb k unionKind) (λ e. rw e (number-all P ks b)) (λ e. rw e (cases (sorted && eqb k mapModeKind) (λ f. rw f (all-name ks b)) (λ f. rw f b)))
 
 count-insert-number : (s : Step) (h m : ℕ) (u : Spot) (ks : Spots) → manyS (insertNumberS s h m u ks) ≡ suc (manyS ks)
 unfolding insertNumberS if_then_else_
@@ -192,7 +139,7 @@ pub record Kid (text t : List ℕ) (n k p : ℕ) (s : Step) (h m : ℕ) (u : Spo
   pub neat : Neat u
   pub plain : eqb k unionKind ≡ false → isVariant s ≡ false
 
-pub known : (text t : List ℕ) (n k p c : ℕ) (ks : Spots) → p ≤ c → RepIn text t p ks → GoodIn n c ks → FitIn k ks → OrdersIn text t ks → NeatIn k ks → All (Kid text t n k p) ks
+pub known : (text t : List ℕ) (n k p c : ℕ) (ks : Spots) → p ≤ c → RepIn text t p ks → GoodIn n c ks → FitIn k ks → OrdersIn text t ks → NeatIn k ks → AllS (Kid text t n k p) ks
 known text t n k p c no-spots l r g f o z = tt
 known text t n k p c (child s h m u ks) l r g f o z = (
   record { next = _; cell = r .0; rep = r .1; above = omega (arith, g .0); good = g .1; fit = f .1; step = f .0; orders = o .0; neat = z .1; plain = z .0 },
@@ -200,28 +147,16 @@ known text t n k p c (child s h m u ks) l r g f o z = (
 )
 
 -- ---- the places as the model's walk finds them
-places-insert : (k m : ℕ) (s : Step) (h x : ℕ) (u : Spot) (ks : Spots)
-    → placesOf k m (eraseIn (insertNumberS s h x u ks)) ≡ insertVariant s (placeOf (isMissing k m h) (erase u)) (placesOf k m (eraseIn ks))
-unfolding insertNumberS insertVariant placesOf if_then_else_
-places-insert k m s h x u no-spots = refl
-places-insert k m s h x u (child r i j v ks) =
-    cases (ltb (variantOf s) (variantOf r)) (λ e. rw e refl) (λ e. rw e (ap (below r (placeOf (isMissing k m i) (erase v))) (places-insert k m s h x u ks)))
-
-pub places-number : (k m : ℕ) (ks : Spots) → placesOf k m (eraseIn (byNumberS ks)) ≡ byNumber (placesOf k m (eraseIn ks))
-unfolding byNumberS byNumber placesOf
-places-number k m no-spots = refl
-places-number k m (child s h x u ks) = places-insert k m s h x u (byNumberS ks) ∙ ap (insertVariant s (placeOf (isMissing k m h) (erase u))) (places-number k m ks)
-
 pub place-is : (lacking : Bool) (p : ℕ) (b : Bool) (k m : ℕ) (ks : Spots) → placeOf lacking (erase (spot p b k m ks)) ≡ shown (lacking || b) k (placesOf k m (eraseIn (orderS false k ks)))
 unfolding placeOf orderS if_then_else_
-place-is lacking p b k m ks = cases (eqb k unionKind) (λ e. rw (e, places-number k m ks) refl) (λ e. rw e refl)
+place-is lacking p b k m ks = cases (eqb k unionKind) (λ e. rw (e, number-places k m ks) refl) (λ e. rw e refl)
 
 -- ---- a union of only dataless variants
 dataless-kind : (b : Bool) (u : Spot) → isDataless (placeOf b (erase u)) ≡ eqb (kindS u) null
 dataless-kind b (spot p c k m ks) = rw (place-is b p c k m ks) refl
 
 module _ (text t : List ℕ) (n p m : ℕ) where
-  dataless-from : (left slot last : ℕ) (ks : Spots) → manyS ks ≤ left → slot + left ≤ 2048 → All (Kid text t n unionKind p) ks → Enumerates text t false unionKind p last ks
+  dataless-from : (left slot last : ℕ) (ks : Spots) → manyS ks ≤ left → slot + left ≤ 2048 → AllS (Kid text t n unionKind p) ks → Enumerates text t false unionKind p last ks
       → datalessAtFrom text t p left slot (nearest text t false p last) ≡ datalessFrom slot (placesOf unionKind m (eraseIn ks))
   unfolding datalessAtFrom datalessFrom placesOf nextChild if_then_else_
   dataless-from zero slot last no-spots l z a h = refl
@@ -236,6 +171,6 @@ module _ (text t : List ℕ) (n p m : ℕ) where
       rw e (rw (ne-eqb (num u) 0 (omega (arith, a .0 .above)), datalessAtFrom, v, w, dataless-kind (isMissing unionKind m i) u)
       (cases (eqb (variantOf s) slot && eqb (kindS u) null) (λ d. rw (d, on) ih) (λ d. rw d refl)))
 
-  pub dataless-is : (ks : Spots) → manyS ks ≤ childLimit → All (Kid text t n unionKind p) ks → Enumerates text t false unionKind p 0 ks
+  pub dataless-is : (ks : Spots) → manyS ks ≤ childLimit → AllS (Kid text t n unionKind p) ks → Enumerates text t false unionKind p 0 ks
       → datalessAtFrom text t p childLimit 0 (nearest text t false p 0) ≡ datalessFrom 0 (placesOf unionKind m (eraseIn ks))
   dataless-is ks l a h = dataless-from childLimit 0 0 ks l (omega arith) a h

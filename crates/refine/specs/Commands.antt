@@ -4,7 +4,6 @@ use mathlib.Core.Bool.{Bool, true, false, _&&_, true≢false}
 use mathlib.Core.List.{List, [], _∷_}
 use mathlib.Core.Option.{Option, none, some}
 use Prim.Native.Nat.{ℕ, zero, suc, _+_, _%_, _<_}
-use native.Mathlib.Nat.{zero-add, le-of-suc-le-suc, not-suc-le-zero}
 use native.Mathlib.Omega.{arith}
 use lib.Dec.{eqb, ltb}
 use lib.ListN.{length, getD, List·getD-map}
@@ -26,6 +25,7 @@ use Rattle.commands.specs.declared.Command.the-variants as C
 use Rattle.commands.specs.declared.Due.{Due}
 use Rattle.commands.specs.declared.Due.the-variants as D
 use Rattle.commands.specs.declared.Read.the-variants as R
+use Rattle.commands.specs.Laws as Laws
 use Rattle.commands.specs.Commands.{operandAt, nameAt, Form, plain, counted, named, variant, countedVariant, forms, formOf, operands, made, nameIn, badName, readCommand, textByte, fieldByte, endByte}
 use Rattle.commands.specs.Laws.{byteOf, nameOf}
 use Rattle.model.specs.Kinds as K
@@ -230,25 +230,8 @@ shape-says options text (C.TupleVariant k name n) g x y = chooses {c = N.Positio
 shape-says options text (C.StructVariant k name) g x y = chooses {c = N.Fields} (variant-stands text k name g)
 
 -- ---- the byte of a command that was read
-upFrom : ℕ → ℕ → List ℕ
-upFrom i zero = []
-upFrom i (suc n) = i ∷ upFrom (suc i) n
-
-up-at : (n i k : ℕ) → k < n → getD (upFrom i n) k 0 ≡ i + k
-unfolding upFrom
-up-at zero i k h = absurd (not-suc-le-zero h)
-up-at (suc n) i zero h = omega arith
-up-at (suc n) i (suc k) h = let e : getD (upFrom (suc i) n) k 0 ≡ suc i + k = up-at n (suc i) k (le-of-suc-le-suc h) in omega arith
-
-made-byte : (byte : ℕ) (commands : List ℕ) (at : ℕ) → byte < length forms → byteOf (made (formOf byte) commands at) ≡ byte
-unfolding made formOf upFrom
-made-byte byte commands at h =
-    sym (List·getD-map (λ (form : Form). byteOf (made form commands at)) forms byte (plain C.Unit)) ∙ up-at (length forms) 0 byte h ∙ zero-add byte
-
 pub byte-is : (commands text : List ℕ) (at : ℕ) (due : Due) (c : Command) (b : ℕ) → readCommand commands text at due ≡ R.Command c b → byteOf c ≡ getD commands at 0
-byte-is commands text at due c b e =
-    let g : Good commands text at due c b = good commands text at due c b e in
-    rw (g .what) (made-byte (getD commands at 0) commands (at + 1) (lies commands at due (g .known) .known))
+byte-is commands text at due c b e = Laws.good commands text at due c b e .byte
 
 pub starts : (commands text : List ℕ) (at : ℕ) (due : Due) (c : Command) (b : ℕ) → readCommand commands text at due ≡ R.Command c b → at < length commands
 starts commands text at due c b e = lies commands at due (good commands text at due c b e .known) .starts

@@ -1,13 +1,13 @@
 -- The tree with its places' numbers and marks, and the same walk over it as the model's: what stands between the words of the table and the
 -- model's tree.
-use mathlib.Core.Bool.{Bool, true, false, _||_}
+use mathlib.Core.Bool.{Bool, false, _||_}
 use mathlib.Core.List.{List, [], _∷_}
 use Prim.Native.Nat.{ℕ, _+_}
 use lib.Dec.{eqb, ltb}
 use Rattle.logic.specs.Test.{if_then_else_}
 use Rattle.datatype.specs.Codes.{null}
 use Rattle.refusal.specs.Number.{twoNames, tooManyPlaces}
-use Rattle.model.specs.Result.{Result, accepted, refused, _>>=_}
+use Rattle.model.specs.Result.{Result, refused, _>>=_}
 use Rattle.model.specs.Kinds.{isContainer, Step, same}
 use Rattle.model.specs.Reading.{Value, val, cut, Parts, no-parts, cut-off, part}
 use Rattle.model.specs.Tracing.{dotsOf, placeLimit, meet, has, clashes, made, Counted, counted}

@@ -1,13 +1,13 @@
 -- The model's tree as the words of the table say it, and the outcome of a flat run.
-use mathlib.Core.Bool.{Bool, true, false}
+use mathlib.Core.Bool.{true, false}
 use mathlib.Core.List.{List}
-use Prim.Native.Nat.{ℕ, zero, suc, _-_, _/_}
+use Prim.Native.Nat.{_-_, ℕ, zero, suc, _/_}
 use lib.Dec.{eqb}
 use Rattle.logic.specs.Test.{if_then_else_}
 use Rattle.refusal.specs.Number.{numberOf}
 use Rattle.text.specs.Name.{bytesOf}
 use Rattle.words.specs.Word.{word}
-use Rattle.model.specs.Result.{Result, accepted, refused}
+use Rattle.model.specs.Result.{Result, refused}
 use Rattle.model.specs.Kinds.{Step, field, element, position, key, value, variant}
 use Rattle.model.specs.Tracing.{Tree, node, Kids, no-kids, kid, fresh, Counted, counted}
 use Rattle.shapes.specs.Steps.{fieldCode, unpackedName}

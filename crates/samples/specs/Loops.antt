@@ -1,14 +1,13 @@
 -- The loops of the readers: what is left of each gives the same as the whole.
-use mathlib.Core.Path.{_≡_, refl, sym, ap, _∙_}
+use Rattle.logic.specs.Test.{if_then_else_}
+use mathlib.Core.Path.{_≡_, refl, sym, _∙_}
 use mathlib.Core.Bool.{Bool, true, false}
-use mathlib.Core.List.{List, [], _∷_}
-use Prim.Native.Nat.{ℕ, zero, suc, _+_, _-_, _<_, _≤_}
+use mathlib.Core.List.{List}
+use Prim.Native.Nat.{_-_, ℕ, suc, _+_, _<_, _≤_}
 use native.Mathlib.Omega.{arith}
 use borrow.Author.Tests.{lt-ltb, le-ltb}
-use lib.Dec.{eqb, ltb, leb}
 use lib.ListN.{length, getD}
-use Rattle.logic.specs.Test.{if_then_else_}
-use Rattle.logic.specs.Turns.{Turn, again, done, turns, Falls, goes-on, ends}
+use Rattle.logic.specs.Turns.{again, done, goes-on, ends}
 use Rattle.refusal.specs.declared.Refusal.{Refusal}
 use Rattle.shapes.specs.declared.Step.{Step}
 use Rattle.shapes.specs.declared.Contents.the-variants as N
@@ -18,7 +17,7 @@ use Rattle.shapes.specs.Shapes.{partAt}
 use Rattle.shapes.specs.Laws.{step-above, step-within}
 use Rattle.samples.specs.declared.Traced.{Traced}
 use Rattle.samples.specs.declared.Traced.the-variants as T
-use Rattle.samples.specs.Flat.{Chain, chain, isMark, marked, pastTurn, pastMarks, Out, out, partRead, State, state, afterPart, onPart, partTurn, partStop, partsFrom, readers, levelLimit, valueAt, recordTurn, recordStop, recordsAt}
+use Rattle.samples.specs.Flat.{Chain, chain, isMark, marked, pastTurn, pastMarks, Out, out, partRead, state, onPart, partTurn, partStop, partsFrom, readers, levelLimit, valueAt, recordTurn, recordStop, recordsAt}
 use Rattle.samples.specs.Onward.{Moved, past-falls, leftChain, part-on, part-falls, leftState, records-fall, readers-on}
 
 -- ---- the marks before a value

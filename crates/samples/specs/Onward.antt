@@ -3,14 +3,14 @@ use Prim.{Unit, tt}
 use mathlib.Core.Path.{_≡_, refl, ap, _∙_}
 use mathlib.Core.Bool.{Bool, true, false}
 use mathlib.Core.List.{List}
-use Prim.Native.Nat.{ℕ, zero, suc, _+_, _-_, _<_, _≤_}
+use Prim.Native.Nat.{_-_, ℕ, zero, suc, _+_, _<_, _≤_}
 use native.Mathlib.Nat.{le-refl}
 use native.Mathlib.Omega.{arith}
 use borrow.Author.Tests.{ltb-true}
-use lib.Dec.{eqb, ltb}
+use lib.Dec.{ltb}
 use lib.ListN.{length, getD}
 use Rattle.logic.specs.Test.{if_then_else_}
-use Rattle.logic.specs.Turns.{Turn, again, done, turns, Says, Falls, holds}
+use Rattle.logic.specs.Turns.{Turn, Says, Falls, holds}
 use Rattle.refusal.specs.declared.Refusal.{Refusal}
 use Rattle.refusal.specs.declared.Refusal.the-variants as F
 use Rattle.text.specs.declared.Name.{Name}
@@ -37,10 +37,9 @@ use Rattle.places.specs.declared.Met.the-variants as M
 use Rattle.places.specs.declared.Ensured.the-variants as E
 use Rattle.places.specs.declared.Made.the-variants as L
 use Rattle.places.specs.Layout.{kindWord}
-use Rattle.places.specs.Flat.{meeting, Ensuring, ensuring, ensured, Making, making, made, touched, sampled}
-use Rattle.samples.specs.declared.Traced.{Traced}
+use Rattle.places.specs.Flat.{meeting, Ensuring, ensuring, ensured, Making, making, made, sampled}
 use Rattle.samples.specs.declared.Traced.the-variants as T
-use Rattle.samples.specs.Flat.{Chain, chain, isMark, pastTurn, pastMarks, Out, out, onMet, onMade, stored, observed, Readers, atChild, dotsIn, partRead, State, state, afterPart, onPart, partTurn, partStop, partsFrom, opened, containerBy, chosen, variantBy, atShape, atRead, afterChain, valueBy, none-left, readers, levelLimit, valueAt, recordTurn, recordStop, recordsAt}
+use Rattle.samples.specs.Flat.{Chain, chain, isMark, pastTurn, pastMarks, Out, out, onMet, onMade, stored, observed, Readers, atChild, dotsIn, partRead, State, state, afterPart, onPart, partTurn, partStop, partsFrom, opened, containerBy, chosen, variantBy, atShape, atRead, afterChain, valueBy, none-left, readers, levelLimit, recordTurn}
 
 -- the offset behind is from `low` on and inside
 unfoldable pub Moved : ℕ → ℕ → Out → Type 0

@@ -1,17 +1,17 @@
 -- The table stays sound while values are read, and its places stay places.
-use Prim.{Unit, tt}
-use mathlib.Core.Path.{_≡_, refl, sym, ap, _∙_}
-use mathlib.Core.Bool.{Bool, true, false, _&&_}
+use Rattle.logic.specs.Test.{if_then_else_}
+use Prim.{tt}
+use mathlib.Core.Path.{_≡_, refl, sym, _∙_}
+use mathlib.Core.Bool.{Bool}
 use mathlib.Core.List.{List}
-use Prim.Native.Nat.{ℕ, zero, suc, _+_, _*_, _-_, _<_, _≤_}
+use Prim.Native.Nat.{_-_, ℕ, zero, suc, _+_, _*_, _<_, _≤_}
 use native.Mathlib.Nat.{le-refl}
 use native.Mathlib.Omega.{arith}
 use borrow.Author.Tests.{le-leb}
-use lib.Dec.{eqb, ltb, leb}
+use lib.Dec.{eqb, ltb}
 use lib.ListN.{length, getD}
-use Rattle.logic.specs.Test.{if_then_else_}
 use Rattle.logic.specs.Flag.{if-either}
-use Rattle.logic.specs.Turns.{Turn, again, done, Says, holds}
+use Rattle.logic.specs.Turns.{Says, holds}
 use Rattle.refusal.specs.declared.Refusal.{Refusal}
 use Rattle.words.specs.Word.{word}
 use Rattle.shapes.specs.declared.Step.{Step}
@@ -22,7 +22,7 @@ use Rattle.places.specs.declared.Ensured.the-variants as E
 use Rattle.places.specs.declared.Made.{Made}
 use Rattle.places.specs.declared.Made.the-variants as D
 use Rattle.places.specs.Layout.{kindWord, nullWord, Sound, Ready}
-use Rattle.places.specs.Flat.{meeting, Ensuring, ensuring, ensured, touched, sampled, Making, making, madeAll, SoundEnsured, SoundMade}
+use Rattle.places.specs.Flat.{meeting, ensuring, ensured, touched, sampled, making, madeAll, SoundEnsured, SoundMade}
 use Rattle.places.specs.Laws.{sound-plain, sound-sampled, sound-touched, ensured-grows}
 use Rattle.places.specs.Laws as L
 use Rattle.samples.specs.declared.Traced.{Traced}

@@ -1,21 +1,15 @@
 -- The ways through the readers: what each answers where its callees answered so.
-use Prim.{Unit, tt}
+use Prim.{Unit}
 use mathlib.Core.Path.{_≡_, refl, sym, ap, _∙_}
-use mathlib.Core.Bool.{Bool, true, false}
-use mathlib.Core.List.{List, [], _∷_}
-use Prim.Native.Nat.{ℕ, zero, suc, _+_, _-_, _<_, _≤_}
-use native.Mathlib.Nat.{le-refl}
+use mathlib.Core.Bool.{Bool, true}
+use mathlib.Core.List.{List}
+use Prim.Native.Nat.{_-_, ℕ, zero, suc, _<_}
 use native.Mathlib.Omega.{arith}
-use borrow.Author.Tests.{ltb-true, leb-true}
-use lib.Dec.{eqb, ltb, leb}
-use lib.ListN.{length, getD}
-use Rattle.logic.specs.Test.{if_then_else_}
-use Rattle.logic.specs.Turns.{Turn, again, done, turns, Says, Falls, goes-on, ends, holds}
 use Rattle.datatype.specs.Codes.{null}
 use Rattle.refusal.specs.declared.Refusal.{Refusal}
 use Rattle.refusal.specs.declared.Refusal.the-variants as F
 use Rattle.text.specs.declared.Name.{Name}
-use Rattle.words.specs.Word.{word, withWord}
+use Rattle.words.specs.Word.{word}
 use Rattle.commands.specs.declared.Command.{Command}
 use Rattle.commands.specs.declared.Read.{Read}
 use Rattle.commands.specs.declared.Read.the-variants as R
@@ -28,22 +22,19 @@ use Rattle.shapes.specs.declared.Contents.{Contents}
 use Rattle.shapes.specs.declared.Contents.the-variants as N
 use Rattle.shapes.specs.declared.Shape.{Shape}
 use Rattle.shapes.specs.declared.Shape.the-variants as H
-use Rattle.shapes.specs.declared.Part.{Part}
-use Rattle.shapes.specs.declared.Part.the-variants as P
 use Rattle.shapes.specs.Steps.{nameOf}
-use Rattle.shapes.specs.Shapes.{shapeAt, partAt}
+use Rattle.shapes.specs.Shapes.{shapeAt}
 use Rattle.places.specs.declared.Met.{Met}
 use Rattle.places.specs.declared.Met.the-variants as M
 use Rattle.places.specs.declared.Ensured.{Ensured}
 use Rattle.places.specs.declared.Ensured.the-variants as E
 use Rattle.places.specs.declared.Made.{Made}
 use Rattle.places.specs.declared.Made.the-variants as L
-use Rattle.places.specs.Layout.{kindWord, nullWord, Sound, Ready}
-use Rattle.places.specs.Flat.{meeting, Ensuring, ensuring, ensured, Making, making, made, touched, sampled}
-use Rattle.samples.specs.declared.Traced.{Traced}
+use Rattle.places.specs.Layout.{kindWord}
+use Rattle.places.specs.Flat.{meeting, ensuring, ensured, making, made, touched, sampled}
 use Rattle.samples.specs.declared.Traced.the-variants as T
-use Rattle.samples.specs.Flat.{Chain, chain, pastTurn, pastMarks, Out, out, onMet, onMade, stored, observed, Readers, atChild, dotsIn, partRead, State, state, afterPart, onPart, partTurn, partStop, partsFrom, partsBy, opened, containerBy, chosen, variantBy, atShape, atRead, afterChain, valueBy, none-left, readers, innerOf, levelLimit, valueAt, recordTurn, recordStop, recordsAt}
-use Rattle.samples.specs.Onward.{less, part-falls, records-fall, readers-on, leftState}
+use Rattle.samples.specs.Flat.{chain, pastMarks, Out, out, onMet, stored, observed, Readers, dotsIn, partRead, partsBy, opened, containerBy, chosen, variantBy, atShape, atRead, valueBy, readers, innerOf, valueAt}
+use Rattle.samples.specs.Onward.{less}
 
 -- ---- kinds that met
 module _ (options levels before kind place : ℕ) (t : List ℕ) (met : Met) (b : before ≡ word t place kindWord) (m : met ≡ meeting options levels before kind) where

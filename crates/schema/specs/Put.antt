@@ -1,7 +1,7 @@
 -- Field records and names in the output buffers, each written where there is room.
 use mathlib.Core.Bool.{Bool, true}
 use mathlib.Core.List.{List, [], _∷_}
-use Prim.Native.Nat.{ℕ, zero, suc, _+_, _-_, _/_, _%_}
+use Prim.Native.Nat.{_-_, ℕ, zero, suc, _+_, _/_, _%_}
 use lib.Dec.{ltb}
 use lib.ListN.{length}
 use Rattle.logic.specs.Test.{if_then_else_}

@@ -1,7 +1,7 @@
 -- The first walk: refusals 12 to 14, and how many field records, name bytes and columns there are below a place.
 use mathlib.Core.Bool.{Bool, true, false, not, _&&_, _||_}
 use mathlib.Core.List.{List}
-use Prim.Native.Nat.{ℕ, zero, suc, _+_, _-_, _%_, _^_}
+use Prim.Native.Nat.{_-_, ℕ, zero, suc, _+_, _%_, _^_}
 use lib.Dec.{eqb, leb}
 use lib.ListN.{length}
 use Rattle.logic.specs.Test.{if_then_else_}

@@ -3,7 +3,6 @@ use borrow.Author.Needs.{needs}
 use mathlib.Core.Path.{_≡_}
 use lib.ListN.{length}
 use native.Mathlib.Nat.{le-trans}
-use native.Mathlib.Omega.{arith}
 use Rattle.shapes.specs.Laws.{step-inside, text-inside, variant-inside, parts-from}
 use Rattle.places.specs.Layout.{Ready}
 use Rattle.places.specs.Laws.{made-grows}
@@ -11,7 +10,7 @@ use Rattle.samples.specs.Flat.{partsFrom, partsBy, readers}
 use Rattle.samples.specs.Ways.{opened-parts, opened-refused, container-opened, container-refused, variant-chosen, variant-refused, part-child, part-refused, chosen-child, chosen-refused, contents-unit, contents-value, contents-positions, contents-fields, value-refused, value-none, value-leaf, value-parts, value-variant}
 use Rattle.samples.specs.Loops.{parts-end, parts-refused, parts-stopped, parts-more, parts-less, parts-counted, count-fits}
 use Rattle.samples.specs.Table.{is-place, has-room, sampled-ready, made-ready, past-ready, observed-sound, child-grows, child-room, child-place, child-ready, traced-from, traced-grows, traced-ready, falls as variant-falls, met-left}
-use Prim.Native.Nat.{ℕ, _+_, _*_, _-_, _<_, _≤_}
+use Prim.Native.Nat.{_-_, ℕ, _+_, _*_, _<_, _≤_}
 use borrow.Fn.Kinds.{In}
 use borrow.Fn.PlainCycle.{Measures, is, falls, and}
 use Rattle.samples.proofs.enter.Reads as enter

@@ -1,7 +1,7 @@
 -- `from_samples`: from each record on the batch gives what it gives as a whole.
+use Prim.Native.Nat.{_-_}
 use borrow.Author.Needs.{needs}
 use mathlib.Core.Path.{_≡_}
-use Prim.Native.Nat.{_-_}
 use lib.ListN.{length}
 use Rattle.places.specs.Layout.{Ready}
 use Rattle.samples.specs.Flat.{recordsAt, fromSamples}

@@ -1,10 +1,10 @@
 -- `mark` stores the mark of a `some`.
+use Rattle.logic.specs.Test.{if_then_else_}
 use borrow.Author.Needs.{needs}
-use borrow.Author.Tests.{eq-eqb, ne-eqb}
+use borrow.Author.Tests.{ne-eqb}
 use mathlib.Core.Path.{_≡_, refl}
 use mathlib.Core.List.{List}
 use Prim.Native.Nat.{ℕ}
-use Rattle.logic.specs.Test.{if_then_else_}
 use Rattle.words.specs.Word.{withWord}
 use Rattle.places.specs.Layout.{nullWord}
 use Rattle.samples.specs.Flat.{someByte, marked}

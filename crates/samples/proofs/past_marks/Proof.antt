@@ -1,8 +1,8 @@
 -- `past_marks`: from each command on the marks are what they are as a whole.
+use Prim.Native.Nat.{_-_}
 use borrow.Author.Needs.{needs}
 use borrow.Author.Tests.{not-true, not-false}
 use mathlib.Core.Path.{_≡_}
-use Prim.Native.Nat.{_-_, _≤_}
 use lib.ListN.{length}
 use Rattle.samples.specs.Flat.{pastMarks}
 use Rattle.samples.specs.Loops.{past-cut, past-mark, past-other}

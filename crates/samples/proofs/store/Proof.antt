@@ -1,10 +1,10 @@
 -- `store` writes the kind, and the mark if null was seen.
+use Rattle.logic.specs.Test.{if_then_else_}
 use borrow.Author.Needs.{needs}
 use mathlib.Core.Path.{_≡_}
 use mathlib.Core.Bool.{Bool, true, false}
 use mathlib.Core.List.{List}
 use Prim.Native.Nat.{ℕ}
-use Rattle.logic.specs.Test.{if_then_else_}
 use Rattle.words.specs.Word.{withWord}
 use Rattle.places.specs.Layout.{kindWord, nullWord}
 use Rattle.samples.specs.Flat.{stored}
