@@ -1,7 +1,7 @@
 -- The second walk: what it writes; and the schema, with refusals 15 to 18.
 use mathlib.Core.Bool.{Bool, true, false, not, _&&_, _||_}
 use mathlib.Core.List.{List}
-use Prim.Native.Nat.{ℕ, zero, suc, _*_, _%_, _≤_}
+use Prim.Native.Nat.{ℕ, zero, suc, _*_, _%_}
 use lib.Dec.{eqb, ltb}
 use lib.ListN.{length}
 use Rattle.logic.specs.Test.{if_then_else_}
@@ -45,10 +45,6 @@ isDictionary options text t place = eqb (word t place kindWord) unionKind && enu
 -- where the next record and the next name go, and both buffers
 pub data Writing : Type 0 where
   writing : (i j : ℕ) → (fields names : List ℕ) → Writing
-
--- they go inside
-abbrev pub Fits : Writing → Type 0
-Fits (writing i j fields names) = (i ≤ length fields) × (j ≤ length names)
 
 abbrev pub asWriting : Put → Put → Writing
 asWriting (put i fields) (put j names) = writing i j fields names
