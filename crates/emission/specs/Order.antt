@@ -20,7 +20,8 @@ use Rattle.refine.specs.Spots.{Spot, spot, Spots, no-spots, child, num}
 use Rattle.refine.specs.Steps.{near, nameIn}
 use Rattle.refine.specs.Numbers.{firstOf, Good, GoodIn, nearIn, both-false, or-right, bounded, self}
 use Rattle.refine.specs.Rep.{Cell, Rep, RepIn}
-use Rattle.walk.specs.Order.{variantAt, givenName, nearer, nearerVariant, nearerName, nearestFrom, nearest, childLimit, nextChild}
+use Rattle.order.specs.Flat.{variantAt, givenName}
+use Rattle.walk.specs.Order.{nearer, nearerVariant, nearerName, nearestFrom, nearest, childLimit, nextChild}
 use Rattle.emission.specs.Arranged.{insertNumberS, byNumberS, insertNameS, byNameS, orderS, Enumerates, Orders, OrdersIn, stepFits, FitS, FitIn}
 
 -- a child of that number is among them
@@ -29,8 +30,8 @@ among x no-spots = false
 among x (child s h m u ks) = eqb x (num u) || among x ks
 
 -- ---- in order of first sight
-module _ (text t : List ℕ) (sorted : Bool) (kind place : ℕ) (way : (last : ℕ) → nextChild text t sorted kind place last ≡ (if eqb last 0 then word t place firstWord else word t last nextWord)) where
-  plainly : (n c last : ℕ) (ks : Spots) → GoodIn n c ks → RepIn text t place ks → nextChild text t sorted kind place last ≡ firstOf ks → Enumerates text t sorted kind place last ks
+module _ (text t : List ℕ) (sorted : Bool) (kind place : ℕ) (way : (last : ℕ) → nextChild t sorted kind place last ≡ (if eqb last 0 then word t place firstWord else word t last nextWord)) where
+  plainly : (n c last : ℕ) (ks : Spots) → GoodIn n c ks → RepIn text t place ks → nextChild t sorted kind place last ≡ firstOf ks → Enumerates t sorted kind place last ks
   unfolding if_then_else_
   plainly n c last no-spots g r e = e
   plainly n c last (child s h m u ks) g r e =
@@ -113,9 +114,9 @@ module _ (before : ℕ → ℕ → Bool) (irreflexive : (x : ℕ) → before x x
       (λ i. least last (if after before last (num u) && (eqb best 0 || before (num u) best) then num u else best) ks x (d .1) i f)
 
   -- a sorted list of the same children is gone through
-  module _ (text t : List ℕ) (sorted : Bool) (kind place : ℕ) (ks : Spots) (positive : among 0 ks ≡ false) (way : (last : ℕ) → nextChild text t sorted kind place last ≡ pick before last 0 ks) where
+  module _ (text t : List ℕ) (sorted : Bool) (kind place : ℕ) (ks : Spots) (positive : among 0 ks ≡ false) (way : (last : ℕ) → nextChild t sorted kind place last ≡ pick before last 0 ks) where
     through : (rest : Spots) (last : ℕ) → ((x : ℕ) → among x rest ≡ true → (among x ks ≡ true) × (after before last x ≡ true)) → ((x : ℕ) → among x ks ≡ true → after before last x ≡ true → among x rest ≡ true)
-        → Sorted before rest → Enumerates text t sorted kind place last rest
+        → Sorted before rest → Enumerates t sorted kind place last rest
     through no-spots last f g o = way last ∙ source last 0 ks (λ e. e) (λ a b. absurd (false≢true (g (pick before last 0 ks) a b)))
     through (child s h m u rest) last f g o =
         let a = f (num u) (rw (eq-eqb (num u) (num u) refl) refl) in
@@ -239,7 +240,7 @@ module _ (text t : List ℕ) (sorted byName : Bool) (kind : ℕ) (front : Step �
     (transitive : (x y z : ℕ) → before x y ≡ true → before y z ≡ true → before x z ≡ true)
     (test : (last best x : ℕ) → nearer text t byName last best x ≡ (after before last x && (eqb best 0 || before x best))) where
   sortedly : (n p : ℕ) (ks : Spots) → n ≤ placeLimit → GoodIn n p ks → RepIn text t p ks → Apart front before ks → word t p firstWord ≡ firstOf ks
-      → ((last : ℕ) → nextChild text t sorted kind p last ≡ nearest text t byName p last) → Enumerates text t sorted kind p 0 (sortBy front ks)
+      → ((last : ℕ) → nextChild t sorted kind p last ≡ nearest text t byName p last) → Enumerates t sorted kind p 0 (sortBy front ks)
   sortedly n p ks l g r a e way =
       through before irreflexive transitive text t sorted kind p ks (good-positive n p ks g)
       (λ last. way last ∙ rw e (search-is text t byName before last (test last) childLimit n p p 0 ks (omega arith) g r))
@@ -337,7 +338,7 @@ name-pair text t p (field name) (field other) x y a b h m i j f g d c e =
 
 -- ---- at a place, and at all
 module _ (text t : List ℕ) (sorted : Bool) (n : ℕ) (most : n ≤ placeLimit) where
-  order-at : (p k : ℕ) (ks : Spots) → GoodIn n p ks → RepIn text t p ks → FitIn k ks → word t p firstWord ≡ firstOf ks → Enumerates text t sorted k p 0 (orderS sorted k ks)
+  order-at : (p k : ℕ) (ks : Spots) → GoodIn n p ks → RepIn text t p ks → FitIn k ks → word t p firstWord ≡ firstOf ks → Enumerates t sorted k p 0 (orderS sorted k ks)
   unfolding orderS nextChild nearerVariant nearerName if_then_else_
   order-at p k ks g r f e =
       cases (eqb k unionKind)
@@ -361,11 +362,11 @@ module _ (text t : List ℕ) (sorted : Bool) (n : ℕ) (most : n ≤ placeLimit)
 
 mutual
   -- the search for the next child goes through the children in the order of a walk, at every place of a tree that the words say
-  pub orders : (text t : List ℕ) (n : ℕ) (u : Spot) → n ≤ placeLimit → Good n u → Rep text t u → FitS u → Orders text t u
+  pub orders : (text t : List ℕ) (n : ℕ) (u : Spot) → n ≤ placeLimit → Good n u → Rep text t u → FitS u → Orders t u
   orders text t n (spot p b k m ks) l g r f =
       let e : word t p firstWord ≡ firstOf ks = r .0 3 (omega arith) in
       (order-at text t false n l p k ks (g .2) (r .1) (f .1) e, order-at text t true n l p k ks (g .2) (r .1) (f .1) e, orders-in text t n p p k ks l (g .2) (r .1) (f .1))
 
-  orders-in : (text t : List ℕ) (n c p k : ℕ) (ks : Spots) → n ≤ placeLimit → GoodIn n c ks → RepIn text t p ks → FitIn k ks → OrdersIn text t ks
+  orders-in : (text t : List ℕ) (n c p k : ℕ) (ks : Spots) → n ≤ placeLimit → GoodIn n c ks → RepIn text t p ks → FitIn k ks → OrdersIn t ks
   orders-in text t n c p k no-spots l g r f = tt
   orders-in text t n c p k (child s h m u ks) l g r f = (orders text t n u l (g .1) (r .1) (f .1), orders-in text t n (num u) p k ks l (g .3) (r .2) (f .2))

@@ -27,7 +27,8 @@ use Rattle.refine.specs.Spots.{Spot, spot, Spots, no-spots, child, num, kindS}
 use Rattle.refine.specs.Numbers.{Good}
 use Rattle.refine.specs.Rep.{Rep, Row, ownWords}
 use Rattle.refine.specs.Erase.{erase, eraseIn}
-use Rattle.walk.specs.Order.{variantAt, childName, nearerVariant, nearestFrom, nearest, nextChild, childLimit, datalessAt}
+use Rattle.order.specs.Flat.{variantAt}
+use Rattle.walk.specs.Order.{childName, nearerVariant, nearestFrom, nearest, nextChild, childLimit, datalessAt}
 use Rattle.walk.specs.Walk.{sumOf, gapsAt}
 use Rattle.schema.specs.Put.{recordOf}
 use Rattle.schema.specs.Emit.{countFrom, fieldCount, isDictionary, Writing, writing, both, gapsIn, entriesIn, fieldAt, isLeaf, Writer, childIn, fieldsFrom, fieldsBelow, emittedBy, emittedAt, levelLimit}
@@ -186,7 +187,7 @@ module _ (text t : List ℕ) (last : ℕ) where
           let d : nearestFrom text t false last (suc left) best q ≡ nearestFrom text t false last left best (word t q nextWord) = rw (e, nearestFrom) (rw f refl) in
           rw d (ih (rw d at z))
 
-  pub next-after : (p q : ℕ) → nextChild text t false unionKind p last ≡ q → 0 < q → slotAfter t last ≤ variantAt t q
+  pub next-after : (p q : ℕ) → nextChild t false unionKind p last ≡ q → 0 < q → slotAfter t last ≤ variantAt t q
   unfolding nextChild if_then_else_
   next-after p q e l =
       let e′ : nearest text t false p last ≡ q = e in
@@ -197,8 +198,8 @@ module _ (options : ℕ) (text t : List ℕ) (n p k m : ℕ) where
   Told s h x u = Kid text t n k p s h x u × Passed options k m s h x u
 
   -- outside unions as many as children
-  count-plain : (left c last : ℕ) (ks : Spots) → eqb k unionKind ≡ false → manyS ks ≤ left → c + left ≤ 2048 → AllS Told ks → Enumerates text t false k p last ks
-      → countFrom text t k p left c (nextChild text t false k p last) ≡ c + manyS ks
+  count-plain : (left c last : ℕ) (ks : Spots) → eqb k unionKind ≡ false → manyS ks ≤ left → c + left ≤ 2048 → AllS Told ks → Enumerates t false k p last ks
+      → countFrom t k p left c (nextChild t false k p last) ≡ c + manyS ks
   unfolding countFrom if_then_else_
   count-plain zero c last no-spots f l z a h = omega arith
   count-plain (suc left) c last no-spots f l z a h = rw h (omega arith)
@@ -214,8 +215,8 @@ module _ (options : ℕ) (text t : List ℕ) (n p k m : ℕ) where
   fields-plain slot (child s i j u ks) f = rw f (ap suc (fields-plain (variantOf s + 1) ks f))
 
   -- of a union up to the last slot
-  count-union : (left last : ℕ) (ks : Spots) → eqb k unionKind ≡ true → manyS ks ≤ left → slotAfter t last ≤ 128 → AllS Told ks → Enumerates text t false k p last ks
-      → (countFrom text t k p left (slotAfter t last) (nextChild text t false k p last) ≡ slotAfter t last + childCount (fieldsS options k m (slotAfter t last) ks))
+  count-union : (left last : ℕ) (ks : Spots) → eqb k unionKind ≡ true → manyS ks ≤ left → slotAfter t last ≤ 128 → AllS Told ks → Enumerates t false k p last ks
+      → (countFrom t k p left (slotAfter t last) (nextChild t false k p last) ≡ slotAfter t last + childCount (fieldsS options k m (slotAfter t last) ks))
       × (slotAfter t last + childCount (fieldsS options k m (slotAfter t last) ks) ≤ 128)
   unfolding countFrom fieldsOf placesOf if_then_else_
   count-union zero last no-spots f l z a h = (omega arith, omega arith)
@@ -237,8 +238,8 @@ module _ (options : ℕ) (text t : List ℕ) (n p k m : ℕ) where
         rw (f, g) (omega (arith, ih′ .1)),
       )
 
-  counted : (ks : Spots) → eqb k mapKind ≡ false → manyS ks < 1024 → AllS Told (orderS false k ks) → Enumerates text t false k p 0 (orderS false k ks)
-      → (fieldCount text t k p ≡ childCount (fieldsS options k m 0 (orderS true k ks))) × (childCount (fieldsS options k m 0 (orderS true k ks)) < 65536)
+  counted : (ks : Spots) → eqb k mapKind ≡ false → manyS ks < 1024 → AllS Told (orderS false k ks) → Enumerates t false k p 0 (orderS false k ks)
+      → (fieldCount t k p ≡ childCount (fieldsS options k m 0 (orderS true k ks))) × (childCount (fieldsS options k m 0 (orderS true k ks)) < 65536)
   unfolding fieldCount if_then_else_
   counted ks e l a h = rw e (cases (eqb k unionKind)
       (λ f.
@@ -280,8 +281,8 @@ module _ (options : ℕ) (text t : List ℕ) (n p k m : ℕ) where
       let md : variantOf s % 256 ≡ variantOf s = let y : variantOf s < 256 = omega arith in mod-eq-of-lt y in
       rw (gaps-at slot s (num u) v, v, he, sm, md) refl
 
-  fields-write : (inner : Writer) (left slot last : ℕ) (ks : Spots) → manyS ks ≤ left → slot ≤ 128 → word t p samplesWord ≡ m → AllS (Inner inner) ks → Enumerates text t true k p last ks
-      → Writes (fieldsFrom text t inner k p left slot (nextChild text t true k p last)) (recordsIn (fieldsS options k m slot ks)) (namesIn (fieldsS options k m slot ks))
+  fields-write : (inner : Writer) (left slot last : ℕ) (ks : Spots) → manyS ks ≤ left → slot ≤ 128 → word t p samplesWord ≡ m → AllS (Inner inner) ks → Enumerates t true k p last ks
+      → Writes (fieldsFrom t inner k p left slot (nextChild t true k p last)) (recordsIn (fieldsS options k m slot ks)) (namesIn (fieldsS options k m slot ks))
   unfolding fieldsFrom fieldsOf placesOf recordsIn namesIn
   fields-write inner zero slot last no-spots l z sm a h w room = writes-none w room
   fields-write inner (suc left) slot last no-spots l z sm a h w room = rw h (writes-none w room)
@@ -294,38 +295,38 @@ module _ (options : ℕ) (text t : List ℕ) (n p k m : ℕ) where
       let fs : Fields = fieldsS options k m (variantOf s + 1) ks in
       let ih = fields-write inner left (variantOf s + 1) (num u) ks (omega arith) (omega arith) sm (a .1) (h .1) in
       let one-child = writes-next (gapsIn slot (gapsOf slot s)) (inner (num u) (isMissing k m i) (variantOf s)) (gapRecords slot (gapsOf slot s)) [] (recordsOf f) (namesOf f) (writes-gaps slot (gapsOf slot s) (gaps-fit slot s z few)) (a .0 .1) in
-      let all = writes-next (λ y. inner (num u) (isMissing k m i) (variantOf s) (gapsIn slot (gapsOf slot s) y)) (fieldsFrom text t inner k p left (variantOf s + 1) (nextChild text t true k p (num u)))
+      let all = writes-next (λ y. inner (num u) (isMissing k m i) (variantOf s) (gapsIn slot (gapsOf slot s) y)) (fieldsFrom t inner k p left (variantOf s + 1) (nextChild t true k p (num u)))
       (gapRecords slot (gapsOf slot s) ++ recordsOf f) (namesOf f) (recordsIn fs) (namesIn fs) one-child ih in
       let er : (gapRecords slot (gapsOf slot s) ++ recordsOf f) ++ recordsIn fs ≡ recordsIn (gaps slot (gapsOf slot s) (more f fs)) =
       append-assoc (gapRecords slot (gapsOf slot s)) (recordsOf f) (recordsIn fs) ∙ sym (gap-records slot (gapsOf slot s) (more f fs)) in
       let en : namesOf f ++ namesIn fs ≡ namesIn (gaps slot (gapsOf slot s) (more f fs)) = sym (gap-names slot (gapsOf slot s) (more f fs)) in
-      let step : fieldsFrom text t inner k p (suc left) slot (nextChild text t true k p last) w
-      ≡ fieldsFrom text t inner k p left (variantOf s + 1) (nextChild text t true k p (num u)) (inner (num u) (isMissing k m i) (variantOf s) (gapsIn slot (gapsOf slot s) w)) =
+      let step : fieldsFrom t inner k p (suc left) slot (nextChild t true k p last) w
+      ≡ fieldsFrom t inner k p left (variantOf s + 1) (nextChild t true k p (num u)) (inner (num u) (isMissing k m i) (variantOf s) (gapsIn slot (gapsOf slot s) w)) =
       rw (h .0) (rw (ne-eqb (num u) 0 (omega (arith, a .0 .0 .0 .above)), fieldsFrom) (rw (on, child-in inner slot s i j u w sm (a .0 .0)) refl)) in
-      step ∙ writes-as (λ y. fieldsFrom text t inner k p left (variantOf s + 1) (nextChild text t true k p (num u)) (inner (num u) (isMissing k m i) (variantOf s) (gapsIn slot (gapsOf slot s) y)))
+      step ∙ writes-as (λ y. fieldsFrom t inner k p left (variantOf s + 1) (nextChild t true k p (num u)) (inner (num u) (isMissing k m i) (variantOf s) (gapsIn slot (gapsOf slot s) y)))
       _ _ _ _ er en all w room
 
   -- with a map's entries
-  below-write : (inner : Writer) (ks : Spots) → manyS ks < 1024 → (eqb k mapKind ≡ true → manyS ks ≡ 2) → word t p samplesWord ≡ m → AllS (Inner inner) (orderS true k ks) → Enumerates text t true k p 0 (orderS true k ks)
-      → Writes (fieldsBelow text t inner k p) (recordsIn (arranged k (fieldsS options k m 0 (orderS false k ks)))) (namesIn (arranged k (fieldsS options k m 0 (orderS false k ks))))
+  below-write : (inner : Writer) (ks : Spots) → manyS ks < 1024 → (eqb k mapKind ≡ true → manyS ks ≡ 2) → word t p samplesWord ≡ m → AllS (Inner inner) (orderS true k ks) → Enumerates t true k p 0 (orderS true k ks)
+      → Writes (fieldsBelow t inner k p) (recordsIn (arranged k (fieldsS options k m 0 (orderS false k ks)))) (namesIn (arranged k (fieldsS options k m 0 (orderS false k ks))))
   below-write inner ks l two sm a h w room = cases (eqb k mapKind) (λ e. with-entries e w room) (λ e. without e w room)
     where
       fs : Fields
       fs = fieldsS options k m 0 (orderS true k ks)
 
-      all : Writes (fieldsFrom text t inner k p childLimit 0 (nextChild text t true k p 0)) (recordsIn fs) (namesIn fs)
+      all : Writes (fieldsFrom t inner k p childLimit 0 (nextChild t true k p 0)) (recordsIn fs) (namesIn fs)
       all = fields-write inner childLimit 0 0 (orderS true k ks) (rw count-order (omega arith)) (omega arith) sm a h
 
-      without : eqb k mapKind ≡ false → Writes (fieldsBelow text t inner k p) (recordsIn (arranged k (fieldsS options k m 0 (orderS false k ks)))) (namesIn (arranged k (fieldsS options k m 0 (orderS false k ks))))
+      without : eqb k mapKind ≡ false → Writes (fieldsBelow t inner k p) (recordsIn (arranged k (fieldsS options k m 0 (orderS false k ks)))) (namesIn (arranged k (fieldsS options k m 0 (orderS false k ks))))
       without e w room = rw (entries-none k w e, arranged-is options k m ks e) (all w (rw (arranged-is options k m ks e) at room))
 
-      with-entries : eqb k mapKind ≡ true → Writes (fieldsBelow text t inner k p) (recordsIn (arranged k (fieldsS options k m 0 (orderS false k ks)))) (namesIn (arranged k (fieldsS options k m 0 (orderS false k ks))))
+      with-entries : eqb k mapKind ≡ true → Writes (fieldsBelow t inner k p) (recordsIn (arranged k (fieldsS options k m 0 (orderS false k ks)))) (namesIn (arranged k (fieldsS options k m 0 (orderS false k ks))))
       with-entries e =
           let un : eqb k unionKind ≡ false = (let z : k ≡ mapKind = eqb-true k mapKind e in rw z refl) in
           let c : childCount fs ≡ 2 = fields-plain 0 (orderS true k ks) un ∙ count-order true k ks ∙ two e in
           rw (arranged-map options k m ks e)
-          (writes-as (fieldsBelow text t inner k p) _ _ _ _ (entries-records fs c) (entries-names fs)
-          (writes-next (entriesIn k) (fieldsFrom text t inner k p childLimit 0 (nextChild text t true k p 0)) (recordOf struct false noStrategy 0 (length entriesName) 2) entriesName (recordsIn fs) (namesIn fs)
+          (writes-as (fieldsBelow t inner k p) _ _ _ _ (entries-records fs c) (entries-names fs)
+          (writes-next (entriesIn k) (fieldsFrom t inner k p childLimit 0 (nextChild t true k p 0)) (recordOf struct false noStrategy 0 (length entriesName) 2) entriesName (recordsIn fs) (namesIn fs)
           (entries-write k e) all))
 
 -- ---- a place
@@ -361,7 +362,7 @@ arranged-none options k m c =
     let l : k < sequenceKind = leb-false sequenceKind k c in
     rw (ne-eqb k unionKind (omega arith), ne-eqb k mapKind (omega arith), ne-eqb k mapModeKind (omega arith)) refl
 
-count-none : (options : ℕ) (text t : List ℕ) (n p k m : ℕ) → isContainer k ≡ false → Enumerates text t false k p 0 (orderS false k no-spots) → fieldCount text t k p ≡ 0
+count-none : (options : ℕ) (text t : List ℕ) (n p k m : ℕ) → isContainer k ≡ false → Enumerates t false k p 0 (orderS false k no-spots) → fieldCount t k p ≡ 0
 unfolding orderS
 count-none options text t n p k m c h =
     let l : k < sequenceKind = leb-false sequenceKind k c in
@@ -369,37 +370,37 @@ count-none options text t n p k m c h =
     ∙ ap childCount (sym (arranged-is options k m no-spots (ne-eqb k mapKind (omega arith))) ∙ arranged-none options k m c)
 
 module _ (options : ℕ) (text t : List ℕ) where
-  emitted-leaf : (levels p : ℕ) (lacking : Bool) (number : ℕ) (w : Writing) → isLeaf options text t false p ≡ true
+  emitted-leaf : (levels p : ℕ) (lacking : Bool) (number : ℕ) (w : Writing) → isLeaf options t false p ≡ true
       → emittedAt options text t (suc levels) p lacking number w ≡ fieldAt options text t p (lacking || eqb (word t p nullWord) 1) number w
   unfolding emittedAt emittedBy if_then_else_
   emitted-leaf levels p lacking number w e = rw e refl
 
-  emitted-below : (levels p : ℕ) (lacking : Bool) (number : ℕ) (w : Writing) → isLeaf options text t false p ≡ false
+  emitted-below : (levels p : ℕ) (lacking : Bool) (number : ℕ) (w : Writing) → isLeaf options t false p ≡ false
       → emittedAt options text t (suc levels) p lacking number w
-      ≡ fieldsBelow text t (emittedAt options text t levels) (word t p kindWord) p (fieldAt options text t p (lacking || eqb (word t p nullWord) 1) number w)
+      ≡ fieldsBelow t (emittedAt options text t levels) (word t p kindWord) p (fieldAt options text t p (lacking || eqb (word t p nullWord) 1) number w)
   unfolding emittedAt emittedBy if_then_else_
   emitted-below levels p lacking number w e = rw e refl
 
   module _ (n p : ℕ) (b : Bool) (k m : ℕ) (ks : Spots) (r : Row t p kindWord (k ∷ one b ∷ m ∷ [])) (few : manyS ks < 1024) (kids : AllS (Kid text t n k p) ks)
-      (order : Enumerates text t false k p 0 (orderS false k ks)) where
+      (order : Enumerates t false k p 0 (orderS false k ks)) where
     abbrev ps : Places
     ps = placesOf k m (eraseIn (orderS false k ks))
 
     abbrev asWords : Bool
     asWords = eqb k unionKind && dataless ps && enumsWithoutDataAsStrings options
 
-    dictionary-is : isDictionary options text t p ≡ asWords
+    dictionary-is : isDictionary options t p ≡ asWords
     dictionary-is =
         let e₀ : word t p kindWord ≡ k = r 0 (omega arith) in
         rw e₀ (cases (eqb k unionKind)
         (λ e.
         let z : k ≡ unionKind = eqb-true k unionKind e in
         let a : AllS (Kid text t n k p) (orderS false k ks) = all-order (Kid text t n k p) false k ks kids in
-        let d : datalessAt text t p ≡ dataless ps = union-dataless z (orderS false k ks) (rw count-order (omega arith)) a order in
+        let d : datalessAt t p ≡ dataless ps = union-dataless z (orderS false k ks) (rw count-order (omega arith)) a order in
         rw d (swap (eqb k unionKind) (enumsWithoutDataAsStrings options) (dataless ps)))
         (λ e. rw e refl))
       where
-        union-dataless : k ≡ unionKind → (is : Spots) → manyS is ≤ 1024 → AllS (Kid text t n k p) is → Enumerates text t false k p 0 is → datalessAt text t p ≡ dataless (placesOf k m (eraseIn is))
+        union-dataless : k ≡ unionKind → (is : Spots) → manyS is ≤ 1024 → AllS (Kid text t n k p) is → Enumerates t false k p 0 is → datalessAt t p ≡ dataless (placesOf k m (eraseIn is))
         union-dataless z is l a h = rw z (dataless-is text t n p m is l (rw z at a) (rw z at h))
 
     -- the record and the name of a dictionary, and of any other place
@@ -414,7 +415,7 @@ module _ (options : ℕ) (text t : List ℕ) where
         (writes-both (recordOf (dictionaryType options) (lacking || b) noStrategy number (length name) 0) name) in
         rw (dictionary-is ∙ d, e₁, one-is b, nm) (x w room)
 
-    own-field : (lacking : Bool) (number : ℕ) (name : List ℕ) (fs : Fields) → asWords ≡ false → childName text t p ≡ name → k < 256 → fieldCount text t k p ≡ childCount fs → childCount fs < 65536
+    own-field : (lacking : Bool) (number : ℕ) (name : List ℕ) (fs : Fields) → asWords ≡ false → childName text t p ≡ name → k < 256 → fieldCount t k p ≡ childCount fs → childCount fs < 65536
         → Writes (fieldAt options text t p (lacking || eqb (word t p nullWord) 1) number)
         (typeOf options k ∷ one (lacking || b) ∷ strategyOf k ∷ number ∷ twoBytes (length name) ++ twoBytes (childCount fs)) name
     unfolding fieldAt if_then_else_
@@ -428,23 +429,23 @@ module _ (options : ℕ) (text t : List ℕ) where
         (writes-both (recordOf (typeOf options k) (lacking || b) (strategyOf k) number (length name) (childCount fs)) name) in
         rw (dictionary-is ∙ d) (rw (e₀, e₁, one-is b, nm, ty, c) (x w room))
 
-    leaf-count : isContainer k ≡ false → ks ≡ no-spots → fieldCount text t k p ≡ 0
+    leaf-count : isContainer k ≡ false → ks ≡ no-spots → fieldCount t k p ≡ 0
     leaf-count c z = count-none options text t n p k m c (rw z at order)
 
     counts : (eqb k mapKind ≡ true → manyS ks ≡ 2) → AllS (Told options text t n p k m) (orderS false k ks)
-        → (fieldCount text t k p ≡ childCount (arranged k (fieldsS options k m 0 (orderS false k ks)))) × (childCount (arranged k (fieldsS options k m 0 (orderS false k ks))) < 65536)
+        → (fieldCount t k p ≡ childCount (arranged k (fieldsS options k m 0 (orderS false k ks)))) × (childCount (arranged k (fieldsS options k m 0 (orderS false k ks))) < 65536)
     unfolding fieldCount if_then_else_
     counts two told = cases (eqb k mapKind)
         (λ e. rw (arranged-map options k m ks e, e) (refl, omega arith))
         (λ e. rw (arranged-is options k m ks e) (counted options text t n p k m ks e few told order))
 
-    leaf-is : (isContainer k ≡ true → asWords ≡ true) → isLeaf options text t false p ≡ true
+    leaf-is : (isContainer k ≡ true → asWords ≡ true) → isLeaf options t false p ≡ true
     unfolding isLeaf
     leaf-is h =
         let e₀ : word t p kindWord ≡ k = r 0 (omega arith) in
         rw (dictionary-is, e₀) (cases (isContainer k) (λ c. rw (c, h c) refl) (λ c. rw c refl))
 
-    inner-is : isContainer k ≡ true → asWords ≡ false → isLeaf options text t false p ≡ false
+    inner-is : isContainer k ≡ true → asWords ≡ false → isLeaf options t false p ≡ false
     unfolding isLeaf
     inner-is c d = let e₀ : word t p kindWord ≡ k = r 0 (omega arith) in rw (dictionary-is, e₀, c, d) refl
 
@@ -466,7 +467,7 @@ module _ (options : ℕ) (text t : List ℕ) where
           (writes-as (fieldAt options text t p (lacking || eqb (word t p nullWord) 1) number) _ name _ (name ++ []) (sym (append-nil _)) (sym (append-nil name)) own w (rw (d, q) at room))
 
       place-inner : asWords ≡ false → isContainer k ≡ true → k < 256 → (eqb k mapKind ≡ true → manyS ks ≡ 2) → AllS (Told options text t n p k m) (orderS false k ks)
-          → AllS (Inner options text t n p k m (emittedAt options text t levels)) (orderS true k ks) → Enumerates text t true k p 0 (orderS true k ks)
+          → AllS (Inner options text t n p k m (emittedAt options text t levels)) (orderS true k ks) → Enumerates t true k p 0 (orderS true k ks)
           → Writes (emittedAt options text t (suc levels) p lacking number) (recordsOf it) (namesOf it)
       unfolding fieldOf recordsOf namesOf if_then_else_
       place-inner d c kl two told inner h w room =
@@ -474,7 +475,7 @@ module _ (options : ℕ) (text t : List ℕ) where
           let fs : Fields = arranged k (fieldsS options k m 0 (orderS false k ks)) in
           let own = own-field lacking number name fs d nm kl (counts two told .0) (counts two told .1) in
           let under = below-write options text t n p k m (emittedAt options text t levels) ks few two (r 2 (omega arith)) inner h in
-          let all = writes-next (fieldAt options text t p (lacking || eqb (word t p nullWord) 1) number) (fieldsBelow text t (emittedAt options text t levels) k p) _ name (recordsIn fs) (namesIn fs) own under in
+          let all = writes-next (fieldAt options text t p (lacking || eqb (word t p nullWord) 1) number) (fieldsBelow t (emittedAt options text t levels) k p) _ name (recordsIn fs) (namesIn fs) own under in
           rw (emitted-below levels p lacking number w (inner-is c d), e₀, d) (all w (rw d at room))
 
 -- ---- the second walk
@@ -493,7 +494,7 @@ module _ (options : ℕ) (text t : List ℕ) (n : ℕ) (most : n ≤ placeLimit)
       zip (Kid text t n k p) (Passed options k m) (orderS false k ks) (all-order (Kid text t n k p) false k ks kids)
       (passed options k m (orderS false k ks) (walk-below options (lacking || b) k (placesOf k m (eraseIn (orderS false k ks))) c d (rw (place-is lacking p b k m ks) at e)))
 
-  pub second : (levels : ℕ) (u : Spot) (lacking : Bool) (number : ℕ) (name : List ℕ) → childName text t (num u) ≡ name → Good n u → Rep text t u → FitS u → Orders text t u → Neat u → n ≤ num u + levels
+  pub second : (levels : ℕ) (u : Spot) (lacking : Bool) (number : ℕ) (name : List ℕ) → childName text t (num u) ≡ name → Good n u → Rep text t u → FitS u → Orders t u → Neat u → n ≤ num u + levels
       → walk options (placeOf lacking (erase u)) ≡ none
       → Writes (emittedAt options text t levels (num u) lacking number) (recordsOf (fieldOf options name number (placeOf lacking (erase u)))) (namesOf (fieldOf options name number (placeOf lacking (erase u))))
   second zero (spot p b k m ks) lacking number name nm g r f o z l e = absurd (omega (arith, g .0))
@@ -516,9 +517,9 @@ module _ (options : ℕ) (text t : List ℕ) (n : ℕ) (most : n ≤ placeLimit)
 
   -- the same for the fields below a place that is no union
   pub below-writes : (levels p : ℕ) (b lacking : Bool) (k m : ℕ) (ks : Spots) (number : ℕ) (name : List ℕ)
-      → Good n (spot p b k m ks) → Rep text t (spot p b k m ks) → FitS (spot p b k m ks) → Orders text t (spot p b k m ks) → Neat (spot p b k m ks) → n ≤ p + 1 + levels
+      → Good n (spot p b k m ks) → Rep text t (spot p b k m ks) → FitS (spot p b k m ks) → Orders t (spot p b k m ks) → Neat (spot p b k m ks) → n ≤ p + 1 + levels
       → isContainer k ≡ true → eqb k unionKind ≡ false → walk options (placeOf lacking (erase (spot p b k m ks))) ≡ none
-      → Writes (fieldsBelow text t (emittedAt options text t levels) k p) (recordsIn (fieldsOfField (fieldOf options name number (placeOf lacking (erase (spot p b k m ks))))))
+      → Writes (fieldsBelow t (emittedAt options text t levels) k p) (recordsIn (fieldsOfField (fieldOf options name number (placeOf lacking (erase (spot p b k m ks))))))
       (namesIn (fieldsOfField (fieldOf options name number (placeOf lacking (erase (spot p b k m ks))))))
   unfolding fieldOf if_then_else_
   below-writes levels p b lacking k m ks number name g r f o z l c v e =
@@ -534,7 +535,7 @@ module _ (options : ℕ) (text t : List ℕ) (n : ℕ) (most : n ≤ placeLimit)
 
 -- The second walk from a place on writes the records and names of the model's field of that place.
 pub second-walk : (options : ℕ) (text t : List ℕ) (n : ℕ) (u : Spot) (lacking : Bool) (name : List ℕ) (number levels i j : ℕ) (fields names : List ℕ) → n ≤ placeLimit
-    → Good n u → Rep text t u → FitS u → Orders text t u → Neat u → childName text t (num u) ≡ name → n ≤ num u + levels → walk options (placeOf lacking (erase u)) ≡ none
+    → Good n u → Rep text t u → FitS u → Orders t u → Neat u → childName text t (num u) ≡ name → n ≤ num u + levels → walk options (placeOf lacking (erase u)) ≡ none
     → i + length (recordsOf (fieldOf options name number (placeOf lacking (erase u)))) ≤ length fields
     → j + length (namesOf (fieldOf options name number (placeOf lacking (erase u)))) ≤ length names
     → emittedAt options text t levels (num u) lacking number (writing i j fields names)
@@ -552,10 +553,10 @@ from-start r n fields names =
 
 -- below the root, from the start of both buffers
 pub root-written : (options : ℕ) (text t : List ℕ) (n : ℕ) (u : Spot) (name : List ℕ) (fields names : List ℕ) → n ≤ placeLimit → num u ≡ 0
-    → Good n u → Rep text t u → FitS u → Orders text t u → Neat u → isContainer (kindS u) ≡ true → eqb (kindS u) unionKind ≡ false → walk options (placeOf false (erase u)) ≡ none
+    → Good n u → Rep text t u → FitS u → Orders t u → Neat u → isContainer (kindS u) ≡ true → eqb (kindS u) unionKind ≡ false → walk options (placeOf false (erase u)) ≡ none
     → length (recordsIn (fieldsOfField (fieldOf options name 0 (placeOf false (erase u))))) ≤ length fields
     → length (namesIn (fieldsOfField (fieldOf options name 0 (placeOf false (erase u))))) ≤ length names
-    → fieldsBelow text t (emittedAt options text t levelLimit) (kindS u) 0 (writing 0 0 fields names)
+    → fieldsBelow t (emittedAt options text t levelLimit) (kindS u) 0 (writing 0 0 fields names)
     ≡ writing (length (recordsIn (fieldsOfField (fieldOf options name 0 (placeOf false (erase u)))))) (length (namesIn (fieldsOfField (fieldOf options name 0 (placeOf false (erase u))))))
     (recordsIn (fieldsOfField (fieldOf options name 0 (placeOf false (erase u)))) ++ drop (length (recordsIn (fieldsOfField (fieldOf options name 0 (placeOf false (erase u)))))) fields)
     (namesIn (fieldsOfField (fieldOf options name 0 (placeOf false (erase u)))) ++ drop (length (namesIn (fieldsOfField (fieldOf options name 0 (placeOf false (erase u)))))) names)
