@@ -28,7 +28,7 @@ use Rattle.refine.specs.Erase.{erase, eraseIn}
 use Rattle.walk.specs.declared.Walked.{Walked}
 use Rattle.walk.specs.declared.Walked.the-variants as W
 use Rattle.order.specs.Flat.{variantAt}
-use Rattle.walk.specs.Order.{nextChild, nearest, onward, datalessAt}
+use Rattle.walk.specs.Order.{isOrdered, nextOrdered, nextChild, onward, datalessAt}
 use Rattle.walk.specs.Order as Order
 use Rattle.walk.specs.Walk.{childrenBelow, walkedBy, walked}
 use Rattle.emission.specs.Arranged.{orderS, Enumerates, Orders, OrdersIn, FitS, FitIn}
@@ -68,9 +68,9 @@ kind-dataless : (missing : Bool) (u : Spot) → isDataless (placeOf missing (era
 unfolding placeOf
 kind-dataless missing (spot p b k m ks) = refl
 
-next-nearest : (text t : List ℕ) (k p last : ℕ) → eqb k unionKind ≡ true → nextChild t false k p last ≡ nearest text t false p last
-unfolding nextChild if_then_else_
-next-nearest text t k p last e = rw e
+next-ordered : (t : List ℕ) (k p last : ℕ) → eqb k unionKind ≡ true → nextChild t false k p last ≡ nextOrdered t p last
+unfolding isOrdered nextChild if_then_else_
+next-ordered t k p last e = rw e
 
 onward-next : (slot : ℕ) → slot < 1025 → onward slot ≡ slot + 1
 onward-next slot l = omega arith
@@ -86,24 +86,24 @@ module _ (options : ℕ) (text t : List ℕ) (inner : ℕ → Walked) (k p m : �
   dataless-not left slot q e d = rw (e, d, Order.datalessFrom)
 
   dataless-step : (left slot q : ℕ) → eqb q 0 ≡ false → (eqb (variantAt t q) slot && eqb (word t q kindWord) null) ≡ true
-      → Order.datalessFrom t p (suc left) slot q ≡ Order.datalessFrom t p left (onward slot) (nearest text t false p q)
+      → Order.datalessFrom t p (suc left) slot q ≡ Order.datalessFrom t p left (onward slot) (nextOrdered t p q)
   unfolding Order.datalessFrom
   dataless-step left slot q e d = rw (e, d, Order.datalessFrom)
 
   dataless-is : (qs : Spots) (left slot last : ℕ) → eqb k unionKind ≡ true → AllS (λ s h x u. Child options text t inner s u) qs → manyS qs ≤ left → slot + manyS qs ≤ 1024 → Enumerates t false k p last qs
-      → Order.datalessFrom t p left slot (nearest text t false p last) ≡ Model.datalessFrom slot (placesOf k m (eraseIn qs))
+      → Order.datalessFrom t p left slot (nextOrdered t p last) ≡ Model.datalessFrom slot (placesOf k m (eraseIn qs))
   unfolding Model.datalessFrom placeOf
   dataless-is no-spots left slot last d a l i e =
-      let z : nearest text t false p last ≡ 0 = sym (next-nearest text t k p last d) ∙ e in
+      let z : nextOrdered t p last ≡ 0 = sym (next-ordered t k p last d) ∙ e in
       ap (Order.datalessFrom t p left slot) z ∙ dataless-end left slot
   dataless-is (child s h x u qs) zero slot last d a l i e = absurd (omega arith)
   dataless-is (child s h x u qs) (suc left) slot last d a l i e =
-      let z : nearest text t false p last ≡ num u = sym (next-nearest text t k p last d) ∙ e .0 in
+      let z : nextOrdered t p last ≡ num u = sym (next-ordered t k p last d) ∙ e .0 in
       let o : eqb (num u) 0 ≡ false = ne-eqb (num u) 0 (λ y. omega (arith, a .0 .some-number)) in
       let y : (eqb (variantAt t (num u)) slot && eqb (word t (num u) kindWord) null) ≡ (eqb (variantOf s) slot && isDataless (placeOf (isMissing k m h) (erase u))) = rw (a .0 .variant-is, a .0 .kind-is, kind-dataless (isMissing k m h) u) in
       ap (Order.datalessFrom t p (suc left) slot) z
       ∙ cases (eqb (variantOf s) slot && isDataless (placeOf (isMissing k m h) (erase u)))
-      (λ c. dataless-step left slot (num u) o (y ∙ c) ∙ ap (λ (n : ℕ). Order.datalessFrom t p left n (nearest text t false p (num u))) (onward-next slot (omega arith))
+      (λ c. dataless-step left slot (num u) o (y ∙ c) ∙ ap (λ (n : ℕ). Order.datalessFrom t p left n (nextOrdered t p (num u))) (onward-next slot (omega arith))
       ∙ dataless-is qs left (slot + 1) (num u) d (a .1) (omega arith) (omega arith) (e .1) ∙ rw c)
       (λ c. dataless-not left slot (num u) o (y ∙ c) ∙ rw c)
 

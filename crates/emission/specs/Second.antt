@@ -28,11 +28,11 @@ use Rattle.refine.specs.Numbers.{Good}
 use Rattle.refine.specs.Rep.{Rep, Row, ownWords}
 use Rattle.refine.specs.Erase.{erase, eraseIn}
 use Rattle.order.specs.Flat.{variantAt}
-use Rattle.walk.specs.Order.{childName, nearerVariant, nearestFrom, nearest, nextChild, childLimit, datalessAt}
+use Rattle.walk.specs.Order.{childName, nextChild, childLimit, datalessAt}
 use Rattle.walk.specs.Walk.{sumOf, gapsAt}
 use Rattle.schema.specs.Put.{recordOf}
 use Rattle.schema.specs.Emit.{countFrom, fieldCount, isDictionary, Writing, writing, both, gapsIn, entriesIn, fieldAt, isLeaf, Writer, childIn, fieldsFrom, fieldsBelow, emittedBy, emittedAt, levelLimit}
-use Rattle.emission.specs.Arranged.{byNumberS, insertNameS, byNameS, orderS, Enumerates, Orders, FitS}
+use Rattle.emission.specs.Arranged.{byNumberS, insertNameS, byNameS, orderS, Enumerates, Rising, Orders, FitS}
 use Rattle.emission.specs.SecondPut.{wrote, Writes, writes-none, writes-next, writes-as, writes-both, record-is, gapRecords, gap-records, gap-names, gap-count, writes-gaps, writes-entries, entries-none}
 use Rattle.emission.specs.FirstPlaces.{manyS, AllS}
 use Rattle.emission.specs.FirstChildren.{fieldsOfField}
@@ -155,44 +155,6 @@ small k s f g =
 abbrev slotAfter : List ℕ → ℕ → ℕ
 slotAfter t last = if eqb last 0 then 0 else variantAt t last + 1
 
-module _ (text t : List ℕ) (last : ℕ) where
-  nearer-after : (best q : ℕ) → nearerVariant t last best q ≡ true → slotAfter t last ≤ variantAt t q
-  unfolding nearerVariant if_then_else_
-  nearer-after best q e =
-      both-are (eqb last 0 || ltb (variantAt t last) (variantAt t q)) (eqb best 0 || ltb (variantAt t q) (variantAt t best)) e λ a b.
-      cases (eqb last 0) (λ f. rw f (omega arith)) (λ f. let a′ : ltb (variantAt t last) (variantAt t q) ≡ true = rw f at a in let l : variantAt t last < variantAt t q = ltb-true (variantAt t last) (variantAt t q) a′ in rw f (omega arith))
-
-  nearest-after : (left best q : ℕ) → ((best ≡ 0 → ⊥) → slotAfter t last ≤ variantAt t best)
-      → (nearestFrom text t false last left best q ≡ 0 → ⊥) → slotAfter t last ≤ variantAt t (nearestFrom text t false last left best q)
-  unfolding nearestFrom if_then_else_
-  nearest-after zero best q h z = h z
-  nearest-after (suc left) best q h z =
-      cases (eqb q 0)
-      (λ e. let z′ : best ≡ 0 → ⊥ = rw (e, nearestFrom) at z in rw (e, nearestFrom) (h z′))
-      (λ e. cases (nearerVariant t last best q)
-      (λ f. let ih = nearest-after left q (word t q nextWord) (λ y. nearer-after best q f) in go e f z ih)
-      (λ f. let ih = nearest-after left best (word t q nextWord) h in stay e f z ih))
-    where
-      go : eqb q 0 ≡ false → nearerVariant t last best q ≡ true → (nearestFrom text t false last (suc left) best q ≡ 0 → ⊥)
-          → ((nearestFrom text t false last left q (word t q nextWord) ≡ 0 → ⊥) → slotAfter t last ≤ variantAt t (nearestFrom text t false last left q (word t q nextWord)))
-          → slotAfter t last ≤ variantAt t (nearestFrom text t false last (suc left) best q)
-      go e f z ih =
-          let d : nearestFrom text t false last (suc left) best q ≡ nearestFrom text t false last left q (word t q nextWord) = rw (e, nearestFrom) (rw f refl) in
-          rw d (ih (rw d at z))
-
-      stay : eqb q 0 ≡ false → nearerVariant t last best q ≡ false → (nearestFrom text t false last (suc left) best q ≡ 0 → ⊥)
-          → ((nearestFrom text t false last left best (word t q nextWord) ≡ 0 → ⊥) → slotAfter t last ≤ variantAt t (nearestFrom text t false last left best (word t q nextWord)))
-          → slotAfter t last ≤ variantAt t (nearestFrom text t false last (suc left) best q)
-      stay e f z ih =
-          let d : nearestFrom text t false last (suc left) best q ≡ nearestFrom text t false last left best (word t q nextWord) = rw (e, nearestFrom) (rw f refl) in
-          rw d (ih (rw d at z))
-
-  pub next-after : (p q : ℕ) → nextChild t false unionKind p last ≡ q → 0 < q → slotAfter t last ≤ variantAt t q
-  unfolding nextChild if_then_else_
-  next-after p q e l =
-      let e′ : nearest text t false p last ≡ q = e in
-      rw e′ at (nearest-after childLimit 0 (word t p firstWord) (λ y. absurd (y refl)) (λ z. let w : q ≡ 0 = sym e′ ∙ z in omega arith))
-
 module _ (options : ℕ) (text t : List ℕ) (n p k m : ℕ) where
   abbrev Told : Step → ℕ → ℕ → Spot → Type 0
   Told s h x u = Kid text t n k p s h x u × Passed options k m s h x u
@@ -215,36 +177,35 @@ module _ (options : ℕ) (text t : List ℕ) (n p k m : ℕ) where
   fields-plain slot (child s i j u ks) f = rw f (ap suc (fields-plain (variantOf s + 1) ks f))
 
   -- of a union up to the last slot
-  count-union : (left last : ℕ) (ks : Spots) → eqb k unionKind ≡ true → manyS ks ≤ left → slotAfter t last ≤ 128 → AllS Told ks → Enumerates t false k p last ks
+  count-union : (left last : ℕ) (ks : Spots) → eqb k unionKind ≡ true → manyS ks ≤ left → slotAfter t last ≤ 128 → AllS Told ks → Rising (slotAfter t last) ks → Enumerates t false k p last ks
       → (countFrom t k p left (slotAfter t last) (nextChild t false k p last) ≡ slotAfter t last + childCount (fieldsS options k m (slotAfter t last) ks))
       × (slotAfter t last + childCount (fieldsS options k m (slotAfter t last) ks) ≤ 128)
   unfolding countFrom fieldsOf placesOf if_then_else_
-  count-union zero last no-spots f l z a h = (omega arith, omega arith)
-  count-union (suc left) last no-spots f l z a h = ((rw h (omega arith)), omega arith)
-  count-union zero last (child s i j u ks) f l z a h = absurd (omega arith)
-  count-union (suc left) last (child s i j u ks) f l z a h =
+  count-union zero last no-spots f l z a y h = (omega arith, omega arith)
+  count-union (suc left) last no-spots f l z a y h = ((rw h (omega arith)), omega arith)
+  count-union zero last (child s i j u ks) f l z a y h = absurd (omega arith)
+  count-union (suc left) last (child s i j u ks) f l z a y h =
       let up : 0 < num u = omega (arith, a .0 .0 .above) in
       let no : eqb (num u) 0 ≡ false = ne-eqb (num u) 0 (omega arith) in
       let v : variantAt t (num u) ≡ variantOf s = variant-is (a .0 .0 .cell) in
       let few : variantOf s < 128 = small k s (a .0 .1 .0) (a .0 .0 .plain) in
-      let un : k ≡ unionKind = eqb-true k unionKind f in
-      let after : slotAfter t last ≤ variantAt t (num u) = next-after text t last p (num u) (rw un at (h .0)) up in
+      let after : slotAfter t last ≤ variantAt t (num u) = rw v (y .0) in
       let sl : slotAfter t (num u) ≡ variantOf s + 1 = rw (no, v) refl in
       let on : sumOf (variantAt t (num u)) 1 ≡ variantOf s + 1 = rw v (let x : variantOf s + 1 < 2 ^ 32 = omega arith in mod-eq-of-lt x) in
-      let ih = count-union left (num u) ks f (omega arith) (omega arith) (a .1) (h .1) in
+      let ih = count-union left (num u) ks f (omega arith) (omega arith) (a .1) (rw sl (y .1)) (h .1) in
       let ih′ = rw sl at ih in
       let g = gap-count (slotAfter t last) (variantOf s - slotAfter t last) (more (fieldOf options (nameOf s) (variantOf s) (placeOf (isMissing k m i) (erase u))) (fieldsS options k m (variantOf s + 1) ks)) in (
         rw (h .0) (rw (no, countFrom) (rw (f, on, ih′ .0, g) (omega arith))),
         rw (f, g) (omega (arith, ih′ .1)),
       )
 
-  counted : (ks : Spots) → eqb k mapKind ≡ false → manyS ks < 1024 → AllS Told (orderS false k ks) → Enumerates t false k p 0 (orderS false k ks)
+  counted : (ks : Spots) → eqb k mapKind ≡ false → manyS ks < 1024 → AllS Told (orderS false k ks) → (eqb k unionKind ≡ true → Rising 0 (orderS false k ks)) → Enumerates t false k p 0 (orderS false k ks)
       → (fieldCount t k p ≡ childCount (fieldsS options k m 0 (orderS true k ks))) × (childCount (fieldsS options k m 0 (orderS true k ks)) < 65536)
   unfolding fieldCount if_then_else_
-  counted ks e l a h = rw e (cases (eqb k unionKind)
+  counted ks e l a y h = rw e (cases (eqb k unionKind)
       (λ f.
       let same : orderS true k ks ≡ orderS false k ks = same-order k ks f in
-      let c = count-union childLimit 0 (orderS false k ks) f (rw count-order (omega arith)) (omega arith) a h in
+      let c = count-union childLimit 0 (orderS false k ks) f (rw count-order (omega arith)) (omega arith) a (y f) h in
       rw same (c .0 ∙ omega arith, omega (arith, c .1)))
       (λ f.
       let c = count-plain childLimit 0 0 (orderS false k ks) f (rw count-order (omega arith)) (omega arith) a h in
@@ -366,7 +327,7 @@ count-none : (options : ℕ) (text t : List ℕ) (n p k m : ℕ) → isContainer
 unfolding orderS
 count-none options text t n p k m c h =
     let l : k < sequenceKind = leb-false sequenceKind k c in
-    counted options text t n p k m no-spots (ne-eqb k mapKind (omega arith)) (omega arith) (all-order (Told options text t n p k m) false k no-spots tt) h .0
+    counted options text t n p k m no-spots (ne-eqb k mapKind (omega arith)) (omega arith) (all-order (Told options text t n p k m) false k no-spots tt) (λ e. absurd (let z : k ≡ unionKind = eqb-true k unionKind e in omega arith)) h .0
     ∙ ap childCount (sym (arranged-is options k m no-spots (ne-eqb k mapKind (omega arith))) ∙ arranged-none options k m c)
 
 module _ (options : ℕ) (text t : List ℕ) where
@@ -432,12 +393,12 @@ module _ (options : ℕ) (text t : List ℕ) where
     leaf-count : isContainer k ≡ false → ks ≡ no-spots → fieldCount t k p ≡ 0
     leaf-count c z = count-none options text t n p k m c (rw z at order)
 
-    counts : (eqb k mapKind ≡ true → manyS ks ≡ 2) → AllS (Told options text t n p k m) (orderS false k ks)
+    counts : (eqb k mapKind ≡ true → manyS ks ≡ 2) → AllS (Told options text t n p k m) (orderS false k ks) → (eqb k unionKind ≡ true → Rising 0 (orderS false k ks))
         → (fieldCount t k p ≡ childCount (arranged k (fieldsS options k m 0 (orderS false k ks)))) × (childCount (arranged k (fieldsS options k m 0 (orderS false k ks))) < 65536)
     unfolding fieldCount if_then_else_
-    counts two told = cases (eqb k mapKind)
+    counts two told rises = cases (eqb k mapKind)
         (λ e. rw (arranged-map options k m ks e, e) (refl, omega arith))
-        (λ e. rw (arranged-is options k m ks e) (counted options text t n p k m ks e few told order))
+        (λ e. rw (arranged-is options k m ks e) (counted options text t n p k m ks e few told rises order))
 
     leaf-is : (isContainer k ≡ true → asWords ≡ true) → isLeaf options t false p ≡ true
     unfolding isLeaf
@@ -466,14 +427,14 @@ module _ (options : ℕ) (text t : List ℕ) where
           rw (emitted-leaf levels p lacking number w (leaf-is (λ c′. absurd (true≢false (sym c′ ∙ c)))), d, q)
           (writes-as (fieldAt options text t p (lacking || eqb (word t p nullWord) 1) number) _ name _ (name ++ []) (sym (append-nil _)) (sym (append-nil name)) own w (rw (d, q) at room))
 
-      place-inner : asWords ≡ false → isContainer k ≡ true → k < 256 → (eqb k mapKind ≡ true → manyS ks ≡ 2) → AllS (Told options text t n p k m) (orderS false k ks)
+      place-inner : asWords ≡ false → isContainer k ≡ true → k < 256 → (eqb k mapKind ≡ true → manyS ks ≡ 2) → AllS (Told options text t n p k m) (orderS false k ks) → (eqb k unionKind ≡ true → Rising 0 (orderS false k ks))
           → AllS (Inner options text t n p k m (emittedAt options text t levels)) (orderS true k ks) → Enumerates t true k p 0 (orderS true k ks)
           → Writes (emittedAt options text t (suc levels) p lacking number) (recordsOf it) (namesOf it)
       unfolding fieldOf recordsOf namesOf if_then_else_
-      place-inner d c kl two told inner h w room =
+      place-inner d c kl two told rises inner h w room =
           let e₀ : word t p kindWord ≡ k = r 0 (omega arith) in
           let fs : Fields = arranged k (fieldsS options k m 0 (orderS false k ks)) in
-          let own = own-field lacking number name fs d nm kl (counts two told .0) (counts two told .1) in
+          let own = own-field lacking number name fs d nm kl (counts two told rises .0) (counts two told rises .1) in
           let under = below-write options text t n p k m (emittedAt options text t levels) ks few two (r 2 (omega arith)) inner h in
           let all = writes-next (fieldAt options text t p (lacking || eqb (word t p nullWord) 1) number) (fieldsBelow t (emittedAt options text t levels) k p) _ name (recordsIn fs) (namesIn fs) own under in
           rw (emitted-below levels p lacking number w (inner-is c d), e₀, d) (all w (rw d at room))
@@ -508,7 +469,7 @@ module _ (options : ℕ) (text t : List ℕ) (n : ℕ) (most : n ≤ placeLimit)
       (λ d. cases (isContainer k)
       (λ c.
       let told = told-below p b lacking k m ks kids c d e in
-      place-inner options text t n p b k m ks row some kids (o .0) levels number lacking name nm d c (f .0) (z .1) told
+      place-inner options text t n p b k m ks row some kids (o .0) levels number lacking name nm d c (f .0) (z .1) told (o .3)
       (each (Told options text t n p k m) (Inner options text t n p k m (emittedAt options text t levels))
       (λ s h x v a. (a, second levels v (isMissing k m h) (variantOf s) (nameOf s) (name-is k (a .0 .cell) (a .0 .step)) (a .0 .good) (a .0 .rep) (a .0 .fit) (a .0 .orders) (a .0 .neat) (omega (arith, a .0 .above)) (a .1 .1)))
       (orderS true k ks) (resorted (Told options text t n p k m) k ks told))

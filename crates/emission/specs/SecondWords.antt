@@ -25,7 +25,7 @@ use Rattle.refine.specs.Numbers.{Good, GoodIn}
 use Rattle.refine.specs.Rep.{Cell, Rep, RepIn}
 use Rattle.refine.specs.Erase.{erase, eraseIn}
 use Rattle.order.specs.Flat.{variantAt, givenName}
-use Rattle.walk.specs.Order.{positionAt, childName, nearest, nextChild, onward, childLimit}
+use Rattle.walk.specs.Order.{positionAt, childName, isOrdered, nextOrdered, nextChild, onward, childLimit}
 use Rattle.walk.specs.Order.{datalessFrom as datalessAtFrom}
 use Rattle.emission.specs.FirstPlaces as First
 use Rattle.emission.specs.FirstPlaces.{manyS, AllS, number-all, number-places, child-variant}
@@ -158,13 +158,13 @@ dataless-kind b (spot p c k m ks) = rw (place-is b p c k m ks) refl
 
 module _ (text t : List ℕ) (n p m : ℕ) where
   dataless-from : (left slot last : ℕ) (ks : Spots) → manyS ks ≤ left → slot + left ≤ 2048 → AllS (Kid text t n unionKind p) ks → Enumerates t false unionKind p last ks
-      → datalessAtFrom text t p left slot (nearest text t false p last) ≡ datalessFrom slot (placesOf unionKind m (eraseIn ks))
-  unfolding datalessAtFrom datalessFrom placesOf nextChild if_then_else_
+      → datalessAtFrom t p left slot (nextOrdered t p last) ≡ datalessFrom slot (placesOf unionKind m (eraseIn ks))
+  unfolding datalessAtFrom datalessFrom placesOf isOrdered nextChild if_then_else_
   dataless-from zero slot last no-spots l z a h = refl
-  dataless-from (suc left) slot last no-spots l z a h = let e : nearest text t false p last ≡ 0 = h in rw e refl
+  dataless-from (suc left) slot last no-spots l z a h = let e : nextOrdered t p last ≡ 0 = h in rw e refl
   dataless-from zero slot last (child s i j u ks) l z a h = absurd (omega arith)
   dataless-from (suc left) slot last (child s i j u ks) l z a h =
-      let e : nearest text t false p last ≡ num u = h .0 in
+      let e : nextOrdered t p last ≡ num u = h .0 in
       let v : variantAt t (num u) ≡ variantOf s = variant-is (a .0 .cell) in
       let w : word t (num u) kindWord ≡ kindS u = kind-word text t u (a .0 .rep) in
       let on : onward slot ≡ slot + 1 = let x : slot + 1 < 2 ^ 32 = omega arith in mod-eq-of-lt x in
@@ -173,5 +173,5 @@ module _ (text t : List ℕ) (n p m : ℕ) where
       (cases (eqb (variantOf s) slot && eqb (kindS u) null) (λ d. rw (d, on) ih) (λ d. rw d refl)))
 
   pub dataless-is : (ks : Spots) → manyS ks ≤ childLimit → AllS (Kid text t n unionKind p) ks → Enumerates t false unionKind p 0 ks
-      → datalessAtFrom text t p childLimit 0 (nearest text t false p 0) ≡ datalessFrom 0 (placesOf unionKind m (eraseIn ks))
+      → datalessAtFrom t p childLimit 0 (nextOrdered t p 0) ≡ datalessFrom 0 (placesOf unionKind m (eraseIn ks))
   dataless-is ks l a h = dataless-from childLimit 0 0 ks l (omega arith) a h
