@@ -24,7 +24,7 @@ answerBy (O.Refused refusal place) left = turnedDown (numberOf refusal) place le
 
 -- the five numbers of the exported call, and what is left in what was lent
 abbrev pub said : Answer → Buffers → M.Answer
-said r left = record { refusal = r .refusal; place = r .place; field-records = r .field-records; name-bytes = r .name-bytes; columns = r .columns; left = left }
+said r left = record { refusal = r .refusal; place = r .place; field-records = r .«field_records»; name-bytes = r .«name_bytes»; columns = r .columns; left = left }
 
 -- the contract of `fasthrom_trace`: handed a batch and lent buffers, it answers so and leaves the buffers so
 unfoldable pub Called : Batch → Buffers → Answer → Buffers → Type 0
