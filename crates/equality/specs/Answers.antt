@@ -28,7 +28,7 @@ pub record Said (a : Answer) : Type 0 where
 refusal-said : (n place : ℕ) (left : Buffers) → n ≤ 18 → Said (record { refusal = n; place = place; field-records = 0; name-bytes = 0; columns = 0; left = left })
 refusal-said n place left h = record { range = h; records = λ x. refl; names = λ x. refl; columns = λ x. refl }
 
-outcome-said : (b : Batch) (lent : Buffers) (r : Result Fields) → Between 4 17 r → Said (answerOf b lent r)
+outcome-said : (b : Batch) (lent : Buffers) (r : Result Fields) → Between 4 17 (length (b .commands)) r → Said (answerOf b lent r)
 unfolding answerOf
 outcome-said b lent (refused n place) h = refusal-said n place _ (let a = h .1 in omega arith)
 outcome-said b lent (accepted schema) h =

@@ -17,10 +17,10 @@ pub mod Sorted
 pub mod Together
 pub mod Reorder
 pub mod Walk
-pub mod Refusals
-pub mod Accept
 pub mod ReadCommand
 pub mod Reads
+pub mod Refusals
+pub mod Accept
 pub mod Shift
 pub mod Forget
 pub mod Batches
@@ -29,3 +29,4 @@ pub mod Equal
 pub mod Ordered
 pub mod Demand3
 pub mod Answers
+pub mod Offsets
