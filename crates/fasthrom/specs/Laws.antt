@@ -9,19 +9,20 @@ use lib.Dec.{eqb, ltb}
 use lib.ListN.{length, getD}
 use Rattle.logic.specs.Test.{if_then_else_, cases}
 use Rattle.datatype.specs.Codes.{null, struct}
-use Rattle.refusal.specs.Number.{numberOf}
+use Rattle.refusal.specs.Number.{numberOf, shortBuffer}
 use Rattle.words.specs.Word.{cleared, tailOf}
 use Rattle.words.specs.Laws.{tail-cleared, cleared-again}
 use Rattle.equality.specs.Base.{not-refused}
 use Rattle.model.specs.Result.{Result, accepted, refused}
 use Rattle.model.specs.Reading.{values}
 use Rattle.model.specs.Tracing.{Tree, trace, Counted, counted}
-use Rattle.model.specs.Emission.{Field, mk, Fields, rootFields, toSchema, walk, placeOf, fieldOf, rootName, countIn, namesIn, columnsIn}
+use Rattle.model.specs.Emission.{Field, mk, Fields, rootFields, toSchema, walk, placeOf, fieldOf, rootName, countIn, namesIn, recordsIn, columnsIn}
 use Rattle.model.specs.Answer as M
-use Rattle.model.specs.Answer.{Buffers, inputLimit, tableWords, schemaOf, answerOf, isShort}
+use Rattle.model.specs.Answer.{Buffers, inputLimit, tableWords, schemaOf, answerOf, isShort, turnedDown, zeroed, written, withSchema}
 use Rattle.model.specs.Demand3.{batch}
 use Rattle.places.specs.Layout.{Sound}
 use Rattle.places.specs.Laws.{sound-cleared}
+use Rattle.samples.specs.declared.Traced.{Traced}
 use Rattle.samples.specs.declared.Traced.the-variants as T
 use Rattle.samples.specs.Flat.{Out, out, fromSamples}
 use Rattle.samples.specs.Tail.{samples-tail}
@@ -31,6 +32,10 @@ use Rattle.refine.specs.Refinement.{traced-is-model}
 use Rattle.schema.specs.declared.Emitted.the-variants as E
 use Rattle.schema.specs.Emit.{Answered, answered, toSchemaAt}
 use Rattle.emission.specs.Refinement.{Emits, schema-is-model}
+use Rattle.refusal.specs.declared.Refusal.{Refusal}
+use Rattle.refusal.specs.declared.Refusal.the-variants as F
+use Rattle.fasthrom.specs.declared.Outcome.{Outcome}
+use Rattle.fasthrom.specs.declared.Outcome.the-variants as O
 use Rattle.fasthrom.specs.Call.{lent, answerBy, Given, given, asGiven, emittedFrom}
 
 -- bytes are below 256, where each element is
@@ -52,23 +57,23 @@ sound-more text t n s =
     }
 
 -- ---- emission refuses at the commands' end
-stands-at : {A : Type 0} → ℕ → Result A → Type 0
-stands-at end (accepted a) = Unit {0}
-stands-at end (refused number place) = place ≡ end
+abbrev Stands : {A : Type 0} → ℕ → Result A → Type 0
+Stands end (accepted a) = Unit {0}
+Stands end (refused number place) = place ≡ end
 
-if-stands : {A : Type 0} (end : ℕ) (t : Bool) (a b : Result A) → stands-at end a → stands-at end b → stands-at end (if t then a else b)
+if-stands : {A : Type 0} (end : ℕ) (t : Bool) (a b : Result A) → Stands end a → Stands end b → Stands end (if t then a else b)
 unfolding if_then_else_
 if-stands end true a b h k = h
 if-stands end false a b h k = k
 
-root-stands : (end : ℕ) (f : Field) → stands-at end (rootFields end f)
+root-stands : (end : ℕ) (f : Field) → Stands end (rootFields end f)
 root-stands end (mk type nullable strategy number name fs) = if-stands end _ _ _ refl (if-stands end _ _ _ refl (if-stands end _ _ _ tt refl))
 
-emission-stands : (options end : ℕ) (tree : Tree) → stands-at end (toSchema options end tree)
+emission-stands : (options end : ℕ) (tree : Tree) → Stands end (toSchema options end tree)
 unfolding toSchema
 emission-stands options end tree = go (walk options (placeOf false tree))
   where
-    go : (o : Option ℕ) → stands-at end (elim o as (λ x. Result Fields) [ some refusal ↦ refused refusal end | none ↦ rootFields end (fieldOf options rootName 0 (placeOf false tree)) ])
+    go : (o : Option ℕ) → Stands {A = Fields} end (elim o as (λ x. Result Fields) [ some refusal ↦ refused refusal end | none ↦ rootFields end (fieldOf options rootName 0 (placeOf false tree)) ])
     go none = root-stands end (fieldOf options rootName 0 (placeOf false tree))
     go (some refusal) = refl
 
@@ -81,5 +86,48 @@ module _ (options : ℕ) (commands text t fields names : List ℕ) (bytes : Byte
   ended (given o u records written) = answerBy o (lent (cleared u tableWords) records written)
 
   -- what stands past the places' words is as it was
-  zeroed-again : (r : T.Traced) (u : List ℕ) → out r u ≡ fromSamples commands text options (cleared t tableWords) → cleared u tableWords ≡ cleared t tableWords
+  zeroed-again : (r : Traced) (u : List ℕ) → out r u ≡ fromSamples commands text options (cleared t tableWords) → cleared u tableWords ≡ cleared t tableWords
   zeroed-again r u e = cleared-again t u (samples-tail commands text options (cleared t tableWords) u r (sound-cleared text t long) e ∙ tail-cleared t)
+
+  refused-is : (refusal : Refusal) (place : ℕ) (u : List ℕ) → out (T.Refused refusal place) u ≡ fromSamples commands text options (cleared t tableWords) →
+      ended (given (O.Refused refusal place) u fields names) ≡ answerOf b (lent t fields names) (schemaOf b)
+  unfolding schemaOf answerOf outcome
+  refused-is refusal place u e =
+      let is : refused (numberOf refusal) place ≡ trace options (values options commands text) = rw (← e) at (traced-is-model options commands text t bytes short long) in
+      rw (← is, zeroed-again (T.Refused refusal place) u e) refl
+
+  -- a schema that fits both buffers, or does not
+  fits-or-not : (u : List ℕ) (schema : Fields) (isLong : Bool) (a : Answered) → cleared u tableWords ≡ cleared t tableWords →
+      a ≡ (if isLong then answered (E.Refused F.ShortBuffer) fields names
+      else answered (E.Schema (countIn schema) (length (namesIn schema)) (columnsIn schema)) (written (recordsIn schema) fields) (written (namesIn schema) names)) →
+      ended (asGiven (length commands) u a) ≡ (if isLong then turnedDown shortBuffer (length commands) (zeroed (lent t fields names)) else withSchema schema (lent t fields names))
+  unfolding if_then_else_
+  fits-or-not u schema true a z e = rw (e, z) refl
+  fits-or-not u schema false a z e = rw (e, z) refl
+
+  -- an answer of emission that is the model's
+  emits-is : (u : List ℕ) (r : Result Fields) (a : Answered) → Stands (length commands) r → cleared u tableWords ≡ cleared t tableWords → Emits fields names r a →
+      ended (asGiven (length commands) u a) ≡ answerOf b (lent t fields names) r
+  unfolding answerOf
+  emits-is u (refused number place) a at z (x, is, e) = rw (e, z, is, at) refl
+  emits-is u (accepted schema) a at z e =
+      let swap : countIn schema * 8 ≡ 8 * countIn schema = omega arith in
+      fits-or-not u schema (isShort schema (lent t fields names)) a z (rw swap at e)
+
+  emitted-is : (behind n : ℕ) (u : List ℕ) → out (T.Next behind n) u ≡ fromSamples commands text options (cleared t tableWords) →
+      ended (asGiven (length commands) u (toSchemaAt options text u fields names)) ≡ answerOf b (lent t fields names) (schemaOf b)
+  unfolding schemaOf outcome
+  emitted-is behind n u e =
+      let is : counted n (treeOf text u) ≡ trace options (values options commands text) = rw (← e) at (traced-is-model options commands text t bytes short long) in
+      emits-is u (schemaOf b) (toSchemaAt options text u fields names) (rw (← is) (emission-stands options (length commands) (treeOf text u)))
+      (zeroed-again (T.Next behind n) u e)
+      (schema-is-model options commands text t bytes short long behind n u fields names (sym e))
+
+  -- what is given before the table is zeroed again
+  pub given-is-answer : (o : Outcome) (u records written : List ℕ) → given o u records written ≡ emittedFrom options commands text fields names (fromSamples commands text options (cleared t tableWords)) →
+      answerBy o (lent (cleared u tableWords) records written) ≡ answerOf b (lent t fields names) (schemaOf b)
+  given-is-answer o u records written e = ap ended e ∙ go (fromSamples commands text options (cleared t tableWords)) refl
+    where
+      go : (w : Out) → w ≡ fromSamples commands text options (cleared t tableWords) → ended (emittedFrom options commands text fields names w) ≡ answerOf b (lent t fields names) (schemaOf b)
+      go (out (T.Refused refusal place) v) q = refused-is refusal place v q
+      go (out (T.Next behind n) v) q = emitted-is behind n v q
