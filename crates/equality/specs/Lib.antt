@@ -29,4 +29,3 @@ pub mod Equal
 pub mod Ordered
 pub mod Demand3
 pub mod Answers
-pub mod Offsets

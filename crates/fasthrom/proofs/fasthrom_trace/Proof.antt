@@ -1,82 +1,47 @@
+-- `fasthrom_trace` gives the numbers of an outcome; a place fits 32 bits.
 use borrow.Author.Needs.{needs}
+use mathlib.Core.Path.{_≡_, refl, sym, ap, _∙_}
+use mathlib.Core.List.{List}
+use native.Mathlib.Omega.{arith}
+use Prim.Native.Nat.{ℕ, _<_}
+use Rattle.refusal.specs.declared.Refusal.{Refusal}
+use Rattle.refusal.specs.Number.{numberOf}
+use Rattle.model.specs.Answer.{Batch, Buffers, answer}
+use Rattle.equality.specs.Answers.{answer-small}
+use Rattle.fasthrom.specs.declared.Outcome.{Outcome}
+use Rattle.fasthrom.specs.declared.Outcome.the-variants as O
+use Rattle.fasthrom.specs.declared.Answer.{Answer}
+use Rattle.fasthrom.specs.Call.{answerBy, said, Called}
 use Rattle.fasthrom.proofs.fasthrom_trace.Statement.{statement}
 use Rattle.fasthrom.proofs.fasthrom_trace.Tie as tie
-use Rattle.fasthrom.proofs.fasthrom_trace.Reads as reads
-use Rattle.fasthrom.proofs.fasthrom_trace.Lts as lts
-use Rattle.fasthrom.proofs.trace.Reads as trace-reads
-use Rattle.refusal.proofs.Refusal.number.Reads as number-reads
 
--- src/lib.rt:138:11
-trace-requires : tie.Need-trace-requires
-trace-requires c κs = search needs
+module _ (b : Batch) (lent left : Buffers) (o : Outcome) (e : answerBy o left ≡ answer b lent) where
+  small : (refusal : Refusal) (place : ℕ) → o ≡ O.Refused refusal place → place < 4294967296
+  small refusal place is = let p : place ≡ answer b lent .place = ap (λ a. a .place) (rw is at e) in omega (arith, answer-small b lent)
 
--- src/lib.rt:139:25
-enum-known-records : tie.Need-enum-known-records
-enum-known-records c = search needs
+  schema : (x y z : ℕ) → o ≡ O.Schema x y z → Called b lent (record { refusal = 0; place = 0; «field_records» = x; «name_bytes» = y; columns = z }) left
+  unfolding Called
+  schema x y z is = rw is at e
 
--- src/lib.rt:146:26
-enum-known-refusal : tie.Need-enum-known-refusal
-enum-known-refusal c = search needs
-
--- src/lib.rt:147:22
-number-requires : tie.Need-number-requires
-number-requires c κs = search needs
-
--- src/lib.rt:147:22
-cast-t21 : tie.Need-cast-t21
-cast-t21 c = search needs
-
--- src/lib.rt:148:20
-cast-t22 : tie.Need-cast-t22
-cast-t22 c = ?
-
--- src/lib.rt:127:1
-same-length : tie.Need-same-length
-same-length c = search needs
-
--- src/lib.rt:127:1
-same-length-2 : tie.Need-same-length-2
-same-length-2 c = search needs
-
--- src/lib.rt:127:1
-same-length-3 : tie.Need-same-length-3
-same-length-3 c = search needs
-
--- src/lib.rt:127:1
-returns : tie.Need-returns
-returns c = ?
-
--- src/lib.rt:127:1
-same-length-4 : tie.Need-same-length-4
-same-length-4 c = search needs
-
--- src/lib.rt:127:1
-same-length-5 : tie.Need-same-length-5
-same-length-5 c = search needs
-
--- src/lib.rt:127:1
-same-length-6 : tie.Need-same-length-6
-same-length-6 c = search needs
-
--- src/lib.rt:127:1
-returns-2 : tie.Need-returns-2
-returns-2 c = ?
+  refused : (refusal : Refusal) (place number : ℕ) → o ≡ O.Refused refusal place → number ≡ numberOf refusal → Called b lent (record { refusal = number; place = place; «field_records» = 0; «name_bytes» = 0; columns = 0 }) left
+  unfolding Called
+  refused refusal place number is n = rw n (rw is at e)
 
 pub fasthrom-trace-spec : {M : Type 1} → statement M
 fasthrom-trace-spec =
     tie.close
     (tie.spec
-    trace-requires
-    enum-known-records
-    enum-known-refusal
-    number-requires
-    cast-t21
-    cast-t22
-    same-length
-    same-length-2
-    same-length-3
-    returns
-    same-length-4
-    same-length-5
-    same-length-6
-    returns-2)
+    (λ c κs. search needs)
+    (λ c. search needs)
+    (λ c. search needs)
+    (λ c κs. search needs)
+    (λ c. search needs)
+    (λ c. search (small, needs))
+    (λ c. search needs)
+    (λ c. search needs)
+    (λ c. search needs)
+    (λ c. search (schema, needs))
+    (λ c. search needs)
+    (λ c. search needs)
+    (λ c. search needs)
+    (λ c. search (refused, needs)))

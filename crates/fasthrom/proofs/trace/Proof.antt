@@ -1,69 +1,61 @@
+-- `trace` tests 1, 2 and 3 in order.
 use borrow.Author.Needs.{needs}
+use borrow.Author.Tests.{lt-ltb, le-ltb}
+use mathlib.Core.Path.{_≡_, refl, sym, _∙_}
+use mathlib.Core.Bool.{Bool, true, false, _||_}
+use mathlib.Core.List.{List}
+use Prim.Native.Nat.{ℕ, _<_, _≤_}
+use lib.Dec.{ltb}
+use lib.ListN.{length}
+use borrow.Author.Tests.{ltb-false}
+use Rattle.logic.specs.Test.{if_then_else_, neither}
+use Rattle.options.specs.Word.{unknownBit}
+use Rattle.refusal.specs.declared.Refusal.the-variants as F
+use Rattle.model.specs.Answer as M
+use Rattle.model.specs.Answer.{inputLimit, tableWords, schemaOf, answerOf, answer}
+use Rattle.model.specs.Demand3.{batch}
+use Rattle.fasthrom.specs.declared.Outcome.the-variants as O
+use Rattle.fasthrom.specs.Call.{lent, answerBy}
 use Rattle.fasthrom.proofs.trace.Statement.{statement}
 use Rattle.fasthrom.proofs.trace.Tie as tie
-use Rattle.fasthrom.proofs.trace.Reads as reads
-use Rattle.fasthrom.proofs.trace.Lts as lts
-use Rattle.fasthrom.proofs.is_long.Reads as is-long-reads
-use Rattle.fasthrom.proofs.trace_cleared.Reads as trace-cleared-reads
-use Rattle.options.proofs.TracingOptions.has_unknown_bit.Reads as has-unknown-bit-reads
-use Rattle.options.proofs.TracingOptions.new.Reads as new-reads
 
--- src/lib.rt:113:9
-new-requires : tie.Need-new-requires
-new-requires c κs = search needs
+short-enough : (commands text : List ℕ) (long : Bool) → long ≡ (ltb inputLimit (length commands) || ltb inputLimit (length text)) → long ≡ false → length commands ≤ inputLimit
+short-enough commands text long e f = neither (ltb inputLimit (length commands)) (ltb inputLimit (length text)) (sym e ∙ f) λ p q. ltb-false inputLimit (length commands) p
 
--- src/lib.rt:114:8
-has-unknown-bit-requires : tie.Need-has-unknown-bit-requires
-has-unknown-bit-requires c κs = search needs
+module _ (options word : ℕ) (commands text t fields names : List ℕ) (made : word ≡ options) (unknown : Bool) (u : unknown ≡ unknownBit word) where
+  abbrev given : M.Answer
+  given = answer (batch options commands text) (lent t fields names)
 
--- src/lib.rt:115:9
-returns : tie.Need-returns
-returns c = ?
+  unknown-option : unknown ≡ true → answerBy (O.Refused F.UnknownOption 0) (lent t fields names) ≡ given
+  unfolding answer if_then_else_
+  unknown-option e = rw (← made, ← u, e) refl
 
--- src/lib.rt:118:9
-returns-2 : tie.Need-returns-2
-returns-2 c = ?
+  module _ (known : unknown ≡ false) where
+    short-table : length t < tableWords → answerBy (O.Refused F.ShortTable 0) (lent t fields names) ≡ given
+    unfolding answer if_then_else_
+    short-table s = rw (← made, ← u, known, lt-ltb (length t) tableWords s) refl
 
--- src/lib.rt:120:8
-is-long-requires : tie.Need-is-long-requires
-is-long-requires c κs = search needs
+    module _ (room : tableWords ≤ length t) (long : Bool) (l : long ≡ (ltb inputLimit (length commands) || ltb inputLimit (length text))) where
+      long-input : long ≡ true → answerBy (O.Refused F.LongInput 0) (lent t fields names) ≡ given
+      unfolding answer if_then_else_
+      long-input e = rw (← made, ← u, known, le-ltb (length t) tableWords room, ← l, e) refl
 
--- src/lib.rt:121:9
-returns-3 : tie.Need-returns-3
-returns-3 c = ?
-
--- src/lib.rt:123:5
-trace-cleared-requires : tie.Need-trace-cleared-requires
-trace-cleared-requires c κs = ?
-
--- src/lib.rt:103:1
-same-length : tie.Need-same-length
-same-length c = search needs
-
--- src/lib.rt:103:1
-same-length-2 : tie.Need-same-length-2
-same-length-2 c = search needs
-
--- src/lib.rt:103:1
-same-length-3 : tie.Need-same-length-3
-same-length-3 c = search needs
-
--- src/lib.rt:103:1
-returns-4 : tie.Need-returns-4
-returns-4 c = ?
+      traced : (a : M.Answer) → long ≡ false → a ≡ answerOf (batch word commands text) (lent t fields names) (schemaOf (batch word commands text)) → a ≡ given
+      unfolding answer if_then_else_
+      traced a e q = rw (← made, ← u, known, le-ltb (length t) tableWords room, ← l, e) q
 
 pub trace-spec : {M : Type 1} → statement M
 trace-spec =
     tie.close
     (tie.spec
-    new-requires
-    has-unknown-bit-requires
-    returns
-    returns-2
-    is-long-requires
-    returns-3
-    trace-cleared-requires
-    same-length
-    same-length-2
-    same-length-3
-    returns-4)
+    (λ c κs. search needs)
+    (λ c κs. search needs)
+    (λ c. search (unknown-option, needs))
+    (λ c. search (short-table, needs))
+    (λ c κs. search needs)
+    (λ c. search (long-input, needs))
+    (λ c κs. search (short-enough, needs))
+    (λ c. search needs)
+    (λ c. search needs)
+    (λ c. search needs)
+    (λ c. search (traced, needs)))

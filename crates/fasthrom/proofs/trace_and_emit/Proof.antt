@@ -1,92 +1,54 @@
+-- `trace_and_emit` goes by what tracing answers, then by what emission answers.
 use borrow.Author.Needs.{needs}
+use mathlib.Core.Path.{_≡_, refl, sym, _∙_}
+use mathlib.Core.List.{List}
+use Prim.Native.Nat.{ℕ}
+use lib.ListN.{length}
+use Rattle.refusal.specs.declared.Refusal.{Refusal}
+use Rattle.samples.specs.declared.Traced.{Traced}
+use Rattle.samples.specs.declared.Traced.the-variants as T
+use Rattle.samples.specs.Flat.{out, fromSamples, SoundTraced}
+use Rattle.places.specs.Layout.{Sound}
+use Rattle.schema.specs.declared.Emitted.{Emitted}
+use Rattle.schema.specs.declared.Emitted.the-variants as E
+use Rattle.schema.specs.Emit.{answered, toSchemaAt}
+use Rattle.fasthrom.specs.declared.Outcome.the-variants as O
+use Rattle.fasthrom.specs.Call.{given, emittedFrom}
+use Rattle.fasthrom.specs.Laws.{sound-more}
 use Rattle.fasthrom.proofs.trace_and_emit.Statement.{statement}
 use Rattle.fasthrom.proofs.trace_and_emit.Tie as tie
-use Rattle.fasthrom.proofs.trace_and_emit.Reads as reads
-use Rattle.fasthrom.proofs.trace_and_emit.Lts as lts
-use Rattle.samples.proofs.from_samples.Reads as from-samples-reads
-use Rattle.schema.proofs.to_schema.Reads as to-schema-reads
 
--- src/lib.rt:65:11
-from-samples-requires : tie.Need-from-samples-requires
-from-samples-requires c κs = search needs
+sound-after : (text u : List ℕ) (r : Traced) (behind n : ℕ) → r ≡ T.Next behind n → SoundTraced text u 1 r → Sound text u 1024
+sound-after text u r behind n e h = let s : SoundTraced text u 1 (T.Next behind n) = rw e at h in sound-more text u n (s .0)
 
--- src/lib.rt:66:70
-enum-told : tie.Need-enum-told
-enum-told c = search needs
+module _ (options : ℕ) (commands text t u fields names : List ℕ) (r : Traced) (traced : out r u ≡ fromSamples commands text options t) where
+  refused : (refusal : Refusal) (place : ℕ) → r ≡ T.Refused refusal place → given (O.Refused refusal place) u fields names ≡ emittedFrom options commands text fields names (fromSamples commands text options t)
+  refused refusal place e = rw (← traced, e) refl
 
--- src/lib.rt:66:37
-to-schema-requires : tie.Need-to-schema-requires
-to-schema-requires c κs = ?
+  module _ (behind n : ℕ) (next : r ≡ T.Next behind n) (records written : List ℕ) (a : Emitted) (emitted : answered a records written ≡ toSchemaAt options text u fields names) where
+    schema : (x y z : ℕ) → a ≡ E.Schema x y z → given (O.Schema x y z) u records written ≡ emittedFrom options commands text fields names (fromSamples commands text options t)
+    schema x y z e = rw (← traced, next, ← emitted, e) refl
 
--- src/lib.rt:67:29
-enum-known-records : tie.Need-enum-known-records
-enum-known-records c = search needs
-
--- src/lib.rt:68:30
-enum-known-refusal : tie.Need-enum-known-refusal
-enum-known-refusal c = search needs
-
--- src/lib.rt:70:25
-enum-known-refusal-2 : tie.Need-enum-known-refusal-2
-enum-known-refusal-2 c = search needs
-
--- src/lib.rt:54:1
-same-length : tie.Need-same-length
-same-length c = search needs
-
--- src/lib.rt:54:1
-same-length-2 : tie.Need-same-length-2
-same-length-2 c = search needs
-
--- src/lib.rt:54:1
-same-length-3 : tie.Need-same-length-3
-same-length-3 c = search needs
-
--- src/lib.rt:54:1
-returns : tie.Need-returns
-returns c = ?
-
--- src/lib.rt:54:1
-same-length-4 : tie.Need-same-length-4
-same-length-4 c = search needs
-
--- src/lib.rt:54:1
-same-length-5 : tie.Need-same-length-5
-same-length-5 c = search needs
-
--- src/lib.rt:54:1
-same-length-6 : tie.Need-same-length-6
-same-length-6 c = search needs
-
--- src/lib.rt:54:1
-returns-2 : tie.Need-returns-2
-returns-2 c = ?
-
--- src/lib.rt:54:1
-same-length-7 : tie.Need-same-length-7
-same-length-7 c = search needs
-
--- src/lib.rt:54:1
-returns-3 : tie.Need-returns-3
-returns-3 c = ?
+    turned-down : (refusal : Refusal) → a ≡ E.Refused refusal → given (O.Refused refusal (length commands)) u records written ≡ emittedFrom options commands text fields names (fromSamples commands text options t)
+    turned-down refusal e = rw (← traced, next, ← emitted, e) refl
 
 pub trace-and-emit-spec : {M : Type 1} → statement M
 trace-and-emit-spec =
     tie.close
     (tie.spec
-    from-samples-requires
-    enum-told
-    to-schema-requires
-    enum-known-records
-    enum-known-refusal
-    enum-known-refusal-2
-    same-length
-    same-length-2
-    same-length-3
-    returns
-    same-length-4
-    same-length-5
-    same-length-6
-    returns-2
-    same-length-7
-    returns-3)
+    (λ c κs. search needs)
+    (λ c. search needs)
+    (λ c κs. search (sound-after, needs))
+    (λ c. search needs)
+    (λ c. search needs)
+    (λ c. search needs)
+    (λ c. search needs)
+    (λ c. search needs)
+    (λ c. search needs)
+    (λ c. search (schema, needs))
+    (λ c. search needs)
+    (λ c. search needs)
+    (λ c. search needs)
+    (λ c. search (turned-down, needs))
+    (λ c. search needs)
+    (λ c. search (refused, needs)))
