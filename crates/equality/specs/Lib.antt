@@ -1,5 +1,4 @@
 pub mod Base
-pub mod Plain
 pub mod Proper
 pub mod Canon
 pub mod Count
@@ -29,3 +28,4 @@ pub mod Equal
 pub mod Ordered
 pub mod Demand3
 pub mod Answers
+pub mod Bound
