@@ -1,7 +1,6 @@
--- How a call ends: turned down before the commands are read, turned down later, or with the whole schema. And refusals 4 to 6 are said of
--- batches that are not well-formed alone.
-use mathlib.Core.Path.{_≡_, refl, sym, _∙_}
-use mathlib.Core.Bool.{Bool, true, false, _||_, true≢false}
+-- How a call ends: turned down before the commands are read, turned down later, or with the whole schema.
+use mathlib.Core.Path.{_≡_, refl}
+use mathlib.Core.Bool.{false, _||_}
 use Prim.Native.Nat.{ℕ, _≤_, zero-le}
 use native.Mathlib.Nat.{le-refl}
 use native.Mathlib.Omega.{arith}
@@ -12,10 +11,9 @@ use Rattle.logic.specs.Test.{neither}
 use Rattle.refusal.specs.Number.{shortBuffer}
 use Rattle.model.specs.Result.{Result, accepted, refused}
 use Rattle.model.specs.Emission.{Fields}
-use Rattle.model.specs.Answer.{Batch, Buffers, Answer, WellFormed, inputLimit, schemaOf, isShort, turnedDown, zeroed, withSchema, answerOf, answer}
+use Rattle.model.specs.Answer.{Batch, Buffers, Answer, inputLimit, schemaOf, isShort, turnedDown, zeroed, withSchema, answerOf, answer}
 use Rattle.equality.specs.Reads.{choice}
 use Rattle.equality.specs.Refusals.{Between, schemaOf-between}
-use Rattle.equality.specs.Wellformed.{ofReading, Past, schemaOf-past}
 
 pub data Ending (b : Batch) (lent : Buffers) : Answer → Type 0 where
   barred : (n : ℕ) → 1 ≤ n → n ≤ 3 → Ending b lent (turnedDown n 0 lent)
@@ -44,21 +42,3 @@ small b lent a (whole schema e s) = zero-le
 
 pub answer-small : (b : Batch) (lent : Buffers) → answer b lent .place ≤ inputLimit
 answer-small b lent = small b lent (answer b lent) (answer-ends b lent)
-
--- the answer is none of 4, 5 and 6
-abbrev NotReading : Answer → Type 0
-NotReading a = ofReading (a .refusal) ≡ false
-
-outcome-past : (b : Batch) (lent : Buffers) (r : Result Fields) → Past r → NotReading (answerOf b lent r)
-unfolding answerOf
-outcome-past b lent (refused n place) h = h
-outcome-past b lent (accepted schema) h = choice NotReading _ (λ _. refl) (λ _. refl)
-
--- on a well-formed batch the answer is never 4, 5 or 6; so where it is one of them the batch is not well-formed
-pub well-formed-past : (b : Batch) (lent : Buffers) → WellFormed b → ofReading (answer b lent .refusal) ≡ false
-unfolding answer
-well-formed-past b lent w =
-    choice NotReading _ (λ _. refl) λ _. choice NotReading _ (λ _. refl) λ _. choice NotReading _ (λ _. refl) λ _. outcome-past b lent (schemaOf b) (schemaOf-past b (w .whole))
-
-pub not-well-formed : (b : Batch) (lent : Buffers) → ofReading (answer b lent .refusal) ≡ true → WellFormed b → ⊥
-not-well-formed b lent e w = true≢false (sym e ∙ well-formed-past b lent w)

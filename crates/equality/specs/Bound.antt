@@ -1,7 +1,7 @@
 -- Tracer::from_samples has no bound on places: the bound changes nothing but where it is met (refusal 11).
 use mathlib.Core.Path.{_≡_, refl, sym, _∙_}
 use mathlib.Core.List.{List, [], _∷_}
-use mathlib.Core.Bool.{true, false, not, true≢false}
+use mathlib.Core.Bool.{true, not, true≢false}
 use Prim.Native.Nat.{ℕ, _+_}
 use lib.Dec.{ltb}
 use Rattle.logic.specs.Test.{if_then_else_, cases}
@@ -11,7 +11,7 @@ use Rattle.model.specs.Kinds.{Step, isVariant}
 use Rattle.model.specs.Reading.{Value, val, cut, Parts, no-parts, cut-off, part}
 use Rattle.model.specs.Tracing.{Tree, Kids, kindOf, kidsOf, fresh, dotsOf, placeLimit, meet, stepsOf, has, kidAt, put, clashes, room, made, make, observe, observeParts, observeAll, trace}
 use Rattle.equality.specs.Base.{and-left, and-right, not-refused}
-use Rattle.model.specs.Unbounded.{makeAll, allowed, see, seeParts, seeAll}
+use Rattle.model.specs.Unbounded.{allowed, see, seeParts, seeAll}
 use Rattle.equality.specs.Count.{noVariants, made-no-variants, no-clash, counted-make, counted, room-ok}
 
 -- a refusal is the same whatever was asked for

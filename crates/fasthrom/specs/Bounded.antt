@@ -1,22 +1,20 @@
 -- The answer to a well-formed batch is what tracing without the bound on places and emission give, or 11.
-use mathlib.Core.Path.{_≡_, refl, sym, ap, _∙_}
-use mathlib.Core.Bool.{Bool, true, false, _||_, _&&_, true≢false}
+use mathlib.Core.Path.{_≡_, refl, sym}
+use mathlib.Core.Bool.{false, _||_}
 use mathlib.Core.Logic.{_⊎_, inl, inr}
 use Prim.Native.Nat.{ℕ, _<_, _≤_}
 use native.Mathlib.Omega.{arith}
-use lib.Dec.{eqb, leb, ltb}
+use lib.Dec.{eqb, ltb}
 use lib.ListN.{length}
 use borrow.Author.Tests.{le-ltb, ltb-true, ltb-false, eqb-false}
 use Rattle.logic.specs.Test.{if_then_else_, cases, neither}
-use Rattle.refusal.specs.Number.{tooManyPlaces, shortBuffer, badCommand, badName, badKey}
+use Rattle.refusal.specs.Number.{tooManyPlaces, badCommand, badName, badKey}
 use Rattle.model.specs.Result.{Result, accepted, refused, _>>=_}
-use Rattle.model.specs.Reading.{values}
 use Rattle.model.specs.Tracing.{Tree, fresh, placeLimit, Counted, trace}
 use Rattle.model.specs.Unbounded.{seeAll, size}
 use Rattle.model.specs.Emission.{Fields, toSchema}
 use Rattle.model.specs.Answer.{Batch, Buffers, Answer, WellFormed, tableWords, inputLimit, schemaOf, isShort, answerOf, answer}
 use Rattle.model.specs.Demand3.{recordsOf}
-use Rattle.equality.specs.Base.{not-refused}
 use Rattle.equality.specs.Reads.{choice}
 use Rattle.equality.specs.Refusals.{Between, schemaOf-between, schema-between}
 use Rattle.equality.specs.Wellformed.{ofReading, Past, schemaOf-past}

@@ -3,7 +3,7 @@
 --
 -- The words are those of the model: Batch, Buffers, Answer, schemaOf, withSchema, turnedDown (Answer), from commands to values (Reading), places
 -- (Tracing, Unbounded), field records (Emission), the census (Census), equal schemas and records in another order (Demand3).
-use mathlib.Core.Path.{_≡_, refl, sym, _∙_}
+use mathlib.Core.Path.{_≡_, refl, _∙_}
 use mathlib.Core.Bool.{false}
 use mathlib.Core.List.{List, List·Permᴰ}
 use mathlib.Core.Logic.{_⊎_, inl, inr, _↔_}

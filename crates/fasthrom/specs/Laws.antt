@@ -1,24 +1,21 @@
 -- Tracing and emission over a cleared table, and the table zeroed again, are the model's answer.
 use mathlib.Core.Path.{_≡_, refl, sym, ap, _∙_}
-use mathlib.Core.Bool.{Bool, true, false, _||_}
+use mathlib.Core.Bool.{Bool, true, false}
 use mathlib.Core.List.{List, [], _∷_}
 use mathlib.Core.Option.{Option, none, some}
-use Prim.Native.Nat.{ℕ, zero, suc, _*_, _<_, _≤_}
+use Prim.Native.Nat.{ℕ, suc, _*_, _<_, _≤_}
 use native.Mathlib.Omega.{arith}
-use lib.Dec.{eqb, ltb}
 use lib.ListN.{length, getD}
-use Rattle.logic.specs.Test.{if_then_else_, cases}
-use Rattle.datatype.specs.Codes.{null, struct}
+use Rattle.logic.specs.Test.{if_then_else_}
 use Rattle.refusal.specs.Number.{numberOf, shortBuffer}
-use Rattle.words.specs.Word.{cleared, tailOf}
+use Rattle.words.specs.Word.{cleared}
 use Rattle.words.specs.Laws.{tail-cleared, cleared-again}
-use Rattle.equality.specs.Base.{not-refused}
 use Rattle.model.specs.Result.{Result, accepted, refused}
 use Rattle.model.specs.Reading.{values}
-use Rattle.model.specs.Tracing.{Tree, trace, Counted, counted}
+use Rattle.model.specs.Tracing.{Tree, trace, counted}
 use Rattle.model.specs.Emission.{Field, mk, Fields, rootFields, toSchema, walk, placeOf, fieldOf, rootName, countIn, namesIn, recordsIn, columnsIn}
 use Rattle.model.specs.Answer as M
-use Rattle.model.specs.Answer.{Buffers, inputLimit, tableWords, schemaOf, answerOf, isShort, turnedDown, zeroed, written, withSchema}
+use Rattle.model.specs.Answer.{inputLimit, tableWords, schemaOf, answerOf, isShort, turnedDown, zeroed, written, withSchema}
 use Rattle.model.specs.Demand3.{batch}
 use Rattle.places.specs.Layout.{Sound}
 use Rattle.places.specs.Laws.{sound-cleared}

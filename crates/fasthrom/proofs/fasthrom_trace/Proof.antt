@@ -1,7 +1,6 @@
 -- `fasthrom_trace` gives the numbers of an outcome; a place fits 32 bits.
 use borrow.Author.Needs.{needs}
-use mathlib.Core.Path.{_≡_, refl, sym, ap, _∙_}
-use mathlib.Core.List.{List}
+use mathlib.Core.Path.{_≡_, ap}
 use native.Mathlib.Omega.{arith}
 use Prim.Native.Nat.{ℕ, _<_}
 use Rattle.refusal.specs.declared.Refusal.{Refusal}
@@ -10,8 +9,7 @@ use Rattle.model.specs.Answer.{Batch, Buffers, answer}
 use Rattle.equality.specs.Answers.{answer-small}
 use Rattle.fasthrom.specs.declared.Outcome.{Outcome}
 use Rattle.fasthrom.specs.declared.Outcome.the-variants as O
-use Rattle.fasthrom.specs.declared.Answer.{Answer}
-use Rattle.fasthrom.specs.Call.{answerBy, said, Called}
+use Rattle.fasthrom.specs.Call.{answerBy, Called}
 use Rattle.fasthrom.proofs.fasthrom_trace.Statement.{statement}
 use Rattle.fasthrom.proofs.fasthrom_trace.Tie as tie
 
