@@ -47,7 +47,7 @@ took b lent e =
     from known long short (schemaOf b) refl (schemaOf-between b) (rw (known, long, short) at e)
   where
     from : unknownBit (b .options) ≡ false → ltb (length (lent .table)) tableWords ≡ false → (ltb inputLimit (length (b .commands)) || ltb inputLimit (length (b .text))) ≡ false
-        → (r : Result Fields) → schemaOf b ≡ r → Between 4 17 r → Accepted (answerOf b lent r) → Took b lent
+        → (r : Result Fields) → schemaOf b ≡ r → Between 4 17 (length (b .commands)) r → Accepted (answerOf b lent r) → Took b lent
     from known long short (refused n at) q h z = absurd (let l = h .0 in omega arith)
     from known long short (accepted schema) q h z =
         cases (isShort schema lent) (λ x. absurd (omega (arith, rw x at z))) λ x.

@@ -1,60 +1,44 @@
--- The answer is one of 0 to 18, on a refusal every count is 0, and refusals 4 to 6 are said of batches that are not well-formed alone.
-use mathlib.Core.Path.{_≡_, refl, ap, sym, _∙_}
-use mathlib.Core.Bool.{Bool, true, false, _||_, true≢false}
-use Prim.Native.Nat.{ℕ, _≤_}
+-- How a call ends: turned down before the commands are read, turned down later, or with the whole schema.
+use mathlib.Core.Path.{_≡_, refl}
+use mathlib.Core.Bool.{false, _||_}
+use Prim.Native.Nat.{ℕ, _≤_, zero-le}
+use native.Mathlib.Nat.{le-refl}
 use native.Mathlib.Omega.{arith}
-use lib.Dec.{eqb, ltb}
+use lib.Dec.{ltb}
 use lib.ListN.{length}
-use Rattle.logic.specs.Test.{if_then_else_}
+use borrow.Author.Tests.{ltb-false}
+use Rattle.logic.specs.Test.{neither}
+use Rattle.refusal.specs.Number.{shortBuffer}
 use Rattle.model.specs.Result.{Result, accepted, refused}
 use Rattle.model.specs.Emission.{Fields}
-use Rattle.model.specs.Answer.{Batch, Buffers, Answer, WellFormed, schemaOf, answerOf, answer}
+use Rattle.model.specs.Answer.{Batch, Buffers, Answer, inputLimit, schemaOf, isShort, turnedDown, zeroed, withSchema, answerOf, answer}
+use Rattle.equality.specs.Reads.{choice}
 use Rattle.equality.specs.Refusals.{Between, schemaOf-between}
-use Rattle.equality.specs.Wellformed.{ofReading, Past, schemaOf-past}
 
--- what both sides of a choice have
-chosen : {A : Type 0} (P : A → Type 0) (t : Bool) (a b : A) → P a → P b → P (if t then a else b)
-unfolding if_then_else_
-chosen P true a b p q = p
-chosen P false a b p q = q
+pub data Ending (b : Batch) (lent : Buffers) : Answer → Type 0 where
+  barred : (n : ℕ) → 1 ≤ n → n ≤ 3 → Ending b lent (turnedDown n 0 lent)
+  turned : (n place : ℕ) → 4 ≤ n → n ≤ 18 → place ≤ length (b .commands) → length (b .commands) ≤ inputLimit → Ending b lent (turnedDown n place (zeroed lent))
+  whole : (schema : Fields) → schemaOf b ≡ accepted schema → isShort schema lent ≡ false → Ending b lent (withSchema schema lent)
 
--- a refusal has a number from 1 to 18, and every count is 0
-pub record Said (a : Answer) : Type 0 where
-  pub range : a .refusal ≤ 18
-  pub records : (a .refusal ≡ 0 → ⊥) → a .field-records ≡ 0
-  pub names : (a .refusal ≡ 0 → ⊥) → a .name-bytes ≡ 0
-  pub columns : (a .refusal ≡ 0 → ⊥) → a .columns ≡ 0
-
-refusal-said : (n place : ℕ) (left : Buffers) → n ≤ 18 → Said (record { refusal = n; place = place; field-records = 0; name-bytes = 0; columns = 0; left = left })
-refusal-said n place left h = record { range = h; records = λ x. refl; names = λ x. refl; columns = λ x. refl }
-
-outcome-said : (b : Batch) (lent : Buffers) (r : Result Fields) → Between 4 17 r → Said (answerOf b lent r)
+outcome-ends : (b : Batch) (lent : Buffers) (r : Result Fields) → schemaOf b ≡ r → Between 4 17 (length (b .commands)) r → length (b .commands) ≤ inputLimit → Ending b lent (answerOf b lent r)
 unfolding answerOf
-outcome-said b lent (refused n place) h = refusal-said n place _ (let a = h .1 in omega arith)
-outcome-said b lent (accepted schema) h =
-    chosen Said _ _ _ (refusal-said 18 _ _ (omega arith)) (record { range = omega arith; records = λ x. absurd (x refl); names = λ x. absurd (x refl); columns = λ x. absurd (x refl) })
+outcome-ends b lent (refused n place) e h l = turned n place (h .0) (let k = h .1 in omega arith) (h .2) l
+outcome-ends b lent (accepted schema) e h l =
+    choice (Ending b lent) (isShort schema lent) (λ _. turned shortBuffer (length (b .commands)) (omega arith) (omega arith) (le-refl (length (b .commands))) l) (λ s. whole schema e s)
 
-pub answer-said : (b : Batch) (lent : Buffers) → Said (answer b lent)
+pub answer-ends : (b : Batch) (lent : Buffers) → Ending b lent (answer b lent)
 unfolding answer
-answer-said b lent =
-    chosen Said _ _ _ (refusal-said 1 0 lent (omega arith))
-    (chosen Said _ _ _ (refusal-said 2 0 lent (omega arith))
-    (chosen Said _ _ _ (refusal-said 3 0 lent (omega arith)) (outcome-said b lent (schemaOf b) (schemaOf-between b))))
+answer-ends b lent =
+    choice (Ending b lent) _ (λ _. barred 1 (omega arith) (omega arith)) λ _.
+    choice (Ending b lent) _ (λ _. barred 2 (omega arith) (omega arith)) λ _.
+    choice (Ending b lent) (ltb inputLimit (length (b .commands)) || ltb inputLimit (length (b .text))) (λ _. barred 3 (omega arith) (omega arith)) λ s.
+    outcome-ends b lent (schemaOf b) refl (schemaOf-between b) (neither (ltb inputLimit (length (b .commands))) _ s λ p q. ltb-false inputLimit (length (b .commands)) p)
 
--- the answer is none of 4, 5 and 6
-abbrev NotReading : Answer → Type 0
-NotReading a = ofReading (a .refusal) ≡ false
+-- a place fits the 16 bits of an offset
+small : (b : Batch) (lent : Buffers) (a : Answer) → Ending b lent a → a .place ≤ inputLimit
+small b lent a (barred n l h) = zero-le
+small b lent a (turned n place l h p q) = omega arith
+small b lent a (whole schema e s) = zero-le
 
-outcome-past : (b : Batch) (lent : Buffers) (r : Result Fields) → Past r → NotReading (answerOf b lent r)
-unfolding answerOf
-outcome-past b lent (refused n place) h = h
-outcome-past b lent (accepted schema) h = chosen NotReading _ _ _ refl refl
-
--- on a well-formed batch the answer is never 4, 5 or 6; so where it is one of them the batch is not well-formed
-pub well-formed-past : (b : Batch) (lent : Buffers) → WellFormed b → ofReading (answer b lent .refusal) ≡ false
-unfolding answer
-well-formed-past b lent w =
-    chosen NotReading _ _ _ refl (chosen NotReading _ _ _ refl (chosen NotReading _ _ _ refl (outcome-past b lent (schemaOf b) (schemaOf-past b (w .whole)))))
-
-pub not-well-formed : (b : Batch) (lent : Buffers) → ofReading (answer b lent .refusal) ≡ true → WellFormed b → ⊥
-not-well-formed b lent e w = true≢false (sym e ∙ well-formed-past b lent w)
+pub answer-small : (b : Batch) (lent : Buffers) → answer b lent .place ≤ inputLimit
+answer-small b lent = small b lent (answer b lent) (answer-ends b lent)

@@ -14,17 +14,8 @@ use Rattle.model.specs.Kinds.{sequenceKind, mapKind, tupleKind, isContainer, St
 use Rattle.model.specs.Reading.{Value, val, cut, Parts, no-parts, cut-off, part}
 use Rattle.model.specs.Tracing.{Tree, node, Kids, no-kids, kid, nullOf, kindOf, samplesOf, kidsOf, fresh, dotsOf, placeLimit, meet, stepsOf, has, kidAt, put, clashes, room, positionsFrom, made, make, Counted, one, tally, observe, observeParts, observeAll, trace}
 use Rattle.equality.specs.Base.{bind-ok, not-refused, and-left, and-right, not-is-true}
-use Rattle.equality.specs.Plain.{makeAll, allowed, see, seeParts, seeAll}
+use Rattle.model.specs.Unbounded.{size, sizes, makeAll, allowed, see, seeParts, seeAll}
 use Rattle.equality.specs.Standing.{met, part-ok}
-
--- the number of places of a tree
-unfoldable mutual
-  pub size : Tree → ℕ
-  size (node null kind samples kids) = suc (sizes kids)
-
-  pub sizes : Kids → ℕ
-  sizes no-kids = 0
-  sizes (kid s held tree kids) = size tree + sizes kids
 
 -- 1 where the step is not there yet
 abbrev pub new : Step → Kids → ℕ
@@ -62,7 +53,7 @@ makeAll-grows (s ∷ ss) ks = omega (arith, makeAll-grows ss (put s (kidAt s ks)
 abbrev pub Within : ℕ → ℕ → Type 0
 Within n m = n ≤ placeLimit → m ≤ placeLimit
 
-room-ok : {P : Type 0} (at : ℕ) (s : Step) (n : ℕ) (ks : Kids) (m : ℕ) → room at s n ks ≡ accepted m
+pub room-ok : {P : Type 0} (at : ℕ) (s : Step) (n : ℕ) (ks : Kids) (m : ℕ) → room at s n ks ≡ accepted m
     → (clashes s (stepsOf ks) ≡ false → n + new s ks ≡ m → Within n m → P) → P
 unfolding room if_then_else_
 room-ok at s n ks m e k =

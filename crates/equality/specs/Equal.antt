@@ -20,10 +20,10 @@ use Rattle.model.specs.Answer.{Batch, Buffers, Answer, schemaOf, answer}
 use Rattle.model.specs.Census.{kindIn, kindsSeen, containerSeen, kindSeen, SameCensus}
 use Rattle.model.specs.Demand3.{Plain, Accepted, SameSchema, StructRecords, Holds, recordsOf}
 use Rattle.equality.specs.Base.{bind-ok, not-refused}
-use Rattle.equality.specs.Plain.{seeAll}
+use Rattle.model.specs.Unbounded.{seeAll, size}
 use Rattle.equality.specs.Proper.{allProper, fits}
 use Rattle.equality.specs.Canon.{canon}
-use Rattle.equality.specs.Count.{size, traced}
+use Rattle.equality.specs.Count.{traced}
 use Rattle.equality.specs.Readings.{see-all-whole}
 use Rattle.equality.specs.Reads.{values-proper}
 use Rattle.equality.specs.Kind.{kind-seen}

@@ -22,7 +22,7 @@ use Rattle.model.specs.Emission.{Place, shown, Places, none-below, below, inser
 use Rattle.model.specs.Census.{fixedSteps, stepsIn, sight, sights}
 use Rattle.model.specs.Census as Census
 use Rattle.equality.specs.Base.{bind-ok, and-left, and-right, and-both, or-cases, not-is-true, same-true, same-refl}
-use Rattle.equality.specs.Plain.{see, seeAll}
+use Rattle.model.specs.Unbounded.{see, seeAll}
 use Rattle.equality.specs.Proper.{kindFits, partFits, stepFits, isProper, areProper, allProper, stepsBelow, fits, fitBelow}
 use Rattle.equality.specs.Standing.{met, no-cut}
 use Rattle.equality.specs.Readings.{or-true, has-sight, value-steps, below-proper, together, meet-together}

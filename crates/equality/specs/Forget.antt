@@ -12,7 +12,7 @@ use Rattle.model.specs.Result.{Result, accepted, refused, _>>=_, orRefused}
 use Rattle.model.specs.Kinds.{Step, isContainer, same}
 use Rattle.model.specs.Reading.{Value, val, cut, Parts, no-parts, cut-off, part, isWhole, areWhole, allWhole}
 use Rattle.model.specs.Tracing.{Tree, node, Kids, no-kids, kid, nullOf, kindOf, samplesOf, kidsOf, dotsOf, depthLimit, sameContainer, meet, stepsOf, kidAt, put, clashes, made, holds, one, tally}
-use Rattle.equality.specs.Plain.{makeAll, allowed, see, seeParts, seeAll}
+use Rattle.model.specs.Unbounded.{makeAll, allowed, see, seeParts, seeAll}
 use Rattle.equality.specs.Reads.{choices}
 use Rattle.equality.specs.Shift.{moved, movedParts, movedAll}
 

@@ -22,7 +22,7 @@ use Rattle.model.specs.Reading.{Value, val, cut}
 use Rattle.model.specs.Tracing.{Tree, kindOf, fresh, sameContainer}
 use Rattle.model.specs.Census.{kindIn, kindsSeen, containerSeen, kindSeen}
 use Rattle.equality.specs.Base.{and-left, and-right, or-cases}
-use Rattle.equality.specs.Plain.{seeAll}
+use Rattle.model.specs.Unbounded.{seeAll}
 use Rattle.equality.specs.Proper.{isContainerKind, isBinary, typeFits, kindFits, isProper, areProper, allProper}
 use Rattle.equality.specs.Readings.{together, onward, togetherAll, all-kind}
 

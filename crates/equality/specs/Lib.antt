@@ -1,5 +1,4 @@
 pub mod Base
-pub mod Plain
 pub mod Proper
 pub mod Canon
 pub mod Count
@@ -17,10 +16,10 @@ pub mod Sorted
 pub mod Together
 pub mod Reorder
 pub mod Walk
-pub mod Refusals
-pub mod Accept
 pub mod ReadCommand
 pub mod Reads
+pub mod Refusals
+pub mod Accept
 pub mod Shift
 pub mod Forget
 pub mod Batches
@@ -29,3 +28,4 @@ pub mod Equal
 pub mod Ordered
 pub mod Demand3
 pub mod Answers
+pub mod Bound

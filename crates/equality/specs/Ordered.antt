@@ -17,9 +17,9 @@ use Rattle.model.specs.Answer.{Batch, Buffers, Answer, schemaOf, answer, record
 use Rattle.model.specs.Census.{kindIn, partsOf, partsAt, below, standing}
 use Rattle.model.specs.Demand3.{Plain, Accepted, NoPlaceBoth, NoShorter, IsRecord, SameButOrder, Holds, batchOf, recordsOf, shows, asStruct, asMap, inNameOrder}
 use Rattle.equality.specs.Base.{not-refused}
-use Rattle.equality.specs.Plain.{seeAll}
+use Rattle.model.specs.Unbounded.{seeAll, size}
 use Rattle.equality.specs.Proper.{isProper, areProper, allProper, kindFits, partFits, fits}
-use Rattle.equality.specs.Count.{size, trace-fits}
+use Rattle.equality.specs.Count.{trace-fits}
 use Rattle.equality.specs.Readings.{see-all-whole}
 use Rattle.equality.specs.Reads.{values-proper}
 use Rattle.equality.specs.Forget.{forget, forgets, forgetAll, blur, all-forget, forgetAll-append}

@@ -14,7 +14,7 @@ use Rattle.model.specs.Reading.{Value, val, cut, Parts, no-parts, cut-off, part
 use Rattle.model.specs.Tracing.{Tree, node, Kids, nullOf, kindOf, samplesOf, kidsOf, fresh, dotsOf, stepsOf, has, kidAt, put, renames, clashes, made, one, tally}
 use Rattle.model.specs.Census.{partsOf, kindIn, partsAt, below, standing, kindsSeen, fixedSteps, stepsIn, sight, sights, stepsSeen}
 use Rattle.equality.specs.Base.{bind-ok, not-refused, and-left, and-right, or-left-false, or-right-false, or-cases, not-is-true, same-true, same-refl, same-sym}
-use Rattle.equality.specs.Plain.{makeAll, allowed, see, seeParts, seeAll}
+use Rattle.model.specs.Unbounded.{makeAll, allowed, see, seeParts, seeAll}
 use Rattle.equality.specs.Proper.{kindFits, partFits, isProper, areProper, allProper}
 use Rattle.equality.specs.Standing.{placeAt, depthAt, place-fresh, kidAt-put-same, kidAt-put-other, kidAt-makeAll, standing-append, met, no-cut, at-place}
 use Rattle.equality.specs.Count.{noVariants, no-clash, made-no-variants, allowed-ok}

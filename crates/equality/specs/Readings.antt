@@ -17,7 +17,7 @@ use Rattle.model.specs.Reading.{Value, val, cut, Parts, no-parts, cut-off, part
 use Rattle.model.specs.Tracing.{Tree, Kids, no-kids, kid, nullOf, kindOf, samplesOf, kidsOf, dotsOf, depthLimit, sameContainer, meet, stepsOf, has, kidAt, put, positionsFrom, made, holds, one, tally}
 use Rattle.model.specs.Census.{partsOf, kindIn, partsAt, below, standing, anyNull, samples, holders, kindsSeen, fixedSteps, stepsIn, sight, sights, stepsSeen}
 use Rattle.equality.specs.Base.{bind-ok, not-refused, if-ap, and-left, and-right, and-both, same-true, same-refl}
-use Rattle.equality.specs.Plain.{makeAll, see, seeParts, seeAll}
+use Rattle.model.specs.Unbounded.{makeAll, see, seeParts, seeAll}
 use Rattle.equality.specs.Proper.{kindFits, partFits, isProper, areProper, allProper}
 use Rattle.equality.specs.Standing.{met, no-cut, part-ok}
 

@@ -19,10 +19,9 @@ use Rattle.model.specs.Emission.{placeOf}
 use Rattle.model.specs.Census.{partsOf, kindIn, nullIn, partsAt, below, standing, anyNull, samples, holders, kindsSeen, fixedSteps, stepsIn, sights, stepsSeen}
 use Rattle.model.specs.Demand3.{shows, asStruct, asMap}
 use Rattle.equality.specs.Base.{or-right-false}
-use Rattle.equality.specs.Plain.{seeAll}
+use Rattle.model.specs.Unbounded.{seeAll, size}
 use Rattle.equality.specs.Proper.{kindFits, isProper, areProper, allProper}
 use Rattle.equality.specs.Standing.{placeAt, depthAt, place-fresh, at-place}
-use Rattle.equality.specs.Count.{size}
 use Rattle.equality.specs.Readings.{togetherAll, isDeep, see-all-whole, standing-proper, all-null, all-kind, has-sights-is}
 use Rattle.equality.specs.Progress.{allShallow, Allowed, accepts, allows}
 use Rattle.equality.specs.View.{samples-fresh, held-fresh, steps-fresh, distinct-seen, distinct-none}

@@ -16,7 +16,7 @@ use Rattle.model.specs.Census.{Said, asSet}
 use Rattle.equality.specs.Proper.{stepsBelow}
 use Rattle.equality.specs.Canon.{insertPlace, inOrder}
 use Rattle.equality.specs.Standing.{placeAt}
-use Rattle.equality.specs.Count.{size, sizes}
+use Rattle.model.specs.Unbounded.{size, sizes}
 use Rattle.equality.specs.Readings.{heldAt}
 use Rattle.equality.specs.Sorting.{precedes, distinct, distinct-set, same-set, steps-in-order, find, find-in-order}
 use Rattle.equality.specs.View.{view, find-places, placesIn, find-ordered, set-ordered, Distinct, same-view}

@@ -10,7 +10,7 @@ use Rattle.model.specs.Reading.{Value, val, cut, Parts, no-parts, cut-off, part
 use Rattle.model.specs.Tracing.{Tree, node, Kids, no-kids, kid, nullOf, kindOf, samplesOf, kidsOf, fresh, dotsOf, meet, kidAt, put, made, one, tally}
 use Rattle.model.specs.Census.{partsOf, partsAt, below, standing}
 use Rattle.equality.specs.Base.{bind-ok, bind-bind, not-refused, same-true, same-refl}
-use Rattle.equality.specs.Plain.{makeAll, allowed, see, seeParts, seeAll}
+use Rattle.model.specs.Unbounded.{makeAll, allowed, see, seeParts, seeAll}
 
 -- ---- the place at the end of the steps, and its depth
 unfoldable pub placeAt : List Step → Tree → Tree

@@ -18,7 +18,7 @@ use Rattle.model.specs.Emission.{Place, shown, Places, none-below, below, byNum
 use Rattle.model.specs.Census.{Said, census, childrenOf, asSet, stepsSeen, stepsIn, partsOf, kindIn, fixedSteps, sight, sights, kindsSeen, kindSeen, samples, holders, isLacking, anyNull}
 use Rattle.model.specs.Census as Census
 use Rattle.equality.specs.Base.{and-left, and-right, and-both, or-left-false, or-right-false, not-is-true, same-true, same-refl, same-sym}
-use Rattle.equality.specs.Plain.{seeAll}
+use Rattle.model.specs.Unbounded.{seeAll}
 use Rattle.equality.specs.Proper.{stepsBelow, allProper}
 use Rattle.equality.specs.Canon.{canon, canons, inOrder}
 use Rattle.equality.specs.Standing.{kid-of-values}

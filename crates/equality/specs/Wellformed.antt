@@ -3,27 +3,23 @@ use mathlib.Core.Path.{_≡_, refl, sym, ap, _∙_}
 use mathlib.Core.Bool.{Bool, true, false, not, _&&_, _||_, true≢false, false≢true}
 use mathlib.Core.List.{List, [], _∷_}
 use mathlib.Core.Option.{Option, none, some}
-use Prim.Native.Nat.{ℕ, zero, suc, _+_, _%_}
+use Prim.Native.Nat.{ℕ, _+_}
+use native.Mathlib.Omega.{arith}
 use lib.Dec.{eqb, leb, ltb}
-use lib.ListN.{length, getD}
+use lib.ListN.{length}
+use borrow.Author.Tests.{ne-eqb}
 use Rattle.logic.specs.Test.{cases}
-use Rattle.datatype.specs.Codes.{null, struct}
-use Rattle.options.specs.Word.{allowNullFields, enumsWithoutDataAsStrings}
-use Rattle.refusal.specs.Number.{badCommand, badName, badKey, numberOf, noJoint}
+use Rattle.datatype.specs.Codes.{null}
+use Rattle.refusal.specs.Number.{badCommand, badName, badKey, noJoint}
 use Rattle.coerce.specs.Joint.{joint}
 use Rattle.model.specs.Result.{Result, accepted, refused, _>>=_, orRefused}
-use Rattle.commands.specs.declared.Due.{Due}
-use Rattle.commands.specs.declared.Due.the-variants as D
-use Rattle.commands.specs.declared.Read.{Read}
-use Rattle.commands.specs.declared.Read.the-variants as R
-use Rattle.commands.specs.Commands as C
-use Rattle.commands.specs.Commands.{readCommand, endByte}
-use Rattle.model.specs.Kinds.{sequenceKind, structKind, mapKind, unionKind, mapModeKind, isContainer, Step, element, position, key, value, variantOf}
-use Rattle.model.specs.Reading.{Value, val, cut, Parts, no-parts, cut-off, part, Shape, leaf, follows, parts, chosen, no-value, shapeOf, Next, ended, next, bad, valueNext, fieldNext, nextPart, Got, marked, rest, readValue, readShape, readParts, enough, recordsFrom, values, isWhole, areWhole, allWhole}
-use Rattle.model.specs.Tracing.{Tree, Kids, kindOf, kidsOf, fresh, dotsOf, depthLimit, placeLimit, sameContainer, meet, stepsOf, has, kidAt, put, clashes, room, made, Counted, make, one, observe, observeParts, observeAll, trace}
-use Rattle.model.specs.Emission.{Place, shown, Places, none-below, below, placeOf, dataless, slotLimit, firstOf, walk, walks, Field, mk, fieldOf, rootFields, rootName, toSchema}
+use Rattle.model.specs.Kinds.{isContainer, Step}
+use Rattle.model.specs.Reading.{Value, val, cut, Parts, no-parts, cut-off, part, values, isWhole, areWhole, allWhole}
+use Rattle.model.specs.Tracing.{Tree, Kids, kindOf, kidsOf, fresh, dotsOf, depthLimit, placeLimit, sameContainer, meet, stepsOf, has, kidAt, put, clashes, room, made, Counted, make, observe, observeParts, observeAll, trace}
+use Rattle.model.specs.Emission.{Fields, toSchema}
 use Rattle.model.specs.Answer.{Batch, schemaOf}
-use Rattle.equality.specs.Reads.{choice, read-cases, next-cases, value-command, value-refused, parts-ended, parts-next, parts-bad, record-at, records-end, records-cut, records-more, record-cases, values-proper}
+use Rattle.equality.specs.Refusals.{Between, schema-between}
+use Rattle.equality.specs.Reads.{choice, values-proper}
 use Rattle.equality.specs.Proper.{allProper}
 
 -- a refusal of reading: 4, 5 or 6
@@ -158,13 +154,6 @@ trace-tells options vs = all-tell options 0 vs 1 fresh
 pub trace-whole : (options : ℕ) (vs : List Value) (after : Counted Tree) → trace options vs ≡ accepted after → allWhole vs ≡ true
 trace-whole options vs after e = whole-uncut vs ∙ ap uncut (rw e at (trace-tells options vs))
 
--- a refusal of reading is that of the first cut, so the batch was not read through
-pub refused-cut : (options : ℕ) (vs : List Value) (n p : ℕ) → trace options vs ≡ refused n p → ofReading n ≡ true → cutAmong vs ≡ some (n, p)
-refused-cut options vs n p e r = (rw e at (trace-tells options vs)) r
-
-pub refused-reading : (options : ℕ) (vs : List Value) (n p : ℕ) → trace options vs ≡ refused n p → ofReading n ≡ true → allWhole vs ≡ false
-refused-reading options vs n p e r = whole-uncut vs ∙ ap uncut (refused-cut options vs n p e r)
-
 -- a batch that is read through meets none of the refusals of reading
 past-told : {A : Type 0} (r : Result A) → Tells none r → Past r
 past-told (accepted a) h = tt
@@ -177,154 +166,18 @@ none-cut (some c) e = absurd (false≢true e)
 pub trace-past : (options : ℕ) (vs : List Value) → allWhole vs ≡ true → Past (trace options vs)
 trace-past options vs w = past-told (trace options vs) (rw (none-cut (cutAmong vs) (sym (whole-uncut vs) ∙ w)) at (trace-tells options vs))
 
--- ---- nor does emission
-abbrev PastOption : Option ℕ → Type 0
-PastOption none = Unit {0}
-PastOption (some refusal) = ofReading refusal ≡ false
-
-past-first : (o q : Option ℕ) → PastOption o → PastOption q → PastOption (firstOf o q)
-past-first none q x y = y
-past-first (some n) q x y = x
-
-mutual
-  unfolding walk
-
-  walk-past : (options : ℕ) (p : Place) → PastOption (walk options p)
-  walk-past options (shown admits kind ps) =
-      choice PastOption (eqb kind null) (λ _. choice PastOption (allowNullFields options) (λ _. tt) (λ _. refl)) λ _.
-      choice PastOption (eqb kind unionKind && dataless ps && enumsWithoutDataAsStrings options) (λ _. tt) λ _.
-      choice PastOption (eqb kind unionKind && dataless ps && not (allowNullFields options)) (λ _. refl) λ _. walks-past options kind ps
-
-  walks-past : (options kind : ℕ) (ps : Places) → PastOption (walks options kind ps)
-  walks-past options kind none-below = tt
-  walks-past options kind (below s p ps) =
-      choice PastOption (eqb kind unionKind && leb slotLimit (variantOf s)) (λ _. refl) λ _.
-      past-first (walk options p) (walks options kind ps) (walk-past options p) (walks-past options kind ps)
-
-root-past : (end : ℕ) (f : Field) → Past (rootFields end f)
-root-past end (mk type nullable strategy number name fs) =
-    choice Past nullable (λ _. refl) λ _.
-    choice Past (eqb type null) (λ _. refl) λ _.
-    choice Past (eqb type struct) (λ _. tt) λ _. refl
-
-walked : {P : Type 0} (o : Option ℕ) → (o ≡ none → P) → ((n : ℕ) → o ≡ some n → P) → P
-walked none k l = k refl
-walked (some n) k l = l n refl
-
-schema-past : (options end : ℕ) (tree : Tree) → Past (toSchema options end tree)
-unfolding toSchema
-schema-past options end tree =
-    walked (walk options (placeOf false tree))
-    (λ e. rw (e, toSchema) (root-past end (fieldOf options rootName 0 (placeOf false tree))))
-    (λ n e. rw (e, toSchema) (rw e at (walk-past options (placeOf false tree))))
+-- ---- nor does emission, whose refusals are 12 to 17
+between-past : (end : ℕ) (r : Result Fields) → Between 12 17 end r → Past r
+between-past end (accepted schema) h = tt
+between-past end (refused n place) (low, high, at) = rw (ne-eqb n badCommand (omega arith), ne-eqb n badName (omega arith), ne-eqb n badKey (omega arith)) refl
 
 -- the whole of a call
 pub schemaOf-past : (b : Batch) → allWhole (values (b .options) (b .commands) (b .text)) ≡ true → Past (schemaOf b)
 unfolding schemaOf
 schemaOf-past b w =
     past-bind (trace (b .options) (values (b .options) (b .commands) (b .text))) _ (trace-past (b .options) (values (b .options) (b .commands) (b .text)) w) λ traced.
-    schema-past (b .options) (length (b .commands)) (traced .what)
+    between-past (length (b .commands)) (toSchema (b .options) (length (b .commands)) (traced .what)) (schema-between (b .options) (length (b .commands)) (traced .what))
 
 -- so the values of a batch that is accepted are proper
 pub accepted-proper : (options : ℕ) (commands text : List ℕ) (after : Counted Tree) → trace options (values options commands text) ≡ accepted after → allProper options (values options commands text) ≡ true
 accepted-proper options commands text after e = values-proper options commands text (trace-whole options (values options commands text) after e)
-
--- ---- and what cuts a reading is one of them
-abbrev ReadFits : Read → Type 0
-ReadFits (R.Command command behind) = Unit {0}
-ReadFits (R.Refused refusal place) = ofReading (numberOf refusal) ≡ true
-
-abbrev NextFits : Next → Type 0
-NextFits (ended behind) = Unit {0}
-NextFits (next s at) = Unit {0}
-NextFits (bad refusal place) = ofReading refusal ≡ true
-
-abbrev pub CutFits : Option (ℕ × ℕ) → Type 0
-CutFits none = Unit {0}
-CutFits (some c) = ofReading (c .0) ≡ true
-
-or-fits : (c d : Option (ℕ × ℕ)) → CutFits c → CutFits d → CutFits (orElse c d)
-or-fits none d p q = q
-or-fits (some c) d p q = p
-
-module _ (commands text : List ℕ) (at : ℕ) where
-  read-fits : (due : Due) → ReadFits (readCommand commands text at due)
-  unfolding readCommand
-  read-fits due =
-      choice ReadFits (C.badCommand commands at due) (λ _. refl) λ _.
-      choice ReadFits (C.badName text (C.nameIn (C.formOf (getD commands at 0)) commands (at + 1))) (λ _. refl) λ _.
-      choice ReadFits (C.badKey due (getD commands at 0)) (λ _. refl) λ _. tt
-
-  valueNext-fits : (s : Step) (due : Due) → NextFits (valueNext commands s at (readCommand commands text at due))
-  valueNext-fits s due =
-      read-cases (readCommand commands text at due)
-      (λ c b e. rw e (choice NextFits (eqb (getD commands at 0) endByte) (λ _. tt) (λ _. tt)))
-      (λ f p e. rw e (rw e at (read-fits due)))
-
-  fieldNext-fits : (due : Due) → NextFits (fieldNext commands text at (readCommand commands text at due))
-  fieldNext-fits due =
-      read-cases (readCommand commands text at due)
-      (λ c b e. rw e (choice NextFits (eqb (getD commands at 0) endByte) (λ _. tt) (λ _. tt)))
-      (λ f p e. rw e (rw e at (read-fits due)))
-
-  next-fits : (kind n i : ℕ) → NextFits (nextPart commands text kind n i at)
-  unfolding nextPart
-  next-fits kind n i =
-      choice NextFits (eqb kind sequenceKind) (λ _. valueNext-fits element D.ValueOrEnd) λ _.
-      choice NextFits (eqb kind structKind) (λ _. fieldNext-fits D.FieldOrEnd) λ _.
-      choice NextFits (eqb kind mapModeKind) (λ _. fieldNext-fits D.KeyOrEnd) λ _.
-      choice NextFits (eqb kind mapKind && eqb (i % 2) 0) (λ _. valueNext-fits key D.ValueOrEnd) λ _.
-      choice NextFits (eqb kind mapKind) (λ _. valueNext-fits value D.Value) λ _.
-      choice NextFits (ltb i n) (λ _. valueNext-fits (position i) D.Value) λ _. tt
-
-marked-fits : (mark : Bool) (v : Value) → CutFits (firstCut v) → CutFits (firstCut (marked mark v))
-unfolding firstCut
-marked-fits mark (val at null kind n ps) h = h
-marked-fits mark (cut n p) h = h
-
-rest-fits : (o : Option ℕ) (more : ℕ → Got Parts) → ((b : ℕ) → CutFits (cutIn (more b .0))) → CutFits (cutIn (rest o more .0))
-unfolding firstCut
-rest-fits none more h = tt
-rest-fits (some b) more h = h b
-
-module _ (options : ℕ) (commands text : List ℕ) where
-  mutual
-    unfolding readValue firstCut
-
-    value-cut : (f at : ℕ) → CutFits (firstCut (readValue f options commands text at .0))
-    value-cut zero at = refl
-    value-cut (suc f) at =
-        read-cases (readCommand commands text at D.Value)
-        (λ c b e. rw (value-command options commands text f at c b e) (shape-cut f at b (shapeOf options text c)))
-        (λ n p e. rw (value-refused options commands text f at n p e) (rw e at (read-fits commands text at D.Value)))
-
-    shape-cut : (f at b : ℕ) (shape : Shape) → CutFits (firstCut (readShape f options commands text at b shape .0))
-    shape-cut zero at b shape = refl
-    shape-cut (suc f) at b (leaf null type) = tt
-    shape-cut (suc f) at b (follows mark) = marked-fits mark (readValue f options commands text b .0) (value-cut f b)
-    shape-cut (suc f) at b (parts kind n) = parts-cut f kind n 0 b
-    shape-cut (suc f) at b (chosen number name contents) = or-fits (firstCut (readShape f options commands text at b contents .0)) none (shape-cut f at b contents) tt
-    shape-cut (suc f) at b no-value = refl
-
-    parts-cut : (f kind n i at : ℕ) → CutFits (cutIn (readParts f options commands text kind n i at .0))
-    parts-cut zero kind n i at = refl
-    parts-cut (suc f) kind n i at =
-        next-cases (nextPart commands text kind n i at)
-        (λ b e. rw (parts-ended options commands text f kind n i at b e) tt)
-        (λ s a e.
-        rw (parts-next options commands text f kind n i at s a e)
-        (or-fits (firstCut (readValue f options commands text a .0)) _ (value-cut f a) (rest-fits (readValue f options commands text a .1) (λ behind. readParts f options commands text kind n (i + 1) behind) (λ b. parts-cut f kind n (i + 1) b))))
-        (λ m p e. rw (parts-bad options commands text f kind n i at m p e) (rw e at (next-fits commands text at kind n i)))
-
-  records-cut-fits : (f at : ℕ) → CutFits (cutAmong (recordsFrom f options commands text at))
-  unfolding recordsFrom cutAmong
-  records-cut-fits zero at = tt
-  records-cut-fits (suc f) at =
-      record-cases options commands text at
-      (λ h. rw (records-end options commands text (suc f) at h) tt)
-      (λ h e. rw (records-cut options commands text f at h e) (or-fits (firstCut (record-at options commands text at .0)) none (value-cut (enough commands) at) tt))
-      (λ b h e. rw (records-more options commands text f at b h e) (or-fits (firstCut (record-at options commands text at .0)) _ (value-cut (enough commands) at) (records-cut-fits f b)))
-
-  pub values-cut : CutFits (cutAmong (values options commands text))
-  unfolding values
-  values-cut = records-cut-fits (length commands) 0

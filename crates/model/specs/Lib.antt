@@ -2,6 +2,7 @@ pub mod Result
 pub mod Kinds
 pub mod Reading
 pub mod Tracing
+pub mod Unbounded
 pub mod Emission
 pub mod Answer
 pub mod Census

@@ -1,0 +1,155 @@
+-- What the user demands of the call `fasthrom_trace`, in three theorems: demand-1, demand-2 and demand-3. Each is said of any call that its
+-- contract allows, so of every call that is made; that a call ends at all is part of what is proved of a function.
+--
+-- The words are those of the model: Batch, Buffers, Answer, schemaOf, withSchema, turnedDown (Answer), from commands to values (Reading), places
+-- (Tracing, Unbounded), field records (Emission), the census (Census), equal schemas and records in another order (Demand3).
+use mathlib.Core.Path.{_≡_, refl, _∙_}
+use mathlib.Core.Bool.{false}
+use mathlib.Core.List.{List, List·Permᴰ}
+use mathlib.Core.Logic.{_⊎_, inl, inr, _↔_}
+use Prim.Native.Nat.{ℕ, _<_, _≤_, zero-le}
+use native.Mathlib.Omega.{arith}
+use lib.ListN.{length}
+use Rattle.logic.specs.All.{All}
+use Rattle.refusal.specs.Number.{tooManyPlaces}
+use Rattle.words.specs.Word.{cleared}
+use Rattle.model.specs.Result.{Result, accepted, _>>=_}
+use Rattle.model.specs.Tracing.{Tree, fresh, placeLimit}
+use Rattle.model.specs.Unbounded.{seeAll, size}
+use Rattle.model.specs.Emission.{Fields, toSchema}
+use Rattle.model.specs.Answer.{Batch, Buffers, Answer, WellFormed, tableWords, schemaOf, isShort, withSchema, answerOf, answer}
+use Rattle.model.specs.Census.{SameCensus}
+use Rattle.model.specs.Demand3.{Plain, Accepted, SameSchema, StructRecords, NoPlaceBoth, IsRecord, NoShorter, SameButOrder, batchOf, recordsOf}
+use Rattle.fasthrom.specs.declared.Answer as R
+use Rattle.fasthrom.specs.Call.{said, Called}
+use Rattle.equality.specs.Answers.{Ending, barred, turned, whole, answer-ends}
+use Rattle.fasthrom.specs.Bounded.{read-through, as-unbounded, too-many, past-reading}
+use Rattle.fasthrom.specs.Pairs.{Took, alike, again}
+
+-- One call: what was handed in and lent, the numbers answered and what was left in the buffers, tied by the function's contract.
+pub record Call : Type 0 where
+  pub batch : Batch
+  pub lent : Buffers
+  pub numbers : R.Answer
+  pub left : Buffers
+  pub contract : Called batch lent numbers left
+
+-- the five numbers of its answer, and what it left
+abbrev pub gave : Call → Answer
+gave call = said (call .numbers) (call .left)
+
+is : (call : Call) → gave call ≡ answer (call .batch) (call .lent)
+unfolding Called
+is call = call .contract
+
+-- ---- Demand 1
+-- "Whatever commands, texts, options word and buffers are handed in, the call ends with the whole schema or with one of eighteen refusals and a
+-- place. A refusal changes neither output buffer; from refusal 4 on, and on success, the work table's first 16,384 words end as zeros. Callers
+-- need test nothing first."
+
+-- the whole schema, in buffers that it fits; what stands past it is untouched, and the table is zeroed
+pub record Whole (b : Batch) (lent : Buffers) (a : Answer) : Type 0 where
+  pub schema : Fields
+  pub traced : schemaOf b ≡ accepted schema
+  pub fits : isShort schema lent ≡ false
+  pub given : a ≡ withSchema schema lent
+
+-- one of eighteen refusals and a place
+pub record TurnedDown (b : Batch) (lent : Buffers) (a : Answer) : Type 0 where
+  pub least : 1 ≤ a .refusal
+  pub most : a .refusal ≤ 18
+  pub place : a .place ≤ length (b .commands)
+  pub field-records : a .field-records ≡ 0
+  pub name-bytes : a .name-bytes ≡ 0
+  pub columns : a .columns ≡ 0
+  -- a refusal changes neither output buffer
+  pub fields : a .left .fields ≡ lent .fields
+  pub names : a .left .names ≡ lent .names
+  -- 1 to 3 leave the work table alone
+  pub early : a .refusal ≤ 3 → (a .place ≡ 0) × (a .left .table ≡ lent .table)
+  -- from refusal 4 on its first 16,384 words end as zeros
+  pub late : 4 ≤ a .refusal → a .left .table ≡ cleared (lent .table) tableWords
+
+abbrev pub Demand1 : Batch → Buffers → Answer → Type 0
+Demand1 b lent a = Whole b lent a ⊎ TurnedDown b lent a
+
+ends : (b : Batch) (lent : Buffers) (a : Answer) → Ending b lent a → Demand1 b lent a
+ends b lent a (whole schema traced fits) = inl (record { schema = schema; traced = traced; fits = fits; given = refl })
+ends b lent a (barred n low high) =
+    inr (record {
+      least = low; most = omega arith; place = zero-le; field-records = refl; name-bytes = refl; columns = refl; fields = refl; names = refl;
+      early = λ h. (refl, refl);
+      late = λ h. absurd (omega arith);
+    })
+ends b lent a (turned n place low high inside short) =
+    inr (record {
+      least = omega arith; most = high; place = inside; field-records = refl; name-bytes = refl; columns = refl; fields = refl; names = refl;
+      early = λ h. absurd (omega arith);
+      late = λ h. refl;
+    })
+
+pub demand-1 : (call : Call) → Demand1 (call .batch) (call .lent) (gave call)
+demand-1 call = rw (is call) (ends (call .batch) (call .lent) (answer (call .batch) (call .lent)) (answer-ends (call .batch) (call .lent)))
+
+-- ---- Demand 2
+-- "Answer, field records and name bytes: on every well-formed batch of at most 1,024 places whose schema fits, given a full-length work table,
+-- they equal what Tracer::from_samples and then Tracer::to_schema give, refusal causes included, proved against definitions from Arrow's
+-- Schema.fbs, the Serde data model and document 01."
+
+-- Tracer::from_samples, which has no bound on places
+abbrev pub fromSamples : Batch → Result Tree
+fromSamples b = seeAll (b .options) 0 (recordsOf b) fresh
+
+-- and then Tracer::to_schema
+abbrev pub rust : Batch → Result Fields
+rust b = fromSamples b >>= toSchema (b .options) (length (b .commands))
+
+pub record Demand2 (b : Batch) (lent : Buffers) (a : Answer) : Type 0 where
+  -- unless a 1,025th place is needed, the answer is what the Rust gives: its refusal and place, or its schema, which fits or gets 18
+  pub equal : (a .refusal ≡ tooManyPlaces → ⊥) → a ≡ answerOf b lent (rust b)
+  -- and what has at most 1,024 places is not refused for them
+  pub places : a .refusal ≡ tooManyPlaces → (tree : Tree) → fromSamples b ≡ accepted tree → placeLimit < size tree
+  -- a well-formed batch is turned down for none of 1 to 6
+  pub read : (a .refusal ≡ 0) ⊎ (7 ≤ a .refusal)
+
+equals : (b : Batch) (lent : Buffers) → WellFormed b → tableWords ≤ length (lent .table) → Demand2 b lent (answerOf b lent (schemaOf b))
+equals b lent w t = record { equal = as-unbounded b lent; places = too-many b lent; read = past-reading b lent w }
+
+pub demand-2 : (call : Call) → WellFormed (call .batch) → tableWords ≤ length (call .lent .table) → Demand2 (call .batch) (call .lent) (gave call)
+demand-2 call w t = rw (is call ∙ read-through (call .batch) (call .lent) w t) (equals (call .batch) (call .lent) w t)
+
+-- ---- Demand 3
+-- "For every options word with allow_to_string and enums_without_data_as_strings off, and every two batches of struct records accepted under
+-- it, in whatever order their records come and whichever fields they leave out, the two schemas are equal exactly when the two censuses are,
+-- provided neither batch shows one place both as struct and as map. Schemas are equal when they have equally many field records and name
+-- bytes, and the same bytes in them, whatever the buffers held before. Put such a batch's records in any other order, the buffers no shorter,
+-- and it is accepted again, with nothing changed in its schema but the order of struct fields. The census is counted from the records without
+-- merging anything."
+
+-- a call with struct records, accepted under that options word
+pub record Taken (options : ℕ) (call : Call) : Type 0 where
+  pub under : call .batch .options ≡ options
+  pub taken : Accepted (gave call)
+  pub structs : StructRecords (call .batch)
+  pub not-both : NoPlaceBoth (call .batch)
+
+took : {options : ℕ} {call : Call} → Taken options call → Took (call .batch) (gave call)
+took a = (a .taken, a .structs, a .not-both)
+
+pub record Demand3 : Type 0 where
+  -- schemas are equal exactly when censuses are
+  pub equal : (options : ℕ) → Plain options → (call other : Call) → Taken options call → Taken options other
+      → SameSchema (gave call) (gave other) ↔ SameCensus options (recordsOf (call .batch)) (recordsOf (other .batch))
+  -- the records in another order are accepted again, and only the order of struct fields changes
+  pub reordered : (options : ℕ) → Plain options → (text : List ℕ) (records others : List (List ℕ)) → All (IsRecord options text) records → List·Permᴰ records others
+      → (call other : Call) → call .batch ≡ batchOf options text records → other .batch ≡ batchOf options text others → Taken options call → NoShorter (call .lent) (other .lent)
+      → Accepted (gave other) × SameButOrder (gave call) (gave other)
+
+pub demand-3 : Demand3
+demand-3 =
+    record {
+      equal = λ options plain call other a b.
+          alike options plain (call .batch) (other .batch) (call .lent) (other .lent) (gave call) (gave other) (is call) (is other) (a .under) (b .under) (took a) (took b);
+      reordered = λ options plain text records others are perm call other e f a long.
+          again options plain (call .batch) (other .batch) (call .lent) (other .lent) (gave call) (gave other) (is call) (is other) text records others are perm e f (took a) long;
+    }

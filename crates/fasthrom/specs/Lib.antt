@@ -1,0 +1,5 @@
+pub mod Call
+pub mod Laws
+pub mod Bounded
+pub mod Pairs
+pub mod Demands
