@@ -3,7 +3,7 @@ use Prim.{Unit}
 use mathlib.Core.Path.{_≡_}
 use mathlib.Core.Bool.{Bool, true, false, _&&_}
 use mathlib.Core.List.{List}
-use Prim.Native.Nat.{ℕ, _<_, _^_}
+use Prim.Native.Nat.{ℕ, _+_, _<_, _≤_, _^_}
 use lib.Dec.{eqb, ltb}
 use Rattle.logic.specs.Test.{if_then_else_}
 use Rattle.text.specs.Name.{ltName}
@@ -33,18 +33,23 @@ unfoldable pub orderS : Bool → ℕ → Spots → Spots
 orderS sorted kind ks = if eqb kind unionKind then byNumberS ks else if sorted && eqb kind mapModeKind then byNameS ks else ks
 
 -- ---- `nextChild` gives them one after another, and then 0
-abbrev pub Enumerates : List ℕ → List ℕ → Bool → ℕ → ℕ → ℕ → Spots → Type 0
-Enumerates text t sorted kind place last no-spots = nextChild text t sorted kind place last ≡ 0
-Enumerates text t sorted kind place last (child s h m u ks) = (nextChild text t sorted kind place last ≡ num u) × Enumerates text t sorted kind place (num u) ks
+abbrev pub Enumerates : List ℕ → Bool → ℕ → ℕ → ℕ → Spots → Type 0
+Enumerates t sorted kind place last no-spots = nextChild t sorted kind place last ≡ 0
+Enumerates t sorted kind place last (child s h m u ks) = (nextChild t sorted kind place last ≡ num u) × Enumerates t sorted kind place (num u) ks
 
--- at every place, in both orders
+-- numbers rise, from a slot on
+abbrev pub Rising : ℕ → Spots → Type 0
+Rising slot no-spots = Unit {0}
+Rising slot (child s h m u ks) = (slot ≤ variantOf s) × Rising (variantOf s + 1) ks
+
+-- at every place, in both orders; a union's numbers rise
 abbrev mutual
-  pub Orders : List ℕ → List ℕ → Spot → Type 0
-  Orders text t (spot p b k m ks) = Enumerates text t false k p 0 (orderS false k ks) × Enumerates text t true k p 0 (orderS true k ks) × OrdersIn text t ks
+  pub Orders : List ℕ → Spot → Type 0
+  Orders t (spot p b k m ks) = Enumerates t false k p 0 (orderS false k ks) × Enumerates t true k p 0 (orderS true k ks) × OrdersIn t ks × (eqb k unionKind ≡ true → Rising 0 (orderS false k ks))
 
-  pub OrdersIn : List ℕ → List ℕ → Spots → Type 0
-  OrdersIn text t no-spots = Unit {0}
-  OrdersIn text t (child s h m u ks) = Orders text t u × OrdersIn text t ks
+  pub OrdersIn : List ℕ → Spots → Type 0
+  OrdersIn t no-spots = Unit {0}
+  OrdersIn t (child s h m u ks) = Orders t u × OrdersIn t ks
 
 -- ---- steps as the kind makes them: a union has variants, a struct fields; numbers are of 16 bits
 abbrev pub stepFits : ℕ → Step → Bool

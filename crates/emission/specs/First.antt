@@ -27,7 +27,8 @@ use Rattle.refine.specs.Rep.{Rep, RepIn}
 use Rattle.refine.specs.Erase.{erase, eraseIn}
 use Rattle.walk.specs.declared.Walked.{Walked}
 use Rattle.walk.specs.declared.Walked.the-variants as W
-use Rattle.walk.specs.Order.{variantAt, nextChild, nearest, onward, datalessAt}
+use Rattle.order.specs.Flat.{variantAt}
+use Rattle.walk.specs.Order.{isOrdered, nextOrdered, nextChild, onward, datalessAt}
 use Rattle.walk.specs.Order as Order
 use Rattle.walk.specs.Walk.{childrenBelow, walkedBy, walked}
 use Rattle.emission.specs.Arranged.{orderS, Enumerates, Orders, OrdersIn, FitS, FitIn}
@@ -67,42 +68,42 @@ kind-dataless : (missing : Bool) (u : Spot) → isDataless (placeOf missing (era
 unfolding placeOf
 kind-dataless missing (spot p b k m ks) = refl
 
-next-nearest : (text t : List ℕ) (k p last : ℕ) → eqb k unionKind ≡ true → nextChild text t false k p last ≡ nearest text t false p last
-unfolding nextChild if_then_else_
-next-nearest text t k p last e = rw e
+next-ordered : (t : List ℕ) (k p last : ℕ) → eqb k unionKind ≡ true → nextChild t false k p last ≡ nextOrdered t p last
+unfolding isOrdered nextChild if_then_else_
+next-ordered t k p last e = rw e
 
 onward-next : (slot : ℕ) → slot < 1025 → onward slot ≡ slot + 1
 onward-next slot l = omega arith
 
 module _ (options : ℕ) (text t : List ℕ) (inner : ℕ → Walked) (k p m : ℕ) where
-  dataless-end : (left slot : ℕ) → Order.datalessFrom text t p left slot 0 ≡ true
+  dataless-end : (left slot : ℕ) → Order.datalessFrom t p left slot 0 ≡ true
   unfolding Order.datalessFrom
   dataless-end zero slot = refl
   dataless-end (suc left) slot = refl
 
-  dataless-not : (left slot q : ℕ) → eqb q 0 ≡ false → (eqb (variantAt t q) slot && eqb (word t q kindWord) null) ≡ false → Order.datalessFrom text t p (suc left) slot q ≡ false
+  dataless-not : (left slot q : ℕ) → eqb q 0 ≡ false → (eqb (variantAt t q) slot && eqb (word t q kindWord) null) ≡ false → Order.datalessFrom t p (suc left) slot q ≡ false
   unfolding Order.datalessFrom
   dataless-not left slot q e d = rw (e, d, Order.datalessFrom)
 
   dataless-step : (left slot q : ℕ) → eqb q 0 ≡ false → (eqb (variantAt t q) slot && eqb (word t q kindWord) null) ≡ true
-      → Order.datalessFrom text t p (suc left) slot q ≡ Order.datalessFrom text t p left (onward slot) (nearest text t false p q)
+      → Order.datalessFrom t p (suc left) slot q ≡ Order.datalessFrom t p left (onward slot) (nextOrdered t p q)
   unfolding Order.datalessFrom
   dataless-step left slot q e d = rw (e, d, Order.datalessFrom)
 
-  dataless-is : (qs : Spots) (left slot last : ℕ) → eqb k unionKind ≡ true → AllS (λ s h x u. Child options text t inner s u) qs → manyS qs ≤ left → slot + manyS qs ≤ 1024 → Enumerates text t false k p last qs
-      → Order.datalessFrom text t p left slot (nearest text t false p last) ≡ Model.datalessFrom slot (placesOf k m (eraseIn qs))
+  dataless-is : (qs : Spots) (left slot last : ℕ) → eqb k unionKind ≡ true → AllS (λ s h x u. Child options text t inner s u) qs → manyS qs ≤ left → slot + manyS qs ≤ 1024 → Enumerates t false k p last qs
+      → Order.datalessFrom t p left slot (nextOrdered t p last) ≡ Model.datalessFrom slot (placesOf k m (eraseIn qs))
   unfolding Model.datalessFrom placeOf
   dataless-is no-spots left slot last d a l i e =
-      let z : nearest text t false p last ≡ 0 = sym (next-nearest text t k p last d) ∙ e in
-      ap (Order.datalessFrom text t p left slot) z ∙ dataless-end left slot
+      let z : nextOrdered t p last ≡ 0 = sym (next-ordered t k p last d) ∙ e in
+      ap (Order.datalessFrom t p left slot) z ∙ dataless-end left slot
   dataless-is (child s h x u qs) zero slot last d a l i e = absurd (omega arith)
   dataless-is (child s h x u qs) (suc left) slot last d a l i e =
-      let z : nearest text t false p last ≡ num u = sym (next-nearest text t k p last d) ∙ e .0 in
+      let z : nextOrdered t p last ≡ num u = sym (next-ordered t k p last d) ∙ e .0 in
       let o : eqb (num u) 0 ≡ false = ne-eqb (num u) 0 (λ y. omega (arith, a .0 .some-number)) in
       let y : (eqb (variantAt t (num u)) slot && eqb (word t (num u) kindWord) null) ≡ (eqb (variantOf s) slot && isDataless (placeOf (isMissing k m h) (erase u))) = rw (a .0 .variant-is, a .0 .kind-is, kind-dataless (isMissing k m h) u) in
-      ap (Order.datalessFrom text t p (suc left) slot) z
+      ap (Order.datalessFrom t p (suc left) slot) z
       ∙ cases (eqb (variantOf s) slot && isDataless (placeOf (isMissing k m h) (erase u)))
-      (λ c. dataless-step left slot (num u) o (y ∙ c) ∙ ap (λ (n : ℕ). Order.datalessFrom text t p left n (nearest text t false p (num u))) (onward-next slot (omega arith))
+      (λ c. dataless-step left slot (num u) o (y ∙ c) ∙ ap (λ (n : ℕ). Order.datalessFrom t p left n (nextOrdered t p (num u))) (onward-next slot (omega arith))
       ∙ dataless-is qs left (slot + 1) (num u) d (a .1) (omega arith) (omega arith) (e .1) ∙ rw c)
       (λ c. dataless-not left slot (num u) o (y ∙ c) ∙ rw c)
 
@@ -142,7 +143,7 @@ unfolding countOf namesOf columnsOf
 nothing-below size e = told {r′ = 0} {n′ = 0} {c′ = 0} e (omega arith) (omega arith) (omega arith) (omega arith) (omega arith)
 
 module _ (options : ℕ) (text t : List ℕ) (inner : ℕ → Walked) (k p m : ℕ) (qs : Spots) (all : AllS (λ s h x u. Child options text t inner s u) qs) (few : sizeIn qs ≤ 1024)
-    (next : Enumerates text t false k p 0 qs) (some-below : eqb k mapKind ≡ true → 1 ≤ sizeIn qs) where
+    (next : Enumerates t false k p 0 qs) (some-below : eqb k mapKind ≡ true → 1 ≤ sizeIn qs) where
   below-says : Says (walks options k (placesOf k m (eraseIn qs))) 0 0 0 (arranged k (fieldsOf options k 0 (placesOf k m (eraseIn qs)))) 129 69993 (suc (sizeIn qs)) (childrenBelow text t inner k p)
   unfolding arranged if_then_else_
   below-says =
@@ -166,7 +167,7 @@ module _ (options : ℕ) (text t : List ℕ) (inner : ℕ → Walked) (k p m : �
       let l : manyS qs ≤ 1024 = omega (arith, many-few qs) in
       cases (eqb k unionKind)
       (λ e.
-      let d : datalessAt text t p ≡ dataless (placesOf k m (eraseIn qs)) = dataless-is options text t inner k p m qs 1024 0 0 e all l (omega arith) next in
+      let d : datalessAt t p ≡ dataless (placesOf k m (eraseIn qs)) = dataless-is options text t inner k p m qs 1024 0 0 e all l (omega arith) next in
       rw (w, z, c, e, d) (cases (dataless (placesOf k m (eraseIn qs)))
       (λ x. rw x (cases (enumsWithoutDataAsStrings options)
       (λ y. rw y (nothing-below (sizeIn qs) refl))
@@ -196,7 +197,7 @@ place-is missing p b k m ks = ap (shown (missing || b) k) (order-places k m ks)
 
 -- one place, when its children are known
 at-place : (options : ℕ) (text t : List ℕ) (n p : ℕ) (b : Bool) (k m : ℕ) (ks : Spots) (missing : Bool) (name : List ℕ) (number levels : ℕ) → n ≤ placeLimit → Good n (spot p b k m ks) → word t p kindWord ≡ k
-    → Orders text t (spot p b k m ks) → Sane (spot p b k m ks) → AllS (λ s h x u. Child options text t (walked options text t levels) s u) ks
+    → Orders t (spot p b k m ks) → Sane (spot p b k m ks) → AllS (λ s h x u. Child options text t (walked options text t levels) s u) ks
     → Says (walk options (placeOf missing (erase (spot p b k m ks)))) 0 0 0 (fieldsOfField (fieldOf options name number (placeOf missing (erase (spot p b k m ks))))) 129 69993 (suc (sizeIn ks))
     (walked options text t (suc levels) p)
 unfolding walked
@@ -218,14 +219,14 @@ own-kind : (text t : List ℕ) (u : Spot) → Rep text t u → word t (num u) ki
 own-kind text t (spot p b k m ks) r = r .0 0 (omega arith)
 
 mutual
-  place-says : (options : ℕ) (text t : List ℕ) (n : ℕ) (u : Spot) (missing : Bool) (name : List ℕ) (number levels : ℕ) → n ≤ placeLimit → Good n u → Rep text t u → FitS u → Orders text t u → Sane u → n ≤ num u + levels
+  place-says : (options : ℕ) (text t : List ℕ) (n : ℕ) (u : Spot) (missing : Bool) (name : List ℕ) (number levels : ℕ) → n ≤ placeLimit → Good n u → Rep text t u → FitS u → Orders t u → Sane u → n ≤ num u + levels
       → Says (walk options (placeOf missing (erase u))) 0 0 0 (fieldsOfField (fieldOf options name number (placeOf missing (erase u)))) 129 69993 (sizeS u) (walked options text t levels (num u))
   place-says options text t n (spot p b k m ks) missing name number levels l g r f e s i =
       let z : levels ≡ suc (levels - 1) = omega (arith, g .0) in
       rw z (at-place options text t n p b k m ks missing name number (levels - 1) l g (r .0 0 (omega arith)) e s
       (children-say options text t n p p ks k (levels - 1) l (g .2) (r .1) (f .1) (e .2) (s .2) (omega (arith, g .0))))
 
-  children-say : (options : ℕ) (text t : List ℕ) (n p c : ℕ) (ks : Spots) (k levels : ℕ) → n ≤ placeLimit → GoodIn n c ks → RepIn text t p ks → FitIn k ks → OrdersIn text t ks → SaneIn ks → n ≤ c + 1 + levels
+  children-say : (options : ℕ) (text t : List ℕ) (n p c : ℕ) (ks : Spots) (k levels : ℕ) → n ≤ placeLimit → GoodIn n c ks → RepIn text t p ks → FitIn k ks → OrdersIn t ks → SaneIn ks → n ≤ c + 1 + levels
       → AllS (λ s h x u. Child options text t (walked options text t levels) s u) ks
   children-say options text t n p c no-spots k levels l g r f e s i = tt
   children-say options text t n p c (child s′ h m u ks) k levels l g r f e s i = (
@@ -246,7 +247,7 @@ walk-says o fs size (turned e) = e
 walk-says o fs size (told e er en ec br bn) = (e, er ∙ zero-add (countIn fs), en ∙ zero-add (length (namesIn fs)), ec ∙ zero-add (columnsIn fs))
 
 -- The first walk gives the model's refusal, or the model's counts.
-pub first-walk : (options : ℕ) (text t : List ℕ) (n : ℕ) (u : Spot) (missing : Bool) (name : List ℕ) (number levels : ℕ) → n ≤ placeLimit → Good n u → Rep text t u → FitS u → Orders text t u → Sane u → n ≤ num u + levels
+pub first-walk : (options : ℕ) (text t : List ℕ) (n : ℕ) (u : Spot) (missing : Bool) (name : List ℕ) (number levels : ℕ) → n ≤ placeLimit → Good n u → Rep text t u → FitS u → Orders t u → Sane u → n ≤ num u + levels
     → WalkSays (walked options text t levels (num u)) (walk options (placeOf missing (erase u))) (fieldsOfField (fieldOf options name number (placeOf missing (erase u))))
 first-walk options text t n u missing name number levels l g r f e s i =
     walk-says (walk options (placeOf missing (erase u))) (fieldsOfField (fieldOf options name number (placeOf missing (erase u)))) (sizeS u) (place-says options text t n u missing name number levels l g r f e s i)
@@ -256,7 +257,7 @@ says-few : (o : Option ℕ) (fs : Fields) (size : ℕ) {w : Walked} → size ≤
 says-few o fs size l e (turned d) = let z : _≡_ {A = ℕ} 0 1 = cc in absurd (omega arith)
 says-few o fs size l e (told d er en ec br bn) = (omega arith, omega arith, omega (arith, columns-few fs))
 
-pub first-few : (options : ℕ) (text t : List ℕ) (n : ℕ) (u : Spot) (missing : Bool) (name : List ℕ) (number : ℕ) → n ≤ placeLimit → Good n u → Rep text t u → FitS u → Orders text t u → Sane u
+pub first-few : (options : ℕ) (text t : List ℕ) (n : ℕ) (u : Spot) (missing : Bool) (name : List ℕ) (number : ℕ) → n ≤ placeLimit → Good n u → Rep text t u → FitS u → Orders t u → Sane u
     → walk options (placeOf missing (erase u)) ≡ none
     → (countIn (fieldsOfField (fieldOf options name number (placeOf missing (erase u)))) < 2 ^ 18)
     × (length (namesIn (fieldsOfField (fieldOf options name number (placeOf missing (erase u))))) < 2 ^ 27)

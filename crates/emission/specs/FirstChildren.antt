@@ -23,7 +23,8 @@ use Rattle.refine.specs.Spots.{Spot, Spots, no-spots, child, num, kindS}
 use Rattle.refine.specs.Erase.{erase, eraseIn}
 use Rattle.walk.specs.declared.Walked.{Walked}
 use Rattle.walk.specs.declared.Walked.the-variants as W
-use Rattle.walk.specs.Order.{variantAt, childName, nextChild, onward}
+use Rattle.order.specs.Flat.{variantAt}
+use Rattle.walk.specs.Order.{childName, nextChild, onward}
 use Rattle.walk.specs.Walk.{sumOf, gapsAt, slotBehind, isBeyond, recordsWith, namesWith, columnsWith, withChild, childrenFrom}
 use Rattle.walk.specs.Walk as Flat
 use Rattle.emission.specs.Arranged.{Enumerates}
@@ -131,7 +132,7 @@ module _ (options : ℕ) (text t : List ℕ) (inner : ℕ → Walked) (k p m : �
 
   within-step : (left r n c slot q : ℕ) → eqb q 0 ≡ false → isBeyond k t q ≡ false
       → childrenFrom text t inner k p (suc left) r n c slot q
-      ≡ withChild (λ r n c. childrenFrom text t inner k p left r n c (slotBehind t q) (nextChild text t false k p q)) text t k r n c slot q (inner q)
+      ≡ withChild (λ r n c. childrenFrom text t inner k p left r n c (slotBehind t q) (nextChild t false k p q)) text t k r n c slot q (inner q)
   unfolding childrenFrom
   within-step left r n c slot q e d = rw (e, d, childrenFrom)
 
@@ -145,13 +146,13 @@ module _ (options : ℕ) (text t : List ℕ) (inner : ℕ → Walked) (k p m : �
       → r + 130 * (sizeS u + sizeIn qs) < 2 ^ 32 → n + 70000 * (sizeS u + sizeIn qs) < 2 ^ 32 → c ≤ r
       → ((r₁ n₁ c₁ : ℕ) → r₁ + 130 * sizeIn qs < 2 ^ 32 → n₁ + 70000 * sizeIn qs < 2 ^ 32 → c₁ ≤ r₁
       → Says (walks options k (placesOf k m (eraseIn qs))) r₁ n₁ c₁ (fieldsOf options k (variantOf s + 1) (placesOf k m (eraseIn qs))) 0 0 (sizeIn qs)
-      (childrenFrom text t inner k p left r₁ n₁ c₁ (variantOf s + 1) (nextChild text t false k p (num u))))
+      (childrenFrom text t inner k p left r₁ n₁ c₁ (variantOf s + 1) (nextChild t false k p (num u))))
       → {w : Walked}
       → Says (walk options (placeOf (isMissing k m h) (erase u))) 0 0 0 (fieldsOfField (fieldOf options (nameOf s) (variantOf s) (placeOf (isMissing k m h) (erase u)))) 129 69993 (sizeS u) w
       → Says (firstOf (walk options (placeOf (isMissing k m h) (erase u))) (walks options k (placesOf k m (eraseIn qs)))) r n c
       (gaps slot (if eqb k unionKind then variantOf s - slot else 0) (more (fieldOf options (nameOf s) (variantOf s) (placeOf (isMissing k m h) (erase u))) (fieldsOf options k (variantOf s + 1) (placesOf k m (eraseIn qs)))))
       0 0 (sizeS u + sizeIn qs)
-      (withChild (λ r n c. childrenFrom text t inner k p left r n c (slotBehind t (num u)) (nextChild text t false k p (num u))) text t k r n c slot (num u) w)
+      (withChild (λ r n c. childrenFrom text t inner k p left r n c (slotBehind t (num u)) (nextChild t false k p (num u))) text t k r n c slot (num u) w)
   child-says s h u qs left r n c slot d b l₁ l₂ l₃ ih (turned {x = x} e) = turned {x = x} (rw e refl)
   child-says s h u qs left r n c slot d b l₁ l₂ l₃ ih (told {r′ = r′} {n′ = n′} {c′ = c′} e er en ec br bn) =
       let f : Field = fieldOf options (nameOf s) (variantOf s) (placeOf (isMissing k m h) (erase u)) in
@@ -181,9 +182,9 @@ module _ (options : ℕ) (text t : List ℕ) (inner : ℕ → Walked) (k p m : �
 
   -- the children one after another
   pub kids-say : (qs : Spots) (left r n c slot last : ℕ) → AllS (λ s h x u. Child options text t inner s u) qs → manyS qs ≤ left
-      → r + 130 * sizeIn qs < 2 ^ 32 → n + 70000 * sizeIn qs < 2 ^ 32 → c ≤ r → Enumerates text t false k p last qs
+      → r + 130 * sizeIn qs < 2 ^ 32 → n + 70000 * sizeIn qs < 2 ^ 32 → c ≤ r → Enumerates t false k p last qs
       → Says (walks options k (placesOf k m (eraseIn qs))) r n c (fieldsOf options k slot (placesOf k m (eraseIn qs))) 0 0 (sizeIn qs)
-      (childrenFrom text t inner k p left r n c slot (nextChild text t false k p last))
+      (childrenFrom text t inner k p left r n c slot (nextChild t false k p last))
   unfolding walk fieldOf placeOf if_then_else_ countOf columnsOf namesOf
   kids-say no-spots left r n c slot last a l l₁ l₂ l₃ e = rw (e, ends left r n c slot) (told {r′ = r} {n′ = n} {c′ = c} refl (omega arith) (omega arith) (omega arith) (omega arith) (omega arith))
   kids-say (child s h x u qs) zero r n c slot last a l l₁ l₂ l₃ e = absurd (omega arith)

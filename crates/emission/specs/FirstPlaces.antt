@@ -20,7 +20,8 @@ use Rattle.refine.specs.Steps.{stepCodeOf}
 use Rattle.refine.specs.Numbers.{within, withinIn, Good, GoodIn, or-right}
 use Rattle.refine.specs.Rep.{Cell}
 use Rattle.refine.specs.Erase.{erase, eraseIn}
-use Rattle.walk.specs.Order.{variantAt, childName, variantCode}
+use Rattle.order.specs.Flat.{variantCode, variantAt}
+use Rattle.walk.specs.Order.{childName}
 use Rattle.emission.specs.Arranged.{insertNumberS, byNumberS, stepFits}
 
 -- ---- how many places a tree has, and how many children a place

@@ -1,8 +1,10 @@
+pub mod Chain
 pub mod Arranged
-pub mod Order
 pub mod Fit
+pub mod Cover
 pub mod FirstSums
 pub mod FirstPlaces
+pub mod Order
 pub mod FirstChildren
 pub mod First
 pub mod SecondWords

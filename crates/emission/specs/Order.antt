@@ -1,13 +1,14 @@
--- At every place of a tree that the words of the table say, the search for the next child gives the children in the order of a walk.
+-- After the sort the links of order give the children of every place in the order of a walk.
 use Prim.{Unit, tt}
 use mathlib.Core.Path.{_≡_, refl, sym, _∙_}
 use mathlib.Core.Bool.{Bool, true, false, not, _&&_, _||_, false≢true, true≢false}
-use mathlib.Core.List.{List}
-use Prim.Native.Nat.{_-_, ℕ, zero, suc, _+_, _*_, _/_, _%_, _≤_}
+use mathlib.Core.List.{List, [], _∷_}
+use Prim.Native.Nat.{ℕ, zero, suc, _+_, _*_, _<_, _≤_}
 use native.Mathlib.Omega.{arith}
 use lib.Dec.{eqb, ltb}
+use lib.ListN.{length}
 use borrow.Author.Tests.{eqb-true, eqb-false, eq-eqb, ne-eqb, ltb-true, ltb-false, lt-ltb, le-ltb, not-true, not-false}
-use Rattle.logic.specs.Test.{if_then_else_, cases, both, neither}
+use Rattle.logic.specs.Test.{if_then_else_, cases, both}
 use Rattle.text.specs.Name.{bytesOf, ltName, eqName}
 use Rattle.text.specs.NameLaws.{ltName-irreflexive, ltName-transitive, ltName-total}
 use Rattle.words.specs.Word.{word}
@@ -15,127 +16,64 @@ use Rattle.model.specs.Kinds.{unionKind, mapModeKind, Step, field, element, pos
 use Rattle.model.specs.Tracing.{placeLimit}
 use Rattle.model.specs.Emission.{nameOf}
 use Rattle.equality.specs.Base.{or-cases}
-use Rattle.places.specs.Layout.{firstWord, nextWord, stepWord, nameWord}
+use Rattle.places.specs.Layout.{kindWord, firstWord, orderedFirstWord, nextWord, parentWord, stepWord, nameWord, orderedNextWord}
 use Rattle.refine.specs.Spots.{Spot, spot, Spots, no-spots, child, num}
 use Rattle.refine.specs.Steps.{near, nameIn}
-use Rattle.refine.specs.Numbers.{firstOf, Good, GoodIn, nearIn, both-false, or-right, bounded, self}
+use Rattle.refine.specs.Numbers.{firstOf, within, withinIn, Good, GoodIn, nearIn, both-false, or-right, not-both, un-true, bounded, self}
 use Rattle.refine.specs.Rep.{Cell, Rep, RepIn}
-use Rattle.walk.specs.Order.{variantAt, givenName, nearer, nearerVariant, nearerName, nearestFrom, nearest, childLimit, nextChild}
-use Rattle.emission.specs.Arranged.{insertNumberS, byNumberS, insertNameS, byNameS, orderS, Enumerates, Orders, OrdersIn, stepFits, FitS, FitIn}
+use Rattle.order.specs.Flat.{variantAt, givenName, linkAt, isBefore, sortedChildren, sortedPlace, sortedPlaces}
+use Rattle.order.specs.Laws.{length-ordered, words-ordered}
+use Rattle.walk.specs.Order.{isOrdered, nextOrdered, nextChild}
+use Rattle.emission.specs.Chain.{among, here, Chain, Sorted, Distinct, InLine, Lined, link-same, link-is, chain-kept, line-kept, or-swap, before-same, unique, lined}
+use Rattle.emission.specs.Arranged.{insertNumberS, byNumberS, insertNameS, byNameS, orderS, Enumerates, Rising, Orders, OrdersIn, stepFits, FitS, FitIn}
+use Rattle.emission.specs.FirstPlaces.{AllS, number-all, child-variant}
 
--- a child of that number is among them
-abbrev among : ℕ → Spots → Bool
-among x no-spots = false
-among x (child s h m u ks) = eqb x (num u) || among x ks
+-- the numbers of the children
+abbrev numsOf : Spots → List ℕ
+numsOf no-spots = []
+numsOf (child s h m u ks) = num u ∷ numsOf ks
 
--- ---- in order of first sight
-module _ (text t : List ℕ) (sorted : Bool) (kind place : ℕ) (way : (last : ℕ) → nextChild text t sorted kind place last ≡ (if eqb last 0 then word t place firstWord else word t last nextWord)) where
-  plainly : (n c last : ℕ) (ks : Spots) → GoodIn n c ks → RepIn text t place ks → nextChild text t sorted kind place last ≡ firstOf ks → Enumerates text t sorted kind place last ks
-  unfolding if_then_else_
-  plainly n c last no-spots g r e = e
-  plainly n c last (child s h m u ks) g r e =
-      let w : word t (num u) nextWord ≡ firstOf ks = r .0 .row 0 (omega arith) in
-      (e, plainly n (num u) (num u) ks (g .3) (r .2) (way (num u) ∙ rw (ne-eqb (num u) 0 (omega (arith, g .0))) w))
+-- ---- numbers of good children rise from the place's on
+bounds : (n c x : ℕ) (ks : Spots) → GoodIn n c ks → among x (numsOf ks) ≡ true → (c < x) × (x < n)
+bounds n c x no-spots g e = absurd (false≢true e)
+bounds n c x (child s h m u ks) g e =
+    or-cases (eqb x (num u)) (among x (numsOf ks)) e
+    (λ d. rw (eqb-true x (num u) d) (g .0, bounded n (num u) u (g .1) (self u)))
+    (λ d. let i = bounds n (num u) x ks (g .3) d in (omega (arith, g .0, i .0), i .1))
 
--- ---- by an order of places: the first of those after the last
-abbrev after : (ℕ → ℕ → Bool) → ℕ → ℕ → Bool
-after before last x = eqb last 0 || before last x
+distinct : (n c : ℕ) (ks : Spots) → GoodIn n c ks → Distinct (numsOf ks)
+distinct n c no-spots g = tt
+distinct n c (child s h m u ks) g = (un-true (among (num u) (numsOf ks)) (λ e. omega (arith, bounds n (num u) (num u) ks (g .3) e .0)), distinct n (num u) ks (g .3))
 
-unfoldable pick : (ℕ → ℕ → Bool) → ℕ → ℕ → Spots → ℕ
-pick before last best no-spots = best
-pick before last best (child s h m u ks) = pick before last (if after before last (num u) && (eqb best 0 || before (num u) best) then num u else best) ks
+few : (n c : ℕ) (ks : Spots) → c < n → GoodIn n c ks → c + length (numsOf ks) < n
+few n c no-spots l g = omega arith
+few n c (child s h m u ks) l g = let i = few n (num u) ks (bounded n (num u) u (g .1) (self u)) (g .3) in omega (arith, g .0)
 
--- each stands before those that follow it
-abbrev BeforeAll : (ℕ → ℕ → Bool) → ℕ → Spots → Type 0
-BeforeAll before x no-spots = Unit {0}
-BeforeAll before x (child s h m u ks) = (before x (num u) ≡ true) × BeforeAll before x ks
+first-below : (n c : ℕ) (ks : Spots) → n ≤ placeLimit → GoodIn n c ks → firstOf ks < 1024
+first-below n c no-spots l g = omega arith
+first-below n c (child s h m u ks) l g = omega (arith, bounded n (num u) u (g .1) (self u))
 
-abbrev Sorted : (ℕ → ℕ → Bool) → Spots → Type 0
-Sorted before no-spots = Unit {0}
-Sorted before (child s h m u ks) = BeforeAll before (num u) ks × Sorted before ks
+-- ---- what the words say of children
+chain-said : (text t : List ℕ) (n c p link : ℕ) (ks : Spots) → n ≤ placeLimit → GoodIn n c ks → RepIn text t p ks → link ≡ firstOf ks → Chain t nextWord link (numsOf ks)
+chain-said text t n c p link no-spots l g r e = e
+chain-said text t n c p link (child s h m u ks) l g r e =
+    let w : word t (num u) nextWord ≡ firstOf ks = r .0 .row 0 (omega arith) in
+    (e, chain-said text t n (num u) p (linkAt t (num u) nextWord) ks l (g .3) (r .2) (link-is t (num u) nextWord (firstOf ks) w (first-below n (num u) ks l (g .3))))
 
-before-all : (before : ℕ → ℕ → Bool) (x y : ℕ) (ks : Spots) → BeforeAll before x ks → among y ks ≡ true → before x y ≡ true
-before-all before x y no-spots b e = absurd (false≢true e)
-before-all before x y (child s h m u ks) b e =
-    or-cases (eqb y (num u)) (among y ks) e (λ d. rw (eqb-true y (num u) d) (b .0)) (λ d. before-all before x y ks (b .1) d)
+parent-said : (text t : List ℕ) (p x : ℕ) (ks : Spots) → RepIn text t p ks → among x (numsOf ks) ≡ true → word t x parentWord ≡ p
+parent-said text t p x no-spots r e = absurd (false≢true e)
+parent-said text t p x (child s h m u ks) r e =
+    or-cases (eqb x (num u)) (among x (numsOf ks)) e
+    (λ d. let w : word t (num u) parentWord ≡ p = r .0 .row 1 (omega arith) in rw (eqb-true x (num u) d) w)
+    (λ d. parent-said text t p x ks (r .2) d)
 
-good-positive : (n c : ℕ) (ks : Spots) → GoodIn n c ks → among 0 ks ≡ false
-good-positive n c no-spots g = refl
-good-positive n c (child s h m u ks) g = rw (ne-eqb 0 (num u) (omega (arith, g .0)), good-positive n (num u) ks (g .3)) refl
-
-module _ (before : ℕ → ℕ → Bool) (irreflexive : (x : ℕ) → before x x ≡ false) (transitive : (x y z : ℕ) → before x y ≡ true → before y z ≡ true → before x z ≡ true) where
-  contra : (x y z : ℕ) → before y z ≡ true → before x z ≡ false → before x y ≡ false
-  contra x y z e f = cases (before x y) (λ d. absurd (true≢false (sym (transitive x y z d e) ∙ f))) (λ d. d)
-
-  -- what is picked is the best before, or one of them after the last
-  source : {P : Type 0} (last best : ℕ) (ks : Spots) → (pick before last best ks ≡ best → P)
-      → (among (pick before last best ks) ks ≡ true → after before last (pick before last best ks) ≡ true → P) → P
-  unfolding pick if_then_else_
-  source last best no-spots old new = old refl
-  source {P} last best (child s h m u ks) old new =
-      cases (after before last (num u) && (eqb best 0 || before (num u) best))
-      (λ e.
-      let new′ : among (pick before last (num u) ks) (child s h m u ks) ≡ true → after before last (pick before last (num u) ks) ≡ true → P = rw (pick, e) at new in
-      source last (num u) ks
-      (λ d. new′ (rw d (rw (eq-eqb (num u) (num u) refl) refl)) (rw d (both (after before last (num u)) _ e λ a b. a)))
-      (λ a b. new′ (or-right (eqb (pick before last (num u) ks) (num u)) _ a) b))
-      (λ e.
-      let old′ : pick before last best ks ≡ best → P = rw (pick, e) at old in
-      let new′ : among (pick before last best ks) (child s h m u ks) ≡ true → after before last (pick before last best ks) ≡ true → P = rw (pick, e) at new in
-      source last best ks old′ (λ a b. new′ (or-right (eqb (pick before last best ks) (num u)) _ a) b))
-
-  -- what is not before the best is not before what is picked
-  kept : (last best : ℕ) (ks : Spots) → among 0 ks ≡ false → (best ≡ 0 → ⊥) → (pick before last best ks ≡ 0 → ⊥) × ((y : ℕ) → before y best ≡ false → before y (pick before last best ks) ≡ false)
-  unfolding pick if_then_else_
-  kept last best no-spots z n = (n, λ y e. e)
-  kept last best (child s h m u ks) z n =
-      let d = both-false (eqb 0 (num u)) (among 0 ks) z in
-      cases (after before last (num u) && (eqb best 0 || before (num u) best))
-      (λ e.
-      let i = kept last (num u) ks (d .1) (λ q. eqb-false 0 (num u) (d .0) (sym q)) in
-      let f : before (num u) best ≡ true = both (after before last (num u)) _ e λ a b. rw (ne-eqb best 0 n) at b in
-      rw e (i .0, λ y g. i .1 y (contra y (num u) best f g)))
-      (λ e. rw e (kept last best ks (d .1) n))
-
-  -- none of them after the last is before what is picked
-  least : (last best : ℕ) (ks : Spots) (x : ℕ) → among 0 ks ≡ false → among x ks ≡ true → after before last x ≡ true → (pick before last best ks ≡ 0 → ⊥) × (before x (pick before last best ks) ≡ false)
-  unfolding pick if_then_else_
-  least last best no-spots x z e f = absurd (false≢true e)
-  least last best (child s h m u ks) x z e f =
-      let d = both-false (eqb 0 (num u)) (among 0 ks) z in
-      or-cases (eqb x (num u)) (among x ks) e
-      (λ i.
-      let j : x ≡ num u = eqb-true x (num u) i in
-      let f′ : after before last (num u) ≡ true = rw j at f in
-      rw j (cases (eqb best 0 || before (num u) best)
-      (λ q. let w = kept last (num u) ks (d .1) (λ o. eqb-false 0 (num u) (d .0) (sym o)) in rw (f′, q) (w .0, w .1 (num u) (irreflexive (num u))))
-      (λ q. neither (eqb best 0) (before (num u) best) q λ a b. let w = kept last best ks (d .1) (eqb-false best 0 a) in rw (f′, q) (w .0, w .1 (num u) b))))
-      (λ i. least last (if after before last (num u) && (eqb best 0 || before (num u) best) then num u else best) ks x (d .1) i f)
-
-  -- a sorted list of the same children is gone through
-  module _ (text t : List ℕ) (sorted : Bool) (kind place : ℕ) (ks : Spots) (positive : among 0 ks ≡ false) (way : (last : ℕ) → nextChild text t sorted kind place last ≡ pick before last 0 ks) where
-    through : (rest : Spots) (last : ℕ) → ((x : ℕ) → among x rest ≡ true → (among x ks ≡ true) × (after before last x ≡ true)) → ((x : ℕ) → among x ks ≡ true → after before last x ≡ true → among x rest ≡ true)
-        → Sorted before rest → Enumerates text t sorted kind place last rest
-    through no-spots last f g o = way last ∙ source last 0 ks (λ e. e) (λ a b. absurd (false≢true (g (pick before last 0 ks) a b)))
-    through (child s h m u rest) last f g o =
-        let a = f (num u) (rw (eq-eqb (num u) (num u) refl) refl) in
-        let z : num u ≡ 0 → ⊥ = λ e. true≢false (sym (rw e at (a .0)) ∙ positive) in
-        let w = least last 0 ks (num u) positive (a .0) (a .1) in
-        let e : pick before last 0 ks ≡ num u =
-        source last 0 ks (λ e. absurd (w .0 e))
-        (λ i j.
-        or-cases (eqb (pick before last 0 ks) (num u)) (among (pick before last 0 ks) rest) (g (pick before last 0 ks) i j) (eqb-true (pick before last 0 ks) (num u))
-        (λ q. absurd (true≢false (sym (before-all before (num u) (pick before last 0 ks) rest (o .0) q) ∙ w .1)))) in (
-          way last ∙ e,
-          through rest (num u) (λ x i. (f x (or-right (eqb x (num u)) _ i) .0, or-right (eqb (num u) 0) _ (before-all before (num u) x rest (o .0) i)))
-              (λ x i j.
-              let b : before (num u) x ≡ true = rw (ne-eqb (num u) 0 z) at j in
-              or-cases (eqb x (num u)) (among x rest)
-              (g x i (or-cases (eqb last 0) (before last (num u)) (a .1) (λ d. rw d refl) (λ d. or-right (eqb last 0) _ (transitive last (num u) x d b))))
-              (λ d. absurd (true≢false (sym b ∙ rw (eqb-true x (num u) d) (irreflexive (num u)))))
-              (λ d. d))
-              (o .1),
-        )
+-- children along a word, which is where the walk goes on
+enumerated : (t : List ℕ) (sorted : Bool) (kind place along last : ℕ) (ks : Spots) → ((x : ℕ) → (x ≡ 0 → ⊥) → nextChild t sorted kind place x ≡ linkAt t x along) → among 0 (numsOf ks) ≡ false
+    → Chain t along (nextChild t sorted kind place last) (numsOf ks) → Enumerates t sorted kind place last ks
+enumerated t sorted kind place along last no-spots way z c = c
+enumerated t sorted kind place along last (child s h m u ks) way z c =
+    let d = both-false (eqb 0 (num u)) (among 0 (numsOf ks)) z in
+    (c .0, enumerated t sorted kind place along (num u) ks way (d .1) (rw (way (num u) (λ e. eqb-false 0 (num u) (d .0) (sym e))) (c .1)))
 
 -- ---- sorting by insertion: a new child goes in front of an old one, or past it
 unfoldable insertBy : (Step → Step → Bool) → Step → ℕ → ℕ → Spot → Spots → Spots
@@ -146,18 +84,13 @@ unfoldable sortBy : (Step → Step → Bool) → Spots → Spots
 sortBy front no-spots = no-spots
 sortBy front (child s h m u ks) = insertBy front s h m u (sortBy front ks)
 
-or-swap : (a b c : Bool) → (a || (b || c)) ≡ (b || (a || c))
-or-swap true true c = refl
-or-swap true false c = refl
-or-swap false b c = refl
-
-among-insert : (front : Step → Step → Bool) (x : ℕ) (s : Step) (h m : ℕ) (u : Spot) (ks : Spots) → among x (insertBy front s h m u ks) ≡ (eqb x (num u) || among x ks)
+among-insert : (front : Step → Step → Bool) (x : ℕ) (s : Step) (h m : ℕ) (u : Spot) (ks : Spots) → among x (numsOf (insertBy front s h m u ks)) ≡ (eqb x (num u) || among x (numsOf ks))
 unfolding insertBy if_then_else_
 among-insert front x s h m u no-spots = refl
 among-insert front x s h m u (child r i j v ks) =
-    cases (front s r) (λ e. rw e refl) (λ e. rw (e, among, among-insert front x s h m u ks) (or-swap (eqb x (num v)) (eqb x (num u)) (among x ks)))
+    cases (front s r) (λ e. rw e refl) (λ e. rw (e, among-insert front x s h m u ks) (or-swap (eqb x (num v)) (eqb x (num u)) (among x (numsOf ks))))
 
-among-sort : (front : Step → Step → Bool) (x : ℕ) (ks : Spots) → among x (sortBy front ks) ≡ among x ks
+among-sort : (front : Step → Step → Bool) (x : ℕ) (ks : Spots) → among x (numsOf (sortBy front ks)) ≡ among x (numsOf ks)
 unfolding sortBy
 among-sort front x no-spots = refl
 among-sort front x (child s h m u ks) = rw (among-insert front x s h m u (sortBy front ks), among-sort front x ks)
@@ -174,7 +107,7 @@ abbrev Apart : (Step → Step → Bool) → (ℕ → ℕ → Bool) → Spots →
 Apart front before no-spots = Unit {0}
 Apart front before (child s h m u ks) = BesideAll front before s (num u) ks × Apart front before ks
 
-module _ (front : Step → Step → Bool) (before : ℕ → ℕ → Bool) (transitive : (x y z : ℕ) → before x y ≡ true → before y z ≡ true → before x z ≡ true) where
+module _ (front : Step → Step → Bool) (before : ℕ → ℕ → Bool) where
   beside-insert : (q : Step) (x : ℕ) (s : Step) (h m : ℕ) (u : Spot) (ks : Spots) → Beside front before q s x (num u) → BesideAll front before q x ks → BesideAll front before q x (insertBy front s h m u ks)
   unfolding insertBy if_then_else_
   beside-insert q x s h m u no-spots a b = (a, tt)
@@ -185,27 +118,48 @@ module _ (front : Step → Step → Bool) (before : ℕ → ℕ → Bool) (trans
   beside-sort q x no-spots b = tt
   beside-sort q x (child s h m u ks) b = beside-insert q x s h m u (sortBy front ks) (b .0) (beside-sort q x ks (b .1))
 
-  before-insert : (x : ℕ) (s : Step) (h m : ℕ) (u : Spot) (ks : Spots) → before x (num u) ≡ true → BeforeAll before x ks → BeforeAll before x (insertBy front s h m u ks)
-  unfolding insertBy if_then_else_
-  before-insert x s h m u no-spots a b = (a, tt)
-  before-insert x s h m u (child r i j v ks) a b = cases (front s r) (λ e. rw e (a, b)) (λ e. rw e (b .0, before-insert x s h m u ks a (b .1)))
+  -- of two children one stands before the other
+  one-first : {P : Type 0} (s : Step) (x y : ℕ) (ks : Spots) → BesideAll front before s x ks → among y (numsOf ks) ≡ true → (before x y ≡ true → P) → (before y x ≡ true → P) → P
+  one-first s x y no-spots b e f g = absurd (false≢true e)
+  one-first s x y (child r h m v ks) b e f g =
+      or-cases (eqb y (num v)) (among y (numsOf ks)) e
+      (λ d. let i : y ≡ num v = eqb-true y (num v) d in cases (front s r) (λ q. f (rw i (b .0 .0 q))) (λ q. g (rw i (b .0 .1 q))))
+      (λ d. one-first s x y ks (b .1) d f g)
 
-  before-more : (x y : ℕ) (ks : Spots) → before x y ≡ true → BeforeAll before y ks → BeforeAll before x ks
-  before-more x y no-spots e b = tt
-  before-more x y (child s h m u ks) e b = (transitive x y (num u) e (b .0), before-more x y ks e (b .1))
+  total : (ks : Spots) → Apart front before ks → (x y : ℕ) → among x (numsOf ks) ≡ true → among y (numsOf ks) ≡ true → (x ≡ y → ⊥) → before x y ≡ false → before y x ≡ true
+  total no-spots a x y e d z f = absurd (false≢true e)
+  total (child s h m u ks) a x y e d z f =
+      or-cases (eqb x (num u)) (among x (numsOf ks)) e
+      (λ i.
+      let j : x ≡ num u = eqb-true x (num u) i in
+      or-cases (eqb y (num u)) (among y (numsOf ks)) d
+      (λ k. absurd (z (j ∙ sym (eqb-true y (num u) k))))
+      (λ k. one-first s (num u) y ks (a .0) k (λ b. absurd (not-both (before x y) (rw j b) f)) (λ b. rw j b)))
+      (λ i.
+      or-cases (eqb y (num u)) (among y (numsOf ks)) d
+      (λ k. let j : y ≡ num u = eqb-true y (num u) k in one-first s (num u) x ks (a .0) i (λ b. rw j b) (λ b. absurd (not-both (before x y) (rw j b) f)))
+      (λ k. total ks (a .1) x y i k z f))
 
-  sorted-insert : (s : Step) (h m : ℕ) (u : Spot) (ks : Spots) → BesideAll front before s (num u) ks → Sorted before ks → Sorted before (insertBy front s h m u ks)
-  unfolding insertBy if_then_else_
-  sorted-insert s h m u no-spots a o = (tt, tt)
-  sorted-insert s h m u (child r i j v ks) a o =
-      cases (front s r)
-      (λ e. let l : before (num u) (num v) ≡ true = a .0 .0 e in rw e ((l, before-more (num u) (num v) ks l (o .0)), o))
-      (λ e. let l : before (num v) (num u) ≡ true = a .0 .1 e in rw e (before-insert (num v) s h m u ks l (o .0), sorted-insert s h m u ks (a .1) (o .1)))
+  module _ (transitive : (x y z : ℕ) → before x y ≡ true → before y z ≡ true → before x z ≡ true) where
+    sorted-insert : (s : Step) (h m : ℕ) (u : Spot) (ks : Spots) → BesideAll front before s (num u) ks → Sorted before (numsOf ks) → Sorted before (numsOf (insertBy front s h m u ks))
+    unfolding insertBy if_then_else_
+    sorted-insert s h m u no-spots a o = ((λ y e. absurd (false≢true e)), tt)
+    sorted-insert s h m u (child r i j v ks) a o =
+        cases (front s r)
+        (λ e.
+        let l : before (num u) (num v) ≡ true = a .0 .0 e in
+        rw e ((λ y d. or-cases (eqb y (num v)) (among y (numsOf ks)) d (λ q. rw (eqb-true y (num v) q) l) (λ q. transitive (num u) (num v) y l (o .0 y q))), o))
+        (λ e.
+        let l : before (num v) (num u) ≡ true = a .0 .1 e in
+        rw e (
+          (λ y d. or-cases (eqb y (num u)) (among y (numsOf ks)) (sym (among-insert front y s h m u ks) ∙ d) (λ q. rw (eqb-true y (num u) q) l) (o .0 y)),
+          sorted-insert s h m u ks (a .1) (o .1),
+        ))
 
-  sorted-sort : (ks : Spots) → Apart front before ks → Sorted before (sortBy front ks)
-  unfolding sortBy
-  sorted-sort no-spots a = tt
-  sorted-sort (child s h m u ks) a = sorted-insert s h m u (sortBy front ks) (beside-sort s (num u) ks (a .0)) (sorted-sort ks (a .1))
+    sorted-sort : (ks : Spots) → Apart front before ks → Sorted before (numsOf (sortBy front ks))
+    unfolding sortBy
+    sorted-sort no-spots a = tt
+    sorted-sort (child s h m u ks) a = sorted-insert s h m u (sortBy front ks) (beside-sort s (num u) ks (a .0)) (sorted-sort ks (a .1))
 
 -- children that are not near stand apart, where any two such steps do
 module _ (text t : List ℕ) (kind p : ℕ) (front : Step → Step → Bool) (before : ℕ → ℕ → Bool)
@@ -222,36 +176,9 @@ module _ (text t : List ℕ) (kind p : ℕ) (front : Step → Step → Bool) (be
   apart-all n c (child s h m u ks) g r w =
       (beside-all n (num u) s (num u) (firstOf ks) h m ks (w .0) (r .0) (g .4) (g .3) (r .2) (w .2), apart-all n (num u) ks (g .3) (r .2) (w .2))
 
--- ---- the search over the words is the pick among the children
-module _ (text t : List ℕ) (byName : Bool) (before : ℕ → ℕ → Bool) (last : ℕ) (test : (best x : ℕ) → nearer text t byName last best x ≡ (after before last x && (eqb best 0 || before x best))) where
-  search-is : (f n c p best : ℕ) (ks : Spots) → n ≤ c + f → GoodIn n c ks → RepIn text t p ks → nearestFrom text t byName last f best (firstOf ks) ≡ pick before last best ks
-  unfolding nearestFrom pick
-  search-is zero n c p best no-spots l g r = refl
-  search-is (suc f) n c p best no-spots l g r = refl
-  search-is zero n c p best (child s h m u ks) l g r = absurd (let b = bounded n (num u) u (g .1) (self u) in omega (arith, g .0))
-  search-is (suc f) n c p best (child s h m u ks) l g r =
-      let e : word t (num u) nextWord ≡ firstOf ks = r .0 .row 0 (omega arith) in
-      rw (ne-eqb (num u) 0 (omega (arith, g .0)), nearestFrom, e, test best (num u))
-      (search-is f n (num u) p (if after before last (num u) && (eqb best 0 || before (num u) best) then num u else best) ks (omega (arith, g .0)) (g .3) (r .2))
-
--- the children sorted are gone through
-module _ (text t : List ℕ) (sorted byName : Bool) (kind : ℕ) (front : Step → Step → Bool) (before : ℕ → ℕ → Bool) (irreflexive : (x : ℕ) → before x x ≡ false)
-    (transitive : (x y z : ℕ) → before x y ≡ true → before y z ≡ true → before x z ≡ true)
-    (test : (last best x : ℕ) → nearer text t byName last best x ≡ (after before last x && (eqb best 0 || before x best))) where
-  sortedly : (n p : ℕ) (ks : Spots) → n ≤ placeLimit → GoodIn n p ks → RepIn text t p ks → Apart front before ks → word t p firstWord ≡ firstOf ks
-      → ((last : ℕ) → nextChild text t sorted kind p last ≡ nearest text t byName p last) → Enumerates text t sorted kind p 0 (sortBy front ks)
-  sortedly n p ks l g r a e way =
-      through before irreflexive transitive text t sorted kind p ks (good-positive n p ks g)
-      (λ last. way last ∙ rw e (search-is text t byName before last (test last) childLimit n p p 0 ks (omega arith) g r))
-      (sortBy front ks) 0 (λ x i. (sym (among-sort front x ks) ∙ i, refl)) (λ x i j. among-sort front x ks ∙ i)
-      (sorted-sort front before transitive ks a)
-
 -- ---- by number
 abbrev numberFront : Step → Step → Bool
 numberFront s r = ltb (variantOf s) (variantOf r)
-
-abbrev numberBefore : List ℕ → ℕ → ℕ → Bool
-numberBefore t x y = ltb (variantAt t x) (variantAt t y)
 
 insert-number : (s : Step) (h m : ℕ) (u : Spot) (ks : Spots) → insertBy numberFront s h m u ks ≡ insertNumberS s h m u ks
 unfolding insertBy insertNumberS if_then_else_
@@ -263,18 +190,10 @@ unfolding sortBy byNumberS
 sort-number no-spots = refl
 sort-number (child s h m u ks) = rw (sort-number ks) (insert-number s h m u (byNumberS ks))
 
--- a variant's number by its words
-pub variant-at : {text t : List ℕ} {q x p : ℕ} {h m k : ℕ} {name : List ℕ} → Cell text t q x p (variant k name) h m → variantAt t q ≡ k
-unfolding variantAt if_then_else_
-variant-at {t = t} {q = q} {k = k} c =
-    let w : word t q stepWord ≡ 5 + 2 * k = c .row 2 (omega arith) in
-    let e : (5 + 2 * k - 5) / 2 ≡ k = omega arith in
-    rw (w, le-ltb (5 + 2 * k) 5 (omega arith), ne-eqb ((5 + 2 * k) % 2) 0 (omega arith), e)
-
 -- two variants of unequal numbers
 number-pair : (text t : List ℕ) (p : ℕ) (s r : Step) (x y a b h m i j : ℕ) → stepFits unionKind s ≡ true → stepFits unionKind r ≡ true → near s r ≡ false → Cell text t x a p s h m → Cell text t y b p r i j
-    → Beside numberFront (numberBefore t) s r x y
-unfolding near eqName if_then_else_
+    → Beside numberFront (isBefore text t false) s r x y
+unfolding near eqName isBefore if_then_else_
 number-pair text t p (field name) r x y a b h m i j f g d c e = absurd (false≢true f)
 number-pair text t p element r x y a b h m i j f g d c e = absurd (false≢true f)
 number-pair text t p (position v) r x y a b h m i j f g d c e = absurd (false≢true f)
@@ -286,7 +205,7 @@ number-pair text t p (variant k name) (position v) x y a b h m i j f g d c e = a
 number-pair text t p (variant k name) key x y a b h m i j f g d c e = absurd (false≢true g)
 number-pair text t p (variant k name) value x y a b h m i j f g d c e = absurd (false≢true g)
 number-pair text t p (variant k name) (variant l other) x y a b h m i j f g d c e =
-    rw (variant-at c, variant-at e) (
+    rw (child-variant text t x a p (variant k name) h m c, child-variant text t y b p (variant l other) i j e) (
       (λ q. q),
       (λ q.
           let o : l ≤ k = ltb-false k l q in
@@ -297,9 +216,6 @@ number-pair text t p (variant k name) (variant l other) x y a b h m i j f g d c 
 -- ---- by name
 abbrev nameFront : Step → Step → Bool
 nameFront s r = not (ltName (nameOf r) (nameOf s))
-
-abbrev nameBefore : List ℕ → List ℕ → ℕ → ℕ → Bool
-nameBefore text t x y = ltName (bytesOf text (givenName t x)) (bytesOf text (givenName t y))
 
 insert-name : (s : Step) (h m : ℕ) (u : Spot) (ks : Spots) → insertBy nameFront s h m u ks ≡ insertNameS s h m u ks
 unfolding insertBy insertNameS if_then_else_
@@ -312,13 +228,13 @@ sort-name no-spots = refl
 sort-name (child s h m u ks) = rw (sort-name ks) (insert-name s h m u (byNameS ks))
 
 -- the given name by its words
-pub name-at : {text t : List ℕ} {q x p : ℕ} {s : Step} {h m : ℕ} → Cell text t q x p s h m → bytesOf text (givenName t q) ≡ nameIn s
+name-at : {text t : List ℕ} {q x p : ℕ} {s : Step} {h m : ℕ} → Cell text t q x p s h m → bytesOf text (givenName t q) ≡ nameIn s
 name-at {t = t} {q = q} c = let v : word t q nameWord ≡ c .name = c .row 3 (omega arith) in rw v (c .says)
 
 -- two fields of unequal names
 name-pair : (text t : List ℕ) (p : ℕ) (s r : Step) (x y a b h m i j : ℕ) → stepFits mapModeKind s ≡ true → stepFits mapModeKind r ≡ true → near s r ≡ false → Cell text t x a p s h m → Cell text t y b p r i j
-    → Beside nameFront (nameBefore text t) s r x y
-unfolding near if_then_else_
+    → Beside nameFront (isBefore text t true) s r x y
+unfolding near isBefore if_then_else_
 name-pair text t p element r x y a b h m i j f g d c e = absurd (false≢true f)
 name-pair text t p (position v) r x y a b h m i j f g d c e = absurd (false≢true f)
 name-pair text t p key r x y a b h m i j f g d c e = absurd (false≢true f)
@@ -335,37 +251,207 @@ name-pair text t p (field name) (field other) x y a b h m i j f g d c e =
       (λ q. not-false (ltName other name) q),
     )
 
--- ---- at a place, and at all
-module _ (text t : List ℕ) (sorted : Bool) (n : ℕ) (most : n ≤ placeLimit) where
-  order-at : (p k : ℕ) (ks : Spots) → GoodIn n p ks → RepIn text t p ks → FitIn k ks → word t p firstWord ≡ firstOf ks → Enumerates text t sorted k p 0 (orderS sorted k ks)
-  unfolding orderS nextChild nearerVariant nearerName if_then_else_
-  order-at p k ks g r f e =
-      cases (eqb k unionKind)
-      (λ u.
-      let z : k ≡ unionKind = eqb-true k unionKind u in
-      let f′ : FitIn unionKind ks = rw z at f in
-      rw (u, ← (sort-number ks))
-      (sortedly text t sorted false k numberFront (numberBefore t) (λ x. le-ltb (variantAt t x) (variantAt t x) (omega arith))
-      (λ x y z v w. let v′ = ltb-true (variantAt t x) (variantAt t y) v in let w′ = ltb-true (variantAt t y) (variantAt t z) w in lt-ltb (variantAt t x) (variantAt t z) (omega arith))
-      (λ last best x. refl) n p ks most g r (apart-all text t unionKind p numberFront (numberBefore t) (number-pair text t p) n p ks g r f′) e (λ last. rw u refl)))
-      (λ u.
-      cases (sorted && eqb k mapModeKind)
-      (λ v.
-      let z : k ≡ mapModeKind = both sorted (eqb k mapModeKind) v λ a b. eqb-true k mapModeKind b in
-      let f′ : FitIn mapModeKind ks = rw z at f in
-      rw (u, v, ← (sort-name ks))
-      (sortedly text t sorted true k nameFront (nameBefore text t) (λ x. ltName-irreflexive (bytesOf text (givenName t x)))
-      (λ x y z. ltName-transitive (bytesOf text (givenName t x)) (bytesOf text (givenName t y)) (bytesOf text (givenName t z)))
-      (λ last best x. refl) n p ks most g r (apart-all text t mapModeKind p nameFront (nameBefore text t) (name-pair text t p) n p ks g r f′) e (λ last. rw (u, v) refl)))
-      (λ v. rw (u, v) (plainly text t sorted k p (λ last. rw (u, v) refl) n p 0 ks g r (rw (u, v) e))))
+-- ---- both orders
+-- the kind whose children are sorted so, and which child goes in front
+abbrev kindOf : Bool → ℕ
+kindOf false = unionKind
+kindOf true = mapModeKind
 
-mutual
-  -- the search for the next child goes through the children in the order of a walk, at every place of a tree that the words say
-  pub orders : (text t : List ℕ) (n : ℕ) (u : Spot) → n ≤ placeLimit → Good n u → Rep text t u → FitS u → Orders text t u
-  orders text t n (spot p b k m ks) l g r f =
-      let e : word t p firstWord ≡ firstOf ks = r .0 3 (omega arith) in
-      (order-at text t false n l p k ks (g .2) (r .1) (f .1) e, order-at text t true n l p k ks (g .2) (r .1) (f .1) e, orders-in text t n p p k ks l (g .2) (r .1) (f .1))
+abbrev frontOf : Bool → Step → Step → Bool
+frontOf false = numberFront
+frontOf true = nameFront
 
-  orders-in : (text t : List ℕ) (n c p k : ℕ) (ks : Spots) → n ≤ placeLimit → GoodIn n c ks → RepIn text t p ks → FitIn k ks → OrdersIn text t ks
-  orders-in text t n c p k no-spots l g r f = tt
-  orders-in text t n c p k (child s h m u ks) l g r f = (orders text t n u l (g .1) (r .1) (f .1), orders-in text t n (num u) p k ks l (g .3) (r .2) (f .2))
+module _ (text t : List ℕ) where
+  irreflexive : (byName : Bool) (x : ℕ) → isBefore text t byName x x ≡ false
+  unfolding isBefore if_then_else_
+  irreflexive false x = le-ltb (variantAt t x) (variantAt t x) (omega arith)
+  irreflexive true x = ltName-irreflexive (bytesOf text (givenName t x))
+
+  transitive : (byName : Bool) (x y z : ℕ) → isBefore text t byName x y ≡ true → isBefore text t byName y z ≡ true → isBefore text t byName x z ≡ true
+  unfolding isBefore if_then_else_
+  transitive false x y z v w =
+      let v′ = ltb-true (variantAt t x) (variantAt t y) v in let w′ = ltb-true (variantAt t y) (variantAt t z) w in lt-ltb (variantAt t x) (variantAt t z) (omega arith)
+  transitive true x y z v w = ltName-transitive (bytesOf text (givenName t x)) (bytesOf text (givenName t y)) (bytesOf text (givenName t z)) v w
+
+-- ---- what is known of a place of the tree
+record Placed (text t : List ℕ) (n p k : ℕ) (ks : Spots) : Type 0 where
+  below : p < n
+  good : GoodIn n p ks
+  rep : RepIn text t p ks
+  fit : FitIn k ks
+  kind : word t p kindWord ≡ k
+  first : word t p firstWord ≡ firstOf ks
+
+module _ (text t : List ℕ) (n : ℕ) where
+  placed : (p : ℕ) (b : Bool) (k m : ℕ) (ks : Spots) → Good n (spot p b k m ks) → Rep text t (spot p b k m ks) → FitS (spot p b k m ks) → Placed text t n p k ks
+  placed p b k m ks g r f = record { below = g .0; good = g .2; rep = r .1; fit = f .1; kind = r .0 0 (omega arith); first = r .0 3 (omega arith) }
+
+  mutual
+    -- a number in the tree is that of a place
+    find : {P : Type 0} (q : ℕ) (u : Spot) → Good n u → Rep text t u → FitS u → within q u ≡ true → ((k : ℕ) (ks : Spots) → Placed text t n q k ks → P) → P
+    find q (spot p b k m ks) g r f e go =
+        or-cases (eqb q p) (withinIn q ks) e
+        (λ d. go k ks (rw (eqb-true q p d) (placed p b k m ks g r f)))
+        (λ d. find-in q p p k ks (g .2) (r .1) (f .1) d go)
+
+    find-in : {P : Type 0} (q c p k : ℕ) (ks : Spots) → GoodIn n c ks → RepIn text t p ks → FitIn k ks → withinIn q ks ≡ true → ((k : ℕ) (ks : Spots) → Placed text t n q k ks → P) → P
+    find-in q c p k no-spots g r f e go = absurd (false≢true e)
+    find-in q c p k (child s h m u ks) g r f e go =
+        or-cases (within q u) (withinIn q ks) e (λ d. find q u (g .1) (r .1) (f .1) d go) (λ d. find-in q (num u) p k ks (g .3) (r .2) (f .2) d go)
+
+module _ (text t : List ℕ) (n : ℕ) (most : n ≤ placeLimit) (room : 16384 ≤ length t) where
+  apart : (byName : Bool) (p : ℕ) (ks : Spots) → Placed text t n p (kindOf byName) ks → Apart (frontOf byName) (isBefore text t byName) ks
+  apart false p ks h = apart-all text t unionKind p numberFront (isBefore text t false) (number-pair text t p) n p ks (h .good) (h .rep) (h .fit)
+  apart true p ks h = apart-all text t mapModeKind p nameFront (isBefore text t true) (name-pair text t p) n p ks (h .good) (h .rep) (h .fit)
+
+  module _ (j : ℕ) (l : j ≤ n) where
+    -- the table when j places are done, in which only the links of order differ
+    abbrev done : List ℕ
+    done = sortedPlaces text t j
+
+    same : (q f : ℕ) → f < 16 → (f ≡ orderedFirstWord → ⊥) → (f ≡ orderedNextWord → ⊥) → word done q f ≡ word t q f
+    same q f = words-ordered text t j (omega arith) q f
+
+    sorted-children : (byName : Bool) (p : ℕ) (ks : Spots) → Placed text t n p (kindOf byName) ks → Lined (isBefore text t byName) done (numsOf ks) p (sortedChildren text byName p done)
+    sorted-children byName p ks h =
+        lined text byName (isBefore text t byName) (irreflexive text t byName) (transitive text t byName) (λ x. among x (numsOf ks)) (total (frontOf byName) (isBefore text t byName) ks (apart byName p ks h))
+        (λ x e. let i = bounds n p x ks (h .good) e in (omega (arith, i .0), omega (arith, i .1)))
+        done (numsOf ks) p
+        (rw (length-ordered text t j (omega arith)) room, before-same text t done byName (λ q. same q stepWord (omega arith) (λ e. omega arith) (λ e. omega arith)) (λ q. same q nameWord (omega arith) (λ e. omega arith) (λ e. omega arith)))
+        (rw (link-same t done p firstWord (same p firstWord (omega arith) (λ e. omega arith) (λ e. omega arith)))
+        (chain-kept t done nextWord (linkAt t p firstWord) (numsOf ks) (λ x e. same x nextWord (omega arith) (λ d. omega arith) (λ d. omega arith))
+        (chain-said text t n p p (linkAt t p firstWord) ks most (h .good) (h .rep) (link-is t p firstWord (firstOf ks) (h .first) (first-below n p ks most (h .good))))))
+        (distinct n p ks (h .good)) (λ z e. e) (omega (arith, few n p ks (h .below) (h .good))) (omega (arith, h .below))
+
+    kind-same : (p k : ℕ) (ks : Spots) → Placed text t n p k ks → word done p kindWord ≡ k
+    kind-same p k ks h = same p kindWord (omega arith) (λ e. omega arith) (λ e. omega arith) ∙ h .kind
+
+    sorted-as : (byName : Bool) (p : ℕ) (ks : Spots) → Placed text t n p (kindOf byName) ks → sortedPlace text p done ≡ sortedChildren text byName p done
+    unfolding sortedPlace if_then_else_
+    sorted-as false p ks h = rw (kind-same p unionKind ks h)
+    sorted-as true p ks h = rw (kind-same p mapModeKind ks h)
+
+    left-alone : (p k : ℕ) (ks : Spots) → Placed text t n p k ks → eqb k unionKind ≡ false → eqb k mapModeKind ≡ false → sortedPlace text p done ≡ done
+    unfolding sortedPlace if_then_else_
+    left-alone p k ks h a b = rw (kind-same p k ks h, a, b)
+
+    -- sorting at one place leaves the links of others
+    abbrev Leaves : ℕ → Spots → List ℕ → Type 0
+    Leaves p ks u = (word u p orderedFirstWord ≡ word done p orderedFirstWord) × ((x : ℕ) → among x (numsOf ks) ≡ true → word u x orderedNextWord ≡ word done x orderedNextWord)
+
+    leaves : (p k q : ℕ) (ks : Spots) (i : ℕ) (is : Spots) → (p ≡ q → ⊥) → Placed text t n p k ks → Placed text t n q i is → Leaves p ks (sortedPlace text q done)
+    leaves p k q ks i is z h g =
+        cases (eqb i unionKind)
+        (λ e. at false (rw (eqb-true i unionKind e) at g))
+        (λ e. cases (eqb i mapModeKind) (λ d. at true (rw (eqb-true i mapModeKind d) at g)) (λ d. rw (left-alone q i is g e d) (refl, λ x a. refl)))
+      where
+        at : (byName : Bool) → Placed text t n q (kindOf byName) is → Leaves p ks (sortedPlace text q done)
+        at byName w =
+            let s = sorted-children byName q is w in
+            rw (sorted-as byName q is w) (
+              s .words p orderedFirstWord (omega arith) (λ e. absurd (omega arith)) (λ e. z),
+              (λ x a. s .words x orderedNextWord (omega arith) (λ e. un-true (among x (numsOf is)) (λ b. z (sym (parent-said text t p x ks (h .rep) a) ∙ parent-said text t q x is (w .rep) b))) (λ e. absurd (omega arith))),
+            )
+
+  -- ---- each place that is done is in line
+  module _ (root : Spot) (good : Good n root) (rep : Rep text t root) (fit : FitS root) (cover : (q : ℕ) → q < n → within q root ≡ true) where
+    in-line : (byName : Bool) (p : ℕ) (ks : Spots) → Placed text t n p (kindOf byName) ks → (j : ℕ) → j ≤ n → p < j → InLine (isBefore text t byName) (numsOf ks) p (sortedPlaces text t j)
+    unfolding sortedPlaces
+    in-line byName p ks h zero l b = absurd (omega arith)
+    in-line byName p ks h (suc j) l b =
+        cases (eqb p j)
+        (λ e. let d : p ≡ j = eqb-true p j e in rw (← d) (rw (sorted-as p (omega arith) byName p ks h) (sorted-children p (omega arith) byName p ks h .line)))
+        (λ e.
+        let z : p ≡ j → ⊥ = eqb-false p j e in
+        find text t n j root good rep fit (cover j (omega arith)) λ i is g.
+        let w = leaves j (omega arith) p (kindOf byName) j ks i is z h g in
+        line-kept (isBefore text t byName) (numsOf ks) p (sortedPlaces text t j) (sortedPlace text j (sortedPlaces text t j)) (w .0) (w .1) (in-line byName p ks h j (omega arith) (omega arith)))
+
+    abbrev ordered : List ℕ
+    ordered = sortedPlaces text t n
+
+    positive : (p : ℕ) (ks : Spots) → GoodIn n p ks → among 0 (numsOf ks) ≡ false
+    positive p ks g = un-true (among 0 (numsOf ks)) (λ e. omega (arith, bounds n p 0 ks g e .0))
+
+    -- a place's children sorted are gone through
+    sortedly : (byName sorted : Bool) (p : ℕ) (ks : Spots) → Placed text t n p (kindOf byName) ks → isOrdered sorted (kindOf byName) ≡ true → Enumerates ordered sorted (kindOf byName) p 0 (sortBy (frontOf byName) ks)
+    unfolding nextChild nextOrdered if_then_else_
+    sortedly byName sorted p ks h o =
+        let w = in-line byName p ks h n (omega arith) (h .below) in
+        let is : numsOf (sortBy (frontOf byName) ks) ≡ w .list =
+        unique (isBefore text t byName) (irreflexive text t byName) (transitive text t byName) (numsOf (sortBy (frontOf byName) ks)) (w .list)
+        (sorted-sort (frontOf byName) (isBefore text t byName) (transitive text t byName) ks (apart byName p ks h)) (w .sorted) (λ z. among-sort (frontOf byName) z ks ∙ sym (w .members z)) in
+        enumerated ordered sorted (kindOf byName) p orderedNextWord 0 (sortBy (frontOf byName) ks) (λ x z. rw (o, ne-eqb x 0 z)) (among-sort (frontOf byName) 0 ks ∙ positive p ks (h .good)) (rw (o, is) (w .chain))
+
+    plainly : (sorted : Bool) (p k : ℕ) (ks : Spots) → Placed text t n p k ks → isOrdered sorted k ≡ false → Enumerates ordered sorted k p 0 ks
+    unfolding nextChild if_then_else_
+    plainly sorted p k ks h o =
+        enumerated ordered sorted k p nextWord 0 ks (λ x z. rw (o, ne-eqb x 0 z)) (positive p ks (h .good))
+        (rw (o, link-same t ordered p firstWord (same n (omega arith) p firstWord (omega arith) (λ e. omega arith) (λ e. omega arith)))
+        (chain-kept t ordered nextWord (linkAt t p firstWord) (numsOf ks) (λ x e. same n (omega arith) x nextWord (omega arith) (λ d. omega arith) (λ d. omega arith))
+        (chain-said text t n p p (linkAt t p firstWord) ks most (h .good) (h .rep) (link-is t p firstWord (firstOf ks) (h .first) (first-below n p ks most (h .good))))))
+
+    order-at : (sorted : Bool) (p k : ℕ) (ks : Spots) → Placed text t n p k ks → Enumerates ordered sorted k p 0 (orderS sorted k ks)
+    unfolding orderS isOrdered if_then_else_
+    order-at sorted p k ks h =
+        cases (eqb k unionKind)
+        (λ u. let z : k ≡ unionKind = eqb-true k unionKind u in rw (u, z, ← (sort-number ks)) (sortedly false sorted p ks (rw z at h) refl))
+        (λ u.
+        cases (sorted && eqb k mapModeKind)
+        (λ v. both sorted (eqb k mapModeKind) v λ a b. let z : k ≡ mapModeKind = eqb-true k mapModeKind b in rw (u, v, z, ← (sort-name ks)) (sortedly true sorted p ks (rw z at h) (rw a)))
+        (λ v. rw (u, v) (plainly sorted p k ks h (rw (u, v)))))
+
+    -- ---- a union's numbers rise
+    abbrev NumberIs : ℕ → Step → ℕ → ℕ → Spot → Type 0
+    NumberIs slot s h m u = (variantAt t (num u) ≡ variantOf s) × (slot ≤ variantOf s)
+
+    numbers-said : (p : ℕ) (ks : Spots) → RepIn text t p ks → AllS (NumberIs 0) ks
+    numbers-said p no-spots r = tt
+    numbers-said p (child s h m u ks) r = ((child-variant text t (num u) (firstOf ks) p s h m (r .0), omega arith), numbers-said p ks (r .2))
+
+    raised : (slot low x : ℕ) (ks : Spots) → variantAt t x ≡ slot → AllS (NumberIs low) ks → ((y : ℕ) → among y (numsOf ks) ≡ true → isBefore text t false x y ≡ true) → AllS (NumberIs (slot + 1)) ks
+    unfolding isBefore if_then_else_
+    raised slot low x no-spots v a o = tt
+    raised slot low x (child s h m u ks) v a o =
+        let l : variantAt t x < variantAt t (num u) = ltb-true (variantAt t x) (variantAt t (num u)) (o (num u) (here (num u) (numsOf ks))) in
+        ((a .0 .0, omega (arith, a .0 .0)), raised slot low x ks v (a .1) (λ y e. o y (or-right (eqb y (num u)) (among y (numsOf ks)) e)))
+
+    rising : (slot : ℕ) (ks : Spots) → AllS (NumberIs slot) ks → Sorted (isBefore text t false) (numsOf ks) → Rising slot ks
+    rising slot no-spots a o = tt
+    rising slot (child s h m u ks) a o = (a .0 .1, rising (variantOf s + 1) ks (raised (variantOf s) slot (num u) ks (a .0 .0) (a .1) (o .0)) (o .1))
+
+    rises-at : (p k : ℕ) (ks : Spots) → Placed text t n p k ks → eqb k unionKind ≡ true → Rising 0 (orderS false k ks)
+    unfolding orderS if_then_else_
+    rises-at p k ks h e =
+        let z : k ≡ unionKind = eqb-true k unionKind e in
+        let o = sorted-sort numberFront (isBefore text t false) (transitive text t false) ks (apart false p ks (rw z at h)) in
+        rw e (rising 0 (byNumberS ks) (number-all (NumberIs 0) ks (numbers-said p ks (h .rep))) (rw (sort-number ks) at o))
+
+    -- ---- at every place of the tree
+    mutual
+      orders-from : (u : Spot) → Good n u → Rep text t u → FitS u → Orders ordered u
+      orders-from (spot p b k m ks) g r f =
+          let h = placed text t n p b k m ks g r f in
+          (order-at false p k ks h, order-at true p k ks h, orders-in p p k ks (g .2) (r .1) (f .1), rises-at p k ks h)
+
+      orders-in : (c p k : ℕ) (ks : Spots) → GoodIn n c ks → RepIn text t p ks → FitIn k ks → OrdersIn ordered ks
+      orders-in c p k no-spots g r f = tt
+      orders-in c p k (child s h m u ks) g r f = (orders-from u (g .1) (r .1) (f .1), orders-in (num u) p k ks (g .3) (r .2) (f .2))
+
+    pub orders : Orders ordered root
+    orders = orders-from root good rep fit
+
+-- ---- the sorted table says the same tree
+module _ (text t u : List ℕ) (same : (q f : ℕ) → f < 16 → (f ≡ orderedFirstWord → ⊥) → (f ≡ orderedNextWord → ⊥) → word u q f ≡ word t q f) where
+  mutual
+    still-says : (v : Spot) → Rep text t v → Rep text u v
+    still-says (spot p b k m ks) r = ((λ f l. same p (0 + f) (omega arith) (λ e. omega arith) (λ e. omega arith) ∙ r .0 f l), still-in p ks (r .1))
+
+    still-in : (p : ℕ) (ks : Spots) → RepIn text t p ks → RepIn text u p ks
+    still-in p no-spots r = tt
+    still-in p (child s h m v ks) r =
+        let c = r .0 in
+        (record { name = c .name; row = λ f l. same (num v) (8 + f) (omega arith) (λ e. omega arith) (λ e. omega arith) ∙ c .row f l; inside = c .inside; says = c .says }, still-says v (r .1), still-in p ks (r .2))
+
+pub says-ordered : (text t : List ℕ) (n : ℕ) (u : Spot) → n ≤ placeLimit → Rep text t u → Rep text (sortedPlaces text t n) u
+says-ordered text t n u most r = still-says text t (sortedPlaces text t n) (words-ordered text t n most) u r

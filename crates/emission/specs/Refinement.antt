@@ -16,22 +16,25 @@ use Rattle.refusal.specs.Number.{nullableRoot, nullRoot, rootNotStruct}
 use Rattle.equality.specs.Base.{not-refused}
 use Rattle.model.specs.Result.{Result, accepted, refused}
 use Rattle.model.specs.Reading.{values}
-use Rattle.model.specs.Tracing.{trace, Counted, counted}
+use Rattle.model.specs.Tracing.{trace, placeLimit, Counted, counted}
 use Rattle.model.specs.Emission.{placeOf, walk, Field, mk, Fields, fieldOf, rootFields, rootName, toSchema, namesIn, columnsIn, countIn}
 use Rattle.model.specs.Answer.{tableWords, inputLimit, schemaOf}
 use Rattle.samples.specs.declared.Traced.the-variants as T
 use Rattle.samples.specs.Flat.{out, fromSamples}
 use Rattle.refine.specs.Spots.{Spot, spot, Spots, no-spots, child, num}
 use Rattle.refine.specs.Commands.{Bytes}
-use Rattle.refine.specs.Rep.{Fits}
+use Rattle.refine.specs.Numbers.{Good}
+use Rattle.refine.specs.Rep.{Rep, Fits}
 use Rattle.refine.specs.Erase.{erase, erased, walk-is-model}
 use Rattle.refine.specs.Whole.{Ends, ends, flat-is-walk}
 use Rattle.walk.specs.declared.Walked.{Walked}
 use Rattle.walk.specs.declared.Walked.the-variants as W
 use Rattle.walk.specs.Walk.{walked}
 use Rattle.schema.specs.Emit.{Answered, levelLimit, finished, onWalked, toSchemaAt}
-use Rattle.emission.specs.Arranged.{FitS}
-use Rattle.emission.specs.Order.{orders}
+use Rattle.order.specs.Flat.{sortedPlaces}
+use Rattle.emission.specs.Arranged.{Orders, FitS}
+use Rattle.emission.specs.Order.{orders, says-ordered}
+use Rattle.emission.specs.Cover.{cover}
 use Rattle.emission.specs.Fit.{fit}
 use Rattle.emission.specs.FirstPlaces.{manyS}
 use Rattle.emission.specs.FirstChildren.{fieldsOfField}
@@ -69,7 +72,7 @@ mutual
   neat-sane-in k no-spots is = tt
   neat-sane-in k (child s h m u ks) (v, i, is) = (neat-sane u i, neat-sane-in k ks is)
 
-module _ (options end : ℕ) (text t fields names : List ℕ) (n : ℕ) (u : Spot) (fits : Fits text t n u) (root : num u ≡ 0) (fit : FitS u) (neat : Neat u) where
+module _ (options end : ℕ) (text t fields names : List ℕ) (n : ℕ) (u : Spot) (most : n ≤ placeLimit) (good : Good n u) (rep : Rep text t u) (root : num u ≡ 0) (fit : FitS u) (neat : Neat u) (orders : Orders t u) where
   abbrev fs : Fields
   fs = fieldsOfField (fieldOf options rootName 0 (placeOf false (erase u)))
 
@@ -84,13 +87,13 @@ module _ (options end : ℕ) (text t fields names : List ℕ) (n : ℕ) (u : Spo
   unfolding toSchema toSchemaAt
   emitted-is-model =
       go (walked options text t levelLimit 0)
-      (rw root at (first-walk options text t n u false rootName 0 levelLimit (fits .most) (fits .good) (fits .rep) fit (orders text t n u (fits .most) (fits .good) (fits .rep) fit) (neat-sane u neat) (omega (arith, fits .most))))
+      (rw root at (first-walk options text t n u false rootName 0 levelLimit most good rep fit orders (neat-sane u neat) (omega arith)))
     where
       go : (w : Walked) → WalkSays w (walk options (placeOf false (erase u))) fs → Emits fields names (elim (walk options (placeOf false (erase u))) [ some refusal ↦ refused refusal end | none ↦ rootFields end (fieldOf options rootName 0 (placeOf false (erase u))) ]) (onWalked (finished options text t fields names) fields names w)
       go (W.Refused refusal) e = rw e (refusal, refl, refl)
       go (W.Below records bytes columns) (e, r, b, c) =
           rw e (counts-are records bytes columns _ _ refl r b c
-          (finishes options text t fields names end records bytes columns n u rootName (fits .most) root (fits .good) (fits .rep) fit (orders text t n u (fits .most) (fits .good) (fits .rep) fit) neat e r b))
+          (finishes options text t fields names end records bytes columns n u rootName most root good rep fit orders neat e r b))
 
 -- ---- of a batch that was traced
 -- the numbered tree that the table says
@@ -99,9 +102,11 @@ tree-said (ends {u = u} z h) = (u, refl, z, h)
 
 pub schema-is-model : (options : ℕ) (commands text t : List ℕ) → Bytes commands → length commands ≤ inputLimit → tableWords ≤ length t → (behind n : ℕ) (traced fields names : List ℕ) →
     fromSamples commands text options (cleared t tableWords) ≡ out (T.Next behind n) traced →
-    Emits fields names (schemaOf (record { options = options; commands = commands; text = text })) (toSchemaAt options text traced fields names)
+    Emits fields names (schemaOf (record { options = options; commands = commands; text = text })) (toSchemaAt options text (sortedPlaces text traced n) fields names)
 unfolding schemaOf
 schema-is-model options commands text t bytes short long behind n traced fields names e =
     let (u, is, root, fits) = tree-said (rw e at (flat-is-walk options commands text t bytes long)) in
     let tree : trace options (values options commands text) ≡ counted n (erase u) = sym (walk-is-model options commands text short) ∙ ap erased is in
-    rw tree (emitted-is-model options (length commands) text traced fields names n u fits root (fit options commands text bytes n u is) (neat options commands text n u short is))
+    let fitting : FitS u = fit options commands text bytes n u is in
+    let in-order = orders text traced n (fits .most) (fits .room) u (fits .good) (fits .rep) fitting (cover options commands text n u is) in
+    rw tree (emitted-is-model options (length commands) text (sortedPlaces text traced n) fields names n u (fits .most) (fits .good) (says-ordered text traced n u (fits .most) (fits .rep)) root fitting (neat options commands text n u short is) in-order)

@@ -27,11 +27,12 @@ use Rattle.refine.specs.Spots.{Spot, spot, Spots, no-spots, child, num, kindS}
 use Rattle.refine.specs.Numbers.{Good}
 use Rattle.refine.specs.Rep.{Rep, Row, ownWords}
 use Rattle.refine.specs.Erase.{erase, eraseIn}
-use Rattle.walk.specs.Order.{variantAt, childName, nearerVariant, nearestFrom, nearest, nextChild, childLimit, datalessAt}
+use Rattle.order.specs.Flat.{variantAt}
+use Rattle.walk.specs.Order.{childName, nextChild, childLimit, datalessAt}
 use Rattle.walk.specs.Walk.{sumOf, gapsAt}
 use Rattle.schema.specs.Put.{recordOf}
 use Rattle.schema.specs.Emit.{countFrom, fieldCount, isDictionary, Writing, writing, both, gapsIn, entriesIn, fieldAt, isLeaf, Writer, childIn, fieldsFrom, fieldsBelow, emittedBy, emittedAt, levelLimit}
-use Rattle.emission.specs.Arranged.{byNumberS, insertNameS, byNameS, orderS, Enumerates, Orders, FitS}
+use Rattle.emission.specs.Arranged.{byNumberS, insertNameS, byNameS, orderS, Enumerates, Rising, Orders, FitS}
 use Rattle.emission.specs.SecondPut.{wrote, Writes, writes-none, writes-next, writes-as, writes-both, record-is, gapRecords, gap-records, gap-names, gap-count, writes-gaps, writes-entries, entries-none}
 use Rattle.emission.specs.FirstPlaces.{manyS, AllS}
 use Rattle.emission.specs.FirstChildren.{fieldsOfField}
@@ -154,51 +155,13 @@ small k s f g =
 abbrev slotAfter : List ℕ → ℕ → ℕ
 slotAfter t last = if eqb last 0 then 0 else variantAt t last + 1
 
-module _ (text t : List ℕ) (last : ℕ) where
-  nearer-after : (best q : ℕ) → nearerVariant t last best q ≡ true → slotAfter t last ≤ variantAt t q
-  unfolding nearerVariant if_then_else_
-  nearer-after best q e =
-      both-are (eqb last 0 || ltb (variantAt t last) (variantAt t q)) (eqb best 0 || ltb (variantAt t q) (variantAt t best)) e λ a b.
-      cases (eqb last 0) (λ f. rw f (omega arith)) (λ f. let a′ : ltb (variantAt t last) (variantAt t q) ≡ true = rw f at a in let l : variantAt t last < variantAt t q = ltb-true (variantAt t last) (variantAt t q) a′ in rw f (omega arith))
-
-  nearest-after : (left best q : ℕ) → ((best ≡ 0 → ⊥) → slotAfter t last ≤ variantAt t best)
-      → (nearestFrom text t false last left best q ≡ 0 → ⊥) → slotAfter t last ≤ variantAt t (nearestFrom text t false last left best q)
-  unfolding nearestFrom if_then_else_
-  nearest-after zero best q h z = h z
-  nearest-after (suc left) best q h z =
-      cases (eqb q 0)
-      (λ e. let z′ : best ≡ 0 → ⊥ = rw (e, nearestFrom) at z in rw (e, nearestFrom) (h z′))
-      (λ e. cases (nearerVariant t last best q)
-      (λ f. let ih = nearest-after left q (word t q nextWord) (λ y. nearer-after best q f) in go e f z ih)
-      (λ f. let ih = nearest-after left best (word t q nextWord) h in stay e f z ih))
-    where
-      go : eqb q 0 ≡ false → nearerVariant t last best q ≡ true → (nearestFrom text t false last (suc left) best q ≡ 0 → ⊥)
-          → ((nearestFrom text t false last left q (word t q nextWord) ≡ 0 → ⊥) → slotAfter t last ≤ variantAt t (nearestFrom text t false last left q (word t q nextWord)))
-          → slotAfter t last ≤ variantAt t (nearestFrom text t false last (suc left) best q)
-      go e f z ih =
-          let d : nearestFrom text t false last (suc left) best q ≡ nearestFrom text t false last left q (word t q nextWord) = rw (e, nearestFrom) (rw f refl) in
-          rw d (ih (rw d at z))
-
-      stay : eqb q 0 ≡ false → nearerVariant t last best q ≡ false → (nearestFrom text t false last (suc left) best q ≡ 0 → ⊥)
-          → ((nearestFrom text t false last left best (word t q nextWord) ≡ 0 → ⊥) → slotAfter t last ≤ variantAt t (nearestFrom text t false last left best (word t q nextWord)))
-          → slotAfter t last ≤ variantAt t (nearestFrom text t false last (suc left) best q)
-      stay e f z ih =
-          let d : nearestFrom text t false last (suc left) best q ≡ nearestFrom text t false last left best (word t q nextWord) = rw (e, nearestFrom) (rw f refl) in
-          rw d (ih (rw d at z))
-
-  pub next-after : (p q : ℕ) → nextChild text t false unionKind p last ≡ q → 0 < q → slotAfter t last ≤ variantAt t q
-  unfolding nextChild if_then_else_
-  next-after p q e l =
-      let e′ : nearest text t false p last ≡ q = e in
-      rw e′ at (nearest-after childLimit 0 (word t p firstWord) (λ y. absurd (y refl)) (λ z. let w : q ≡ 0 = sym e′ ∙ z in omega arith))
-
 module _ (options : ℕ) (text t : List ℕ) (n p k m : ℕ) where
   abbrev Told : Step → ℕ → ℕ → Spot → Type 0
   Told s h x u = Kid text t n k p s h x u × Passed options k m s h x u
 
   -- outside unions as many as children
-  count-plain : (left c last : ℕ) (ks : Spots) → eqb k unionKind ≡ false → manyS ks ≤ left → c + left ≤ 2048 → AllS Told ks → Enumerates text t false k p last ks
-      → countFrom text t k p left c (nextChild text t false k p last) ≡ c + manyS ks
+  count-plain : (left c last : ℕ) (ks : Spots) → eqb k unionKind ≡ false → manyS ks ≤ left → c + left ≤ 2048 → AllS Told ks → Enumerates t false k p last ks
+      → countFrom t k p left c (nextChild t false k p last) ≡ c + manyS ks
   unfolding countFrom if_then_else_
   count-plain zero c last no-spots f l z a h = omega arith
   count-plain (suc left) c last no-spots f l z a h = rw h (omega arith)
@@ -214,36 +177,35 @@ module _ (options : ℕ) (text t : List ℕ) (n p k m : ℕ) where
   fields-plain slot (child s i j u ks) f = rw f (ap suc (fields-plain (variantOf s + 1) ks f))
 
   -- of a union up to the last slot
-  count-union : (left last : ℕ) (ks : Spots) → eqb k unionKind ≡ true → manyS ks ≤ left → slotAfter t last ≤ 128 → AllS Told ks → Enumerates text t false k p last ks
-      → (countFrom text t k p left (slotAfter t last) (nextChild text t false k p last) ≡ slotAfter t last + childCount (fieldsS options k m (slotAfter t last) ks))
+  count-union : (left last : ℕ) (ks : Spots) → eqb k unionKind ≡ true → manyS ks ≤ left → slotAfter t last ≤ 128 → AllS Told ks → Rising (slotAfter t last) ks → Enumerates t false k p last ks
+      → (countFrom t k p left (slotAfter t last) (nextChild t false k p last) ≡ slotAfter t last + childCount (fieldsS options k m (slotAfter t last) ks))
       × (slotAfter t last + childCount (fieldsS options k m (slotAfter t last) ks) ≤ 128)
   unfolding countFrom fieldsOf placesOf if_then_else_
-  count-union zero last no-spots f l z a h = (omega arith, omega arith)
-  count-union (suc left) last no-spots f l z a h = ((rw h (omega arith)), omega arith)
-  count-union zero last (child s i j u ks) f l z a h = absurd (omega arith)
-  count-union (suc left) last (child s i j u ks) f l z a h =
+  count-union zero last no-spots f l z a y h = (omega arith, omega arith)
+  count-union (suc left) last no-spots f l z a y h = ((rw h (omega arith)), omega arith)
+  count-union zero last (child s i j u ks) f l z a y h = absurd (omega arith)
+  count-union (suc left) last (child s i j u ks) f l z a y h =
       let up : 0 < num u = omega (arith, a .0 .0 .above) in
       let no : eqb (num u) 0 ≡ false = ne-eqb (num u) 0 (omega arith) in
       let v : variantAt t (num u) ≡ variantOf s = variant-is (a .0 .0 .cell) in
       let few : variantOf s < 128 = small k s (a .0 .1 .0) (a .0 .0 .plain) in
-      let un : k ≡ unionKind = eqb-true k unionKind f in
-      let after : slotAfter t last ≤ variantAt t (num u) = next-after text t last p (num u) (rw un at (h .0)) up in
+      let after : slotAfter t last ≤ variantAt t (num u) = rw v (y .0) in
       let sl : slotAfter t (num u) ≡ variantOf s + 1 = rw (no, v) refl in
       let on : sumOf (variantAt t (num u)) 1 ≡ variantOf s + 1 = rw v (let x : variantOf s + 1 < 2 ^ 32 = omega arith in mod-eq-of-lt x) in
-      let ih = count-union left (num u) ks f (omega arith) (omega arith) (a .1) (h .1) in
+      let ih = count-union left (num u) ks f (omega arith) (omega arith) (a .1) (rw sl (y .1)) (h .1) in
       let ih′ = rw sl at ih in
       let g = gap-count (slotAfter t last) (variantOf s - slotAfter t last) (more (fieldOf options (nameOf s) (variantOf s) (placeOf (isMissing k m i) (erase u))) (fieldsS options k m (variantOf s + 1) ks)) in (
         rw (h .0) (rw (no, countFrom) (rw (f, on, ih′ .0, g) (omega arith))),
         rw (f, g) (omega (arith, ih′ .1)),
       )
 
-  counted : (ks : Spots) → eqb k mapKind ≡ false → manyS ks < 1024 → AllS Told (orderS false k ks) → Enumerates text t false k p 0 (orderS false k ks)
-      → (fieldCount text t k p ≡ childCount (fieldsS options k m 0 (orderS true k ks))) × (childCount (fieldsS options k m 0 (orderS true k ks)) < 65536)
+  counted : (ks : Spots) → eqb k mapKind ≡ false → manyS ks < 1024 → AllS Told (orderS false k ks) → (eqb k unionKind ≡ true → Rising 0 (orderS false k ks)) → Enumerates t false k p 0 (orderS false k ks)
+      → (fieldCount t k p ≡ childCount (fieldsS options k m 0 (orderS true k ks))) × (childCount (fieldsS options k m 0 (orderS true k ks)) < 65536)
   unfolding fieldCount if_then_else_
-  counted ks e l a h = rw e (cases (eqb k unionKind)
+  counted ks e l a y h = rw e (cases (eqb k unionKind)
       (λ f.
       let same : orderS true k ks ≡ orderS false k ks = same-order k ks f in
-      let c = count-union childLimit 0 (orderS false k ks) f (rw count-order (omega arith)) (omega arith) a h in
+      let c = count-union childLimit 0 (orderS false k ks) f (rw count-order (omega arith)) (omega arith) a (y f) h in
       rw same (c .0 ∙ omega arith, omega (arith, c .1)))
       (λ f.
       let c = count-plain childLimit 0 0 (orderS false k ks) f (rw count-order (omega arith)) (omega arith) a h in
@@ -280,8 +242,8 @@ module _ (options : ℕ) (text t : List ℕ) (n p k m : ℕ) where
       let md : variantOf s % 256 ≡ variantOf s = let y : variantOf s < 256 = omega arith in mod-eq-of-lt y in
       rw (gaps-at slot s (num u) v, v, he, sm, md) refl
 
-  fields-write : (inner : Writer) (left slot last : ℕ) (ks : Spots) → manyS ks ≤ left → slot ≤ 128 → word t p samplesWord ≡ m → AllS (Inner inner) ks → Enumerates text t true k p last ks
-      → Writes (fieldsFrom text t inner k p left slot (nextChild text t true k p last)) (recordsIn (fieldsS options k m slot ks)) (namesIn (fieldsS options k m slot ks))
+  fields-write : (inner : Writer) (left slot last : ℕ) (ks : Spots) → manyS ks ≤ left → slot ≤ 128 → word t p samplesWord ≡ m → AllS (Inner inner) ks → Enumerates t true k p last ks
+      → Writes (fieldsFrom t inner k p left slot (nextChild t true k p last)) (recordsIn (fieldsS options k m slot ks)) (namesIn (fieldsS options k m slot ks))
   unfolding fieldsFrom fieldsOf placesOf recordsIn namesIn
   fields-write inner zero slot last no-spots l z sm a h w room = writes-none w room
   fields-write inner (suc left) slot last no-spots l z sm a h w room = rw h (writes-none w room)
@@ -294,38 +256,38 @@ module _ (options : ℕ) (text t : List ℕ) (n p k m : ℕ) where
       let fs : Fields = fieldsS options k m (variantOf s + 1) ks in
       let ih = fields-write inner left (variantOf s + 1) (num u) ks (omega arith) (omega arith) sm (a .1) (h .1) in
       let one-child = writes-next (gapsIn slot (gapsOf slot s)) (inner (num u) (isMissing k m i) (variantOf s)) (gapRecords slot (gapsOf slot s)) [] (recordsOf f) (namesOf f) (writes-gaps slot (gapsOf slot s) (gaps-fit slot s z few)) (a .0 .1) in
-      let all = writes-next (λ y. inner (num u) (isMissing k m i) (variantOf s) (gapsIn slot (gapsOf slot s) y)) (fieldsFrom text t inner k p left (variantOf s + 1) (nextChild text t true k p (num u)))
+      let all = writes-next (λ y. inner (num u) (isMissing k m i) (variantOf s) (gapsIn slot (gapsOf slot s) y)) (fieldsFrom t inner k p left (variantOf s + 1) (nextChild t true k p (num u)))
       (gapRecords slot (gapsOf slot s) ++ recordsOf f) (namesOf f) (recordsIn fs) (namesIn fs) one-child ih in
       let er : (gapRecords slot (gapsOf slot s) ++ recordsOf f) ++ recordsIn fs ≡ recordsIn (gaps slot (gapsOf slot s) (more f fs)) =
       append-assoc (gapRecords slot (gapsOf slot s)) (recordsOf f) (recordsIn fs) ∙ sym (gap-records slot (gapsOf slot s) (more f fs)) in
       let en : namesOf f ++ namesIn fs ≡ namesIn (gaps slot (gapsOf slot s) (more f fs)) = sym (gap-names slot (gapsOf slot s) (more f fs)) in
-      let step : fieldsFrom text t inner k p (suc left) slot (nextChild text t true k p last) w
-      ≡ fieldsFrom text t inner k p left (variantOf s + 1) (nextChild text t true k p (num u)) (inner (num u) (isMissing k m i) (variantOf s) (gapsIn slot (gapsOf slot s) w)) =
+      let step : fieldsFrom t inner k p (suc left) slot (nextChild t true k p last) w
+      ≡ fieldsFrom t inner k p left (variantOf s + 1) (nextChild t true k p (num u)) (inner (num u) (isMissing k m i) (variantOf s) (gapsIn slot (gapsOf slot s) w)) =
       rw (h .0) (rw (ne-eqb (num u) 0 (omega (arith, a .0 .0 .0 .above)), fieldsFrom) (rw (on, child-in inner slot s i j u w sm (a .0 .0)) refl)) in
-      step ∙ writes-as (λ y. fieldsFrom text t inner k p left (variantOf s + 1) (nextChild text t true k p (num u)) (inner (num u) (isMissing k m i) (variantOf s) (gapsIn slot (gapsOf slot s) y)))
+      step ∙ writes-as (λ y. fieldsFrom t inner k p left (variantOf s + 1) (nextChild t true k p (num u)) (inner (num u) (isMissing k m i) (variantOf s) (gapsIn slot (gapsOf slot s) y)))
       _ _ _ _ er en all w room
 
   -- with a map's entries
-  below-write : (inner : Writer) (ks : Spots) → manyS ks < 1024 → (eqb k mapKind ≡ true → manyS ks ≡ 2) → word t p samplesWord ≡ m → AllS (Inner inner) (orderS true k ks) → Enumerates text t true k p 0 (orderS true k ks)
-      → Writes (fieldsBelow text t inner k p) (recordsIn (arranged k (fieldsS options k m 0 (orderS false k ks)))) (namesIn (arranged k (fieldsS options k m 0 (orderS false k ks))))
+  below-write : (inner : Writer) (ks : Spots) → manyS ks < 1024 → (eqb k mapKind ≡ true → manyS ks ≡ 2) → word t p samplesWord ≡ m → AllS (Inner inner) (orderS true k ks) → Enumerates t true k p 0 (orderS true k ks)
+      → Writes (fieldsBelow t inner k p) (recordsIn (arranged k (fieldsS options k m 0 (orderS false k ks)))) (namesIn (arranged k (fieldsS options k m 0 (orderS false k ks))))
   below-write inner ks l two sm a h w room = cases (eqb k mapKind) (λ e. with-entries e w room) (λ e. without e w room)
     where
       fs : Fields
       fs = fieldsS options k m 0 (orderS true k ks)
 
-      all : Writes (fieldsFrom text t inner k p childLimit 0 (nextChild text t true k p 0)) (recordsIn fs) (namesIn fs)
+      all : Writes (fieldsFrom t inner k p childLimit 0 (nextChild t true k p 0)) (recordsIn fs) (namesIn fs)
       all = fields-write inner childLimit 0 0 (orderS true k ks) (rw count-order (omega arith)) (omega arith) sm a h
 
-      without : eqb k mapKind ≡ false → Writes (fieldsBelow text t inner k p) (recordsIn (arranged k (fieldsS options k m 0 (orderS false k ks)))) (namesIn (arranged k (fieldsS options k m 0 (orderS false k ks))))
+      without : eqb k mapKind ≡ false → Writes (fieldsBelow t inner k p) (recordsIn (arranged k (fieldsS options k m 0 (orderS false k ks)))) (namesIn (arranged k (fieldsS options k m 0 (orderS false k ks))))
       without e w room = rw (entries-none k w e, arranged-is options k m ks e) (all w (rw (arranged-is options k m ks e) at room))
 
-      with-entries : eqb k mapKind ≡ true → Writes (fieldsBelow text t inner k p) (recordsIn (arranged k (fieldsS options k m 0 (orderS false k ks)))) (namesIn (arranged k (fieldsS options k m 0 (orderS false k ks))))
+      with-entries : eqb k mapKind ≡ true → Writes (fieldsBelow t inner k p) (recordsIn (arranged k (fieldsS options k m 0 (orderS false k ks)))) (namesIn (arranged k (fieldsS options k m 0 (orderS false k ks))))
       with-entries e =
           let un : eqb k unionKind ≡ false = (let z : k ≡ mapKind = eqb-true k mapKind e in rw z refl) in
           let c : childCount fs ≡ 2 = fields-plain 0 (orderS true k ks) un ∙ count-order true k ks ∙ two e in
           rw (arranged-map options k m ks e)
-          (writes-as (fieldsBelow text t inner k p) _ _ _ _ (entries-records fs c) (entries-names fs)
-          (writes-next (entriesIn k) (fieldsFrom text t inner k p childLimit 0 (nextChild text t true k p 0)) (recordOf struct false noStrategy 0 (length entriesName) 2) entriesName (recordsIn fs) (namesIn fs)
+          (writes-as (fieldsBelow t inner k p) _ _ _ _ (entries-records fs c) (entries-names fs)
+          (writes-next (entriesIn k) (fieldsFrom t inner k p childLimit 0 (nextChild t true k p 0)) (recordOf struct false noStrategy 0 (length entriesName) 2) entriesName (recordsIn fs) (namesIn fs)
           (entries-write k e) all))
 
 -- ---- a place
@@ -361,45 +323,45 @@ arranged-none options k m c =
     let l : k < sequenceKind = leb-false sequenceKind k c in
     rw (ne-eqb k unionKind (omega arith), ne-eqb k mapKind (omega arith), ne-eqb k mapModeKind (omega arith)) refl
 
-count-none : (options : ℕ) (text t : List ℕ) (n p k m : ℕ) → isContainer k ≡ false → Enumerates text t false k p 0 (orderS false k no-spots) → fieldCount text t k p ≡ 0
+count-none : (options : ℕ) (text t : List ℕ) (n p k m : ℕ) → isContainer k ≡ false → Enumerates t false k p 0 (orderS false k no-spots) → fieldCount t k p ≡ 0
 unfolding orderS
 count-none options text t n p k m c h =
     let l : k < sequenceKind = leb-false sequenceKind k c in
-    counted options text t n p k m no-spots (ne-eqb k mapKind (omega arith)) (omega arith) (all-order (Told options text t n p k m) false k no-spots tt) h .0
+    counted options text t n p k m no-spots (ne-eqb k mapKind (omega arith)) (omega arith) (all-order (Told options text t n p k m) false k no-spots tt) (λ e. absurd (let z : k ≡ unionKind = eqb-true k unionKind e in omega arith)) h .0
     ∙ ap childCount (sym (arranged-is options k m no-spots (ne-eqb k mapKind (omega arith))) ∙ arranged-none options k m c)
 
 module _ (options : ℕ) (text t : List ℕ) where
-  emitted-leaf : (levels p : ℕ) (lacking : Bool) (number : ℕ) (w : Writing) → isLeaf options text t false p ≡ true
+  emitted-leaf : (levels p : ℕ) (lacking : Bool) (number : ℕ) (w : Writing) → isLeaf options t false p ≡ true
       → emittedAt options text t (suc levels) p lacking number w ≡ fieldAt options text t p (lacking || eqb (word t p nullWord) 1) number w
   unfolding emittedAt emittedBy if_then_else_
   emitted-leaf levels p lacking number w e = rw e refl
 
-  emitted-below : (levels p : ℕ) (lacking : Bool) (number : ℕ) (w : Writing) → isLeaf options text t false p ≡ false
+  emitted-below : (levels p : ℕ) (lacking : Bool) (number : ℕ) (w : Writing) → isLeaf options t false p ≡ false
       → emittedAt options text t (suc levels) p lacking number w
-      ≡ fieldsBelow text t (emittedAt options text t levels) (word t p kindWord) p (fieldAt options text t p (lacking || eqb (word t p nullWord) 1) number w)
+      ≡ fieldsBelow t (emittedAt options text t levels) (word t p kindWord) p (fieldAt options text t p (lacking || eqb (word t p nullWord) 1) number w)
   unfolding emittedAt emittedBy if_then_else_
   emitted-below levels p lacking number w e = rw e refl
 
   module _ (n p : ℕ) (b : Bool) (k m : ℕ) (ks : Spots) (r : Row t p kindWord (k ∷ one b ∷ m ∷ [])) (few : manyS ks < 1024) (kids : AllS (Kid text t n k p) ks)
-      (order : Enumerates text t false k p 0 (orderS false k ks)) where
+      (order : Enumerates t false k p 0 (orderS false k ks)) where
     abbrev ps : Places
     ps = placesOf k m (eraseIn (orderS false k ks))
 
     abbrev asWords : Bool
     asWords = eqb k unionKind && dataless ps && enumsWithoutDataAsStrings options
 
-    dictionary-is : isDictionary options text t p ≡ asWords
+    dictionary-is : isDictionary options t p ≡ asWords
     dictionary-is =
         let e₀ : word t p kindWord ≡ k = r 0 (omega arith) in
         rw e₀ (cases (eqb k unionKind)
         (λ e.
         let z : k ≡ unionKind = eqb-true k unionKind e in
         let a : AllS (Kid text t n k p) (orderS false k ks) = all-order (Kid text t n k p) false k ks kids in
-        let d : datalessAt text t p ≡ dataless ps = union-dataless z (orderS false k ks) (rw count-order (omega arith)) a order in
+        let d : datalessAt t p ≡ dataless ps = union-dataless z (orderS false k ks) (rw count-order (omega arith)) a order in
         rw d (swap (eqb k unionKind) (enumsWithoutDataAsStrings options) (dataless ps)))
         (λ e. rw e refl))
       where
-        union-dataless : k ≡ unionKind → (is : Spots) → manyS is ≤ 1024 → AllS (Kid text t n k p) is → Enumerates text t false k p 0 is → datalessAt text t p ≡ dataless (placesOf k m (eraseIn is))
+        union-dataless : k ≡ unionKind → (is : Spots) → manyS is ≤ 1024 → AllS (Kid text t n k p) is → Enumerates t false k p 0 is → datalessAt t p ≡ dataless (placesOf k m (eraseIn is))
         union-dataless z is l a h = rw z (dataless-is text t n p m is l (rw z at a) (rw z at h))
 
     -- the record and the name of a dictionary, and of any other place
@@ -414,7 +376,7 @@ module _ (options : ℕ) (text t : List ℕ) where
         (writes-both (recordOf (dictionaryType options) (lacking || b) noStrategy number (length name) 0) name) in
         rw (dictionary-is ∙ d, e₁, one-is b, nm) (x w room)
 
-    own-field : (lacking : Bool) (number : ℕ) (name : List ℕ) (fs : Fields) → asWords ≡ false → childName text t p ≡ name → k < 256 → fieldCount text t k p ≡ childCount fs → childCount fs < 65536
+    own-field : (lacking : Bool) (number : ℕ) (name : List ℕ) (fs : Fields) → asWords ≡ false → childName text t p ≡ name → k < 256 → fieldCount t k p ≡ childCount fs → childCount fs < 65536
         → Writes (fieldAt options text t p (lacking || eqb (word t p nullWord) 1) number)
         (typeOf options k ∷ one (lacking || b) ∷ strategyOf k ∷ number ∷ twoBytes (length name) ++ twoBytes (childCount fs)) name
     unfolding fieldAt if_then_else_
@@ -428,23 +390,23 @@ module _ (options : ℕ) (text t : List ℕ) where
         (writes-both (recordOf (typeOf options k) (lacking || b) (strategyOf k) number (length name) (childCount fs)) name) in
         rw (dictionary-is ∙ d) (rw (e₀, e₁, one-is b, nm, ty, c) (x w room))
 
-    leaf-count : isContainer k ≡ false → ks ≡ no-spots → fieldCount text t k p ≡ 0
+    leaf-count : isContainer k ≡ false → ks ≡ no-spots → fieldCount t k p ≡ 0
     leaf-count c z = count-none options text t n p k m c (rw z at order)
 
-    counts : (eqb k mapKind ≡ true → manyS ks ≡ 2) → AllS (Told options text t n p k m) (orderS false k ks)
-        → (fieldCount text t k p ≡ childCount (arranged k (fieldsS options k m 0 (orderS false k ks)))) × (childCount (arranged k (fieldsS options k m 0 (orderS false k ks))) < 65536)
+    counts : (eqb k mapKind ≡ true → manyS ks ≡ 2) → AllS (Told options text t n p k m) (orderS false k ks) → (eqb k unionKind ≡ true → Rising 0 (orderS false k ks))
+        → (fieldCount t k p ≡ childCount (arranged k (fieldsS options k m 0 (orderS false k ks)))) × (childCount (arranged k (fieldsS options k m 0 (orderS false k ks))) < 65536)
     unfolding fieldCount if_then_else_
-    counts two told = cases (eqb k mapKind)
+    counts two told rises = cases (eqb k mapKind)
         (λ e. rw (arranged-map options k m ks e, e) (refl, omega arith))
-        (λ e. rw (arranged-is options k m ks e) (counted options text t n p k m ks e few told order))
+        (λ e. rw (arranged-is options k m ks e) (counted options text t n p k m ks e few told rises order))
 
-    leaf-is : (isContainer k ≡ true → asWords ≡ true) → isLeaf options text t false p ≡ true
+    leaf-is : (isContainer k ≡ true → asWords ≡ true) → isLeaf options t false p ≡ true
     unfolding isLeaf
     leaf-is h =
         let e₀ : word t p kindWord ≡ k = r 0 (omega arith) in
         rw (dictionary-is, e₀) (cases (isContainer k) (λ c. rw (c, h c) refl) (λ c. rw c refl))
 
-    inner-is : isContainer k ≡ true → asWords ≡ false → isLeaf options text t false p ≡ false
+    inner-is : isContainer k ≡ true → asWords ≡ false → isLeaf options t false p ≡ false
     unfolding isLeaf
     inner-is c d = let e₀ : word t p kindWord ≡ k = r 0 (omega arith) in rw (dictionary-is, e₀, c, d) refl
 
@@ -465,16 +427,16 @@ module _ (options : ℕ) (text t : List ℕ) where
           rw (emitted-leaf levels p lacking number w (leaf-is (λ c′. absurd (true≢false (sym c′ ∙ c)))), d, q)
           (writes-as (fieldAt options text t p (lacking || eqb (word t p nullWord) 1) number) _ name _ (name ++ []) (sym (append-nil _)) (sym (append-nil name)) own w (rw (d, q) at room))
 
-      place-inner : asWords ≡ false → isContainer k ≡ true → k < 256 → (eqb k mapKind ≡ true → manyS ks ≡ 2) → AllS (Told options text t n p k m) (orderS false k ks)
-          → AllS (Inner options text t n p k m (emittedAt options text t levels)) (orderS true k ks) → Enumerates text t true k p 0 (orderS true k ks)
+      place-inner : asWords ≡ false → isContainer k ≡ true → k < 256 → (eqb k mapKind ≡ true → manyS ks ≡ 2) → AllS (Told options text t n p k m) (orderS false k ks) → (eqb k unionKind ≡ true → Rising 0 (orderS false k ks))
+          → AllS (Inner options text t n p k m (emittedAt options text t levels)) (orderS true k ks) → Enumerates t true k p 0 (orderS true k ks)
           → Writes (emittedAt options text t (suc levels) p lacking number) (recordsOf it) (namesOf it)
       unfolding fieldOf recordsOf namesOf if_then_else_
-      place-inner d c kl two told inner h w room =
+      place-inner d c kl two told rises inner h w room =
           let e₀ : word t p kindWord ≡ k = r 0 (omega arith) in
           let fs : Fields = arranged k (fieldsS options k m 0 (orderS false k ks)) in
-          let own = own-field lacking number name fs d nm kl (counts two told .0) (counts two told .1) in
+          let own = own-field lacking number name fs d nm kl (counts two told rises .0) (counts two told rises .1) in
           let under = below-write options text t n p k m (emittedAt options text t levels) ks few two (r 2 (omega arith)) inner h in
-          let all = writes-next (fieldAt options text t p (lacking || eqb (word t p nullWord) 1) number) (fieldsBelow text t (emittedAt options text t levels) k p) _ name (recordsIn fs) (namesIn fs) own under in
+          let all = writes-next (fieldAt options text t p (lacking || eqb (word t p nullWord) 1) number) (fieldsBelow t (emittedAt options text t levels) k p) _ name (recordsIn fs) (namesIn fs) own under in
           rw (emitted-below levels p lacking number w (inner-is c d), e₀, d) (all w (rw d at room))
 
 -- ---- the second walk
@@ -493,7 +455,7 @@ module _ (options : ℕ) (text t : List ℕ) (n : ℕ) (most : n ≤ placeLimit)
       zip (Kid text t n k p) (Passed options k m) (orderS false k ks) (all-order (Kid text t n k p) false k ks kids)
       (passed options k m (orderS false k ks) (walk-below options (lacking || b) k (placesOf k m (eraseIn (orderS false k ks))) c d (rw (place-is lacking p b k m ks) at e)))
 
-  pub second : (levels : ℕ) (u : Spot) (lacking : Bool) (number : ℕ) (name : List ℕ) → childName text t (num u) ≡ name → Good n u → Rep text t u → FitS u → Orders text t u → Neat u → n ≤ num u + levels
+  pub second : (levels : ℕ) (u : Spot) (lacking : Bool) (number : ℕ) (name : List ℕ) → childName text t (num u) ≡ name → Good n u → Rep text t u → FitS u → Orders t u → Neat u → n ≤ num u + levels
       → walk options (placeOf lacking (erase u)) ≡ none
       → Writes (emittedAt options text t levels (num u) lacking number) (recordsOf (fieldOf options name number (placeOf lacking (erase u)))) (namesOf (fieldOf options name number (placeOf lacking (erase u))))
   second zero (spot p b k m ks) lacking number name nm g r f o z l e = absurd (omega (arith, g .0))
@@ -507,7 +469,7 @@ module _ (options : ℕ) (text t : List ℕ) (n : ℕ) (most : n ≤ placeLimit)
       (λ d. cases (isContainer k)
       (λ c.
       let told = told-below p b lacking k m ks kids c d e in
-      place-inner options text t n p b k m ks row some kids (o .0) levels number lacking name nm d c (f .0) (z .1) told
+      place-inner options text t n p b k m ks row some kids (o .0) levels number lacking name nm d c (f .0) (z .1) told (o .3)
       (each (Told options text t n p k m) (Inner options text t n p k m (emittedAt options text t levels))
       (λ s h x v a. (a, second levels v (isMissing k m h) (variantOf s) (nameOf s) (name-is k (a .0 .cell) (a .0 .step)) (a .0 .good) (a .0 .rep) (a .0 .fit) (a .0 .orders) (a .0 .neat) (omega (arith, a .0 .above)) (a .1 .1)))
       (orderS true k ks) (resorted (Told options text t n p k m) k ks told))
@@ -516,9 +478,9 @@ module _ (options : ℕ) (text t : List ℕ) (n : ℕ) (most : n ≤ placeLimit)
 
   -- the same for the fields below a place that is no union
   pub below-writes : (levels p : ℕ) (b lacking : Bool) (k m : ℕ) (ks : Spots) (number : ℕ) (name : List ℕ)
-      → Good n (spot p b k m ks) → Rep text t (spot p b k m ks) → FitS (spot p b k m ks) → Orders text t (spot p b k m ks) → Neat (spot p b k m ks) → n ≤ p + 1 + levels
+      → Good n (spot p b k m ks) → Rep text t (spot p b k m ks) → FitS (spot p b k m ks) → Orders t (spot p b k m ks) → Neat (spot p b k m ks) → n ≤ p + 1 + levels
       → isContainer k ≡ true → eqb k unionKind ≡ false → walk options (placeOf lacking (erase (spot p b k m ks))) ≡ none
-      → Writes (fieldsBelow text t (emittedAt options text t levels) k p) (recordsIn (fieldsOfField (fieldOf options name number (placeOf lacking (erase (spot p b k m ks))))))
+      → Writes (fieldsBelow t (emittedAt options text t levels) k p) (recordsIn (fieldsOfField (fieldOf options name number (placeOf lacking (erase (spot p b k m ks))))))
       (namesIn (fieldsOfField (fieldOf options name number (placeOf lacking (erase (spot p b k m ks))))))
   unfolding fieldOf if_then_else_
   below-writes levels p b lacking k m ks number name g r f o z l c v e =
@@ -534,7 +496,7 @@ module _ (options : ℕ) (text t : List ℕ) (n : ℕ) (most : n ≤ placeLimit)
 
 -- The second walk from a place on writes the records and names of the model's field of that place.
 pub second-walk : (options : ℕ) (text t : List ℕ) (n : ℕ) (u : Spot) (lacking : Bool) (name : List ℕ) (number levels i j : ℕ) (fields names : List ℕ) → n ≤ placeLimit
-    → Good n u → Rep text t u → FitS u → Orders text t u → Neat u → childName text t (num u) ≡ name → n ≤ num u + levels → walk options (placeOf lacking (erase u)) ≡ none
+    → Good n u → Rep text t u → FitS u → Orders t u → Neat u → childName text t (num u) ≡ name → n ≤ num u + levels → walk options (placeOf lacking (erase u)) ≡ none
     → i + length (recordsOf (fieldOf options name number (placeOf lacking (erase u)))) ≤ length fields
     → j + length (namesOf (fieldOf options name number (placeOf lacking (erase u)))) ≤ length names
     → emittedAt options text t levels (num u) lacking number (writing i j fields names)
@@ -552,10 +514,10 @@ from-start r n fields names =
 
 -- below the root, from the start of both buffers
 pub root-written : (options : ℕ) (text t : List ℕ) (n : ℕ) (u : Spot) (name : List ℕ) (fields names : List ℕ) → n ≤ placeLimit → num u ≡ 0
-    → Good n u → Rep text t u → FitS u → Orders text t u → Neat u → isContainer (kindS u) ≡ true → eqb (kindS u) unionKind ≡ false → walk options (placeOf false (erase u)) ≡ none
+    → Good n u → Rep text t u → FitS u → Orders t u → Neat u → isContainer (kindS u) ≡ true → eqb (kindS u) unionKind ≡ false → walk options (placeOf false (erase u)) ≡ none
     → length (recordsIn (fieldsOfField (fieldOf options name 0 (placeOf false (erase u))))) ≤ length fields
     → length (namesIn (fieldsOfField (fieldOf options name 0 (placeOf false (erase u))))) ≤ length names
-    → fieldsBelow text t (emittedAt options text t levelLimit) (kindS u) 0 (writing 0 0 fields names)
+    → fieldsBelow t (emittedAt options text t levelLimit) (kindS u) 0 (writing 0 0 fields names)
     ≡ writing (length (recordsIn (fieldsOfField (fieldOf options name 0 (placeOf false (erase u)))))) (length (namesIn (fieldsOfField (fieldOf options name 0 (placeOf false (erase u))))))
     (recordsIn (fieldsOfField (fieldOf options name 0 (placeOf false (erase u)))) ++ drop (length (recordsIn (fieldsOfField (fieldOf options name 0 (placeOf false (erase u)))))) fields)
     (namesIn (fieldsOfField (fieldOf options name 0 (placeOf false (erase u)))) ++ drop (length (namesIn (fieldsOfField (fieldOf options name 0 (placeOf false (erase u)))))) names)

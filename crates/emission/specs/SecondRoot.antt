@@ -101,7 +101,7 @@ module _ (options : ℕ) (text t : List ℕ) (fields names : List ℕ) (end reco
   finish-by : (b : Bool) (type k strategy number : ℕ) (name : List ℕ) (fs : Fields) → word t 0 nullWord ≡ one b → word t 0 kindWord ≡ k → eqb type null ≡ eqb k null → eqb type struct ≡ isStructRoot k
       → records ≡ countIn fs → bytes ≡ length (namesIn fs)
       → (isStructRoot k ≡ true → length (recordsIn fs) ≤ length fields → length (namesIn fs) ≤ length names
-      → fieldsBelow text t (emittedAt options text t levelLimit) k 0 (writing 0 0 fields names)
+      → fieldsBelow t (emittedAt options text t levelLimit) k 0 (writing 0 0 fields names)
       ≡ writing (length (recordsIn fs)) (length (namesIn fs)) (recordsIn fs ++ drop (length (recordsIn fs)) fields) (namesIn fs ++ drop (length (namesIn fs)) names))
       → Finishes fields names records bytes columns (rootFields end (mk type b strategy number name fs)) (finished options text t fields names records bytes columns)
   unfolding finished if_then_else_
@@ -120,7 +120,7 @@ module _ (options : ℕ) (text t : List ℕ) (fields names : List ℕ) (end reco
       (λ c. rw c (F.RootNotStruct, refl, refl)))))
 
   -- The root's refusals, and the schema: what the walks counted is what the model's fields count.
-  pub finishes : (n : ℕ) (u : Spot) (name : List ℕ) → n ≤ placeLimit → num u ≡ 0 → Good n u → Rep text t u → FitS u → Orders text t u → Neat u → walk options (placeOf false (erase u)) ≡ none
+  pub finishes : (n : ℕ) (u : Spot) (name : List ℕ) → n ≤ placeLimit → num u ≡ 0 → Good n u → Rep text t u → FitS u → Orders t u → Neat u → walk options (placeOf false (erase u)) ≡ none
       → records ≡ countIn (fieldsOfField (fieldOf options name 0 (placeOf false (erase u)))) → bytes ≡ length (namesIn (fieldsOfField (fieldOf options name 0 (placeOf false (erase u)))))
       → Finishes fields names records bytes columns (rootFields end (fieldOf options name 0 (placeOf false (erase u)))) (finished options text t fields names records bytes columns)
   finishes n (spot p b k m ks) name most q g r f o z e rc nc =

@@ -24,7 +24,8 @@ use Rattle.refine.specs.Spots.{Spot, spot, Spots, no-spots, child, num, kindS}
 use Rattle.refine.specs.Numbers.{Good, GoodIn}
 use Rattle.refine.specs.Rep.{Cell, Rep, RepIn}
 use Rattle.refine.specs.Erase.{erase, eraseIn}
-use Rattle.walk.specs.Order.{variantAt, positionAt, givenName, childName, nearest, nextChild, onward, childLimit}
+use Rattle.order.specs.Flat.{variantAt, givenName}
+use Rattle.walk.specs.Order.{positionAt, childName, isOrdered, nextOrdered, nextChild, onward, childLimit}
 use Rattle.walk.specs.Order.{datalessFrom as datalessAtFrom}
 use Rattle.emission.specs.FirstPlaces as First
 use Rattle.emission.specs.FirstPlaces.{manyS, AllS, number-all, number-places, child-variant}
@@ -135,11 +136,11 @@ pub record Kid (text t : List ℕ) (n k p : ℕ) (s : Step) (h m : ℕ) (u : Spo
   pub good : Good n u
   pub fit : FitS u
   pub step : stepFits k s ≡ true
-  pub orders : Orders text t u
+  pub orders : Orders t u
   pub neat : Neat u
   pub plain : eqb k unionKind ≡ false → isVariant s ≡ false
 
-pub known : (text t : List ℕ) (n k p c : ℕ) (ks : Spots) → p ≤ c → RepIn text t p ks → GoodIn n c ks → FitIn k ks → OrdersIn text t ks → NeatIn k ks → AllS (Kid text t n k p) ks
+pub known : (text t : List ℕ) (n k p c : ℕ) (ks : Spots) → p ≤ c → RepIn text t p ks → GoodIn n c ks → FitIn k ks → OrdersIn t ks → NeatIn k ks → AllS (Kid text t n k p) ks
 known text t n k p c no-spots l r g f o z = tt
 known text t n k p c (child s h m u ks) l r g f o z = (
   record { next = _; cell = r .0; rep = r .1; above = omega (arith, g .0); good = g .1; fit = f .1; step = f .0; orders = o .0; neat = z .1; plain = z .0 },
@@ -156,14 +157,14 @@ dataless-kind : (b : Bool) (u : Spot) → isDataless (placeOf b (erase u)) ≡ e
 dataless-kind b (spot p c k m ks) = rw (place-is b p c k m ks) refl
 
 module _ (text t : List ℕ) (n p m : ℕ) where
-  dataless-from : (left slot last : ℕ) (ks : Spots) → manyS ks ≤ left → slot + left ≤ 2048 → AllS (Kid text t n unionKind p) ks → Enumerates text t false unionKind p last ks
-      → datalessAtFrom text t p left slot (nearest text t false p last) ≡ datalessFrom slot (placesOf unionKind m (eraseIn ks))
-  unfolding datalessAtFrom datalessFrom placesOf nextChild if_then_else_
+  dataless-from : (left slot last : ℕ) (ks : Spots) → manyS ks ≤ left → slot + left ≤ 2048 → AllS (Kid text t n unionKind p) ks → Enumerates t false unionKind p last ks
+      → datalessAtFrom t p left slot (nextOrdered t p last) ≡ datalessFrom slot (placesOf unionKind m (eraseIn ks))
+  unfolding datalessAtFrom datalessFrom placesOf isOrdered nextChild if_then_else_
   dataless-from zero slot last no-spots l z a h = refl
-  dataless-from (suc left) slot last no-spots l z a h = let e : nearest text t false p last ≡ 0 = h in rw e refl
+  dataless-from (suc left) slot last no-spots l z a h = let e : nextOrdered t p last ≡ 0 = h in rw e refl
   dataless-from zero slot last (child s i j u ks) l z a h = absurd (omega arith)
   dataless-from (suc left) slot last (child s i j u ks) l z a h =
-      let e : nearest text t false p last ≡ num u = h .0 in
+      let e : nextOrdered t p last ≡ num u = h .0 in
       let v : variantAt t (num u) ≡ variantOf s = variant-is (a .0 .cell) in
       let w : word t (num u) kindWord ≡ kindS u = kind-word text t u (a .0 .rep) in
       let on : onward slot ≡ slot + 1 = let x : slot + 1 < 2 ^ 32 = omega arith in mod-eq-of-lt x in
@@ -171,6 +172,6 @@ module _ (text t : List ℕ) (n p m : ℕ) where
       rw e (rw (ne-eqb (num u) 0 (omega (arith, a .0 .above)), datalessAtFrom, v, w, dataless-kind (isMissing unionKind m i) u)
       (cases (eqb (variantOf s) slot && eqb (kindS u) null) (λ d. rw (d, on) ih) (λ d. rw d refl)))
 
-  pub dataless-is : (ks : Spots) → manyS ks ≤ childLimit → AllS (Kid text t n unionKind p) ks → Enumerates text t false unionKind p 0 ks
-      → datalessAtFrom text t p childLimit 0 (nearest text t false p 0) ≡ datalessFrom 0 (placesOf unionKind m (eraseIn ks))
+  pub dataless-is : (ks : Spots) → manyS ks ≤ childLimit → AllS (Kid text t n unionKind p) ks → Enumerates t false unionKind p 0 ks
+      → datalessAtFrom t p childLimit 0 (nextOrdered t p 0) ≡ datalessFrom 0 (placesOf unionKind m (eraseIn ks))
   dataless-is ks l a h = dataless-from childLimit 0 0 ks l (omega arith) a h

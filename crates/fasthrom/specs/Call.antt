@@ -8,6 +8,7 @@ use Rattle.model.specs.Answer as M
 use Rattle.model.specs.Answer.{Batch, Buffers, turnedDown, answer}
 use Rattle.samples.specs.declared.Traced.the-variants as T
 use Rattle.samples.specs.Flat.{Out, out}
+use Rattle.order.specs.Flat.{sortedPlaces}
 use Rattle.schema.specs.declared.Emitted.the-variants as E
 use Rattle.schema.specs.Emit.{Answered, answered, toSchemaAt}
 use Rattle.fasthrom.specs.declared.Outcome.{Outcome}
@@ -39,7 +40,7 @@ abbrev pub asGiven : ℕ → List ℕ → Answered → Given
 asGiven end t (answered (E.Schema records bytes columns) fields names) = given (O.Schema records bytes columns) t fields names
 asGiven end t (answered (E.Refused refusal) fields names) = given (O.Refused refusal end) t fields names
 
--- what follows tracing
+-- what follows tracing: the children are put in order, and the schema is emitted
 abbrev pub emittedFrom : ℕ → List ℕ → List ℕ → List ℕ → List ℕ → Out → Given
 emittedFrom options commands text fields names (out (T.Refused refusal place) t) = given (O.Refused refusal place) t fields names
-emittedFrom options commands text fields names (out (T.Next behind n) t) = asGiven (length commands) t (toSchemaAt options text t fields names)
+emittedFrom options commands text fields names (out (T.Next behind n) t) = asGiven (length commands) (sortedPlaces text t n) (toSchemaAt options text (sortedPlaces text t n) fields names)

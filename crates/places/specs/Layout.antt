@@ -22,6 +22,10 @@ firstWord = 3
 abbrev pub lastWord : ℕ
 lastWord = 4
 
+-- and, once its children are put in order, the first of them
+abbrev pub orderedFirstWord : ℕ
+orderedFirstWord = 5
+
 -- its words as a child: next child, parent, step, name, how many samples held it, the last of them
 abbrev pub nextWord : ℕ
 nextWord = 8
@@ -40,6 +44,10 @@ heldWord = 12
 
 abbrev pub markWord : ℕ
 markWord = 13
+
+-- and, once it is put in order, the next of its siblings
+abbrev pub orderedNextWord : ℕ
+orderedNextWord = 14
 
 -- What is always true of a table with n places: links are places, a next child has a higher number, and names end inside the text.
 pub record Sound (text t : List ℕ) (n : ℕ) : Type 0 where

@@ -10,16 +10,17 @@ use Rattle.logic.specs.Test.{if_then_else_, neither}
 use Rattle.words.specs.Word.{word}
 use Rattle.model.specs.Kinds.{isContainer}
 use Rattle.places.specs.Layout.{kindWord, nullWord}
-use Rattle.walk.specs.Order.{variantAt, nextChild}
+use Rattle.order.specs.Flat.{variantAt}
+use Rattle.walk.specs.Order.{nextChild}
 use Rattle.walk.specs.Walk.{sumOf, gapsAt}
 use Rattle.schema.specs.Put.{put, putGaps}
 use Rattle.schema.specs.Emit.{Writing, writing, Writer, gapsIn, entriesIn, fieldAt, isDictionary, isLeaf, lackingAt, childIn, fieldsFrom, fieldsBelow, emittedBy, emittedAt}
 
 -- ---- a turn over a child: what is left gives what the whole gives
-module _ (text t : List ℕ) (inner : Writer) (kind place slot child : ℕ) (w : Writing) where
-  pub next : (left number further following : ℕ) (after whole : Writing) → fieldsFrom text t inner kind place left slot child w ≡ whole → 0 < left → (child ≡ 0 → ⊥) →
-      after ≡ childIn t inner kind place slot child w → number ≡ variantAt t child → further ≡ sumOf number 1 → following ≡ nextChild text t true kind place child →
-      fieldsFrom text t inner kind place (left - 1) further following after ≡ whole
+module _ (t : List ℕ) (inner : Writer) (kind place slot child : ℕ) (w : Writing) where
+  pub next : (left number further following : ℕ) (after whole : Writing) → fieldsFrom t inner kind place left slot child w ≡ whole → 0 < left → (child ≡ 0 → ⊥) →
+      after ≡ childIn t inner kind place slot child w → number ≡ variantAt t child → further ≡ sumOf number 1 → following ≡ nextChild t true kind place child →
+      fieldsFrom t inner kind place (left - 1) further following after ≡ whole
   unfolding fieldsFrom
   next zero number further following after whole e h n a v f g = absurd (omega arith)
   next (suc m) number further following after whole e h n a v f g =
@@ -27,13 +28,13 @@ module _ (text t : List ℕ) (inner : Writer) (kind place slot child : ℕ) (w :
       rw (l, a, f, v, g) (rw (ne-eqb child 0 n, fieldsFrom) at e)
 
   -- the whole is what starts behind a map's entries
-  module _ (entered before : Writing) (first : ℕ) (s : entered ≡ entriesIn kind before) (f : first ≡ nextChild text t true kind place 0) where
-    pub spent : (left : ℕ) → fieldsFrom text t inner kind place left slot child w ≡ fieldsFrom text t inner kind place 1024 0 first entered → left ≤ 0 → w ≡ fieldsBelow text t inner kind place before
+  module _ (entered before : Writing) (first : ℕ) (s : entered ≡ entriesIn kind before) (f : first ≡ nextChild t true kind place 0) where
+    pub spent : (left : ℕ) → fieldsFrom t inner kind place left slot child w ≡ fieldsFrom t inner kind place 1024 0 first entered → left ≤ 0 → w ≡ fieldsBelow t inner kind place before
     unfolding fieldsFrom
     spent zero e h = rw (s, f) at e
     spent (suc n) e h = absurd (omega arith)
 
-    pub ended : (left : ℕ) → fieldsFrom text t inner kind place left slot child w ≡ fieldsFrom text t inner kind place 1024 0 first entered → child ≡ 0 → w ≡ fieldsBelow text t inner kind place before
+    pub ended : (left : ℕ) → fieldsFrom t inner kind place left slot child w ≡ fieldsFrom t inner kind place 1024 0 first entered → child ≡ 0 → w ≡ fieldsBelow t inner kind place before
     unfolding fieldsFrom
     ended zero e z = rw (s, f) at e
     ended (suc n) e z = rw (s, f) at (rw z at e)
@@ -49,22 +50,22 @@ some : (m : ℕ) → eqb (suc m) 0 ≡ false
 some m = ne-eqb (suc m) 0 (λ z. omega arith)
 
 -- ---- a place, by whether anything is emitted below it
-module _ (options : ℕ) (text t : List ℕ) (place : ℕ) (is : Bool) where
-  pub some-level : (levels : ℕ) → is ≡ isLeaf options text t (eqb levels 0) place → is ≡ false → 1 ≤ levels
+module _ (options : ℕ) (t : List ℕ) (place : ℕ) (is : Bool) where
+  pub some-level : (levels : ℕ) → is ≡ isLeaf options t (eqb levels 0) place → is ≡ false → 1 ≤ levels
   unfolding isLeaf
   some-level zero e f =
-      neither (not (isContainer (word t place kindWord)) || true) (isDictionary options text t place) (sym e ∙ f)
+      neither (not (isContainer (word t place kindWord)) || true) (isDictionary options t place) (sym e ∙ f)
       (λ g h. neither (not (isContainer (word t place kindWord))) true g (λ x y. absurd (true≢false y)))
   some-level (suc m) e f = omega arith
 
-  module _ (lacking nullable : Bool) (number : ℕ) (own w : Writing) (n : nullable ≡ (lacking || eqb (word t place nullWord) 1)) (o : own ≡ fieldAt options text t place nullable number w) where
-    pub leaf : (levels : ℕ) → is ≡ isLeaf options text t (eqb levels 0) place → is ≡ true → own ≡ emittedAt options text t levels place lacking number w
+  module _ (text : List ℕ) (lacking nullable : Bool) (number : ℕ) (own w : Writing) (n : nullable ≡ (lacking || eqb (word t place nullWord) 1)) (o : own ≡ fieldAt options text t place nullable number w) where
+    pub leaf : (levels : ℕ) → is ≡ isLeaf options t (eqb levels 0) place → is ≡ true → own ≡ emittedAt options text t levels place lacking number w
     unfolding emittedAt emittedBy if_then_else_
     leaf zero e p = rw (sym e ∙ p, ← n) o
     leaf (suc m) e p = rw (sym (rw (some m) at e) ∙ p, ← n) o
 
-    pub opened : (levels kind : ℕ) (after : Writing) → is ≡ isLeaf options text t (eqb levels 0) place → is ≡ false → kind ≡ word t place kindWord →
-        after ≡ fieldsBelow text t (emittedAt options text t (levels - 1)) kind place own → after ≡ emittedAt options text t levels place lacking number w
+    pub opened : (levels kind : ℕ) (after : Writing) → is ≡ isLeaf options t (eqb levels 0) place → is ≡ false → kind ≡ word t place kindWord →
+        after ≡ fieldsBelow t (emittedAt options text t (levels - 1)) kind place own → after ≡ emittedAt options text t levels place lacking number w
     unfolding emittedAt emittedBy if_then_else_
     opened zero kind after e p k a = absurd (let h : 1 ≤ 0 = some-level zero e p in omega arith)
     opened (suc m) kind after e p k a =

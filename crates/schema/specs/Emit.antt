@@ -16,7 +16,8 @@ use Rattle.walk.specs.declared.Walked.{Walked}
 use Rattle.walk.specs.declared.Walked.the-variants as W
 use Rattle.schema.specs.declared.Emitted.{Emitted}
 use Rattle.schema.specs.declared.Emitted.the-variants as E
-use Rattle.walk.specs.Order.{variantAt, childName, nextChild, datalessAt, childLimit}
+use Rattle.order.specs.Flat.{variantAt}
+use Rattle.walk.specs.Order.{childName, nextChild, datalessAt, childLimit}
 use Rattle.walk.specs.Walk.{sumOf, gapsAt, walked}
 use Rattle.schema.specs.Put.{Put, put, putBytes, recordOf, putGaps}
 
@@ -25,22 +26,22 @@ abbrev pub countWith : ℕ → List ℕ → ℕ → ℕ → ℕ
 countWith kind t child count = if eqb kind unionKind then sumOf (variantAt t child) 1 else sumOf count 1
 
 -- how many fields a place's field has
-unfoldable pub countFrom : List ℕ → List ℕ → ℕ → ℕ → ℕ → ℕ → ℕ → ℕ
-countFrom text t kind place zero count child = count
-countFrom text t kind place (suc left) count child =
+unfoldable pub countFrom : List ℕ → ℕ → ℕ → ℕ → ℕ → ℕ → ℕ
+countFrom t kind place zero count child = count
+countFrom t kind place (suc left) count child =
     elim (eqb child 0) [
       | true ↦ count
-      | false ↦ countFrom text t kind place left (countWith kind t child count) (nextChild text t false kind place child)
+      | false ↦ countFrom t kind place left (countWith kind t child count) (nextChild t false kind place child)
     ]
 
-unfoldable pub fieldCount : List ℕ → List ℕ → ℕ → ℕ → ℕ
-fieldCount text t kind place = if eqb kind mapKind then 1 else countFrom text t kind place childLimit 0 (nextChild text t false kind place 0)
+unfoldable pub fieldCount : List ℕ → ℕ → ℕ → ℕ
+fieldCount t kind place = if eqb kind mapKind then 1 else countFrom t kind place childLimit 0 (nextChild t false kind place 0)
 
 abbrev pub lackingAt : List ℕ → ℕ → ℕ → ℕ → Bool
 lackingAt t kind place child = isStruct kind && ltb (word t child heldWord) (word t place samplesWord)
 
-abbrev pub isDictionary : ℕ → List ℕ → List ℕ → ℕ → Bool
-isDictionary options text t place = eqb (word t place kindWord) unionKind && enumsWithoutDataAsStrings options && datalessAt text t place
+abbrev pub isDictionary : ℕ → List ℕ → ℕ → Bool
+isDictionary options t place = eqb (word t place kindWord) unionKind && enumsWithoutDataAsStrings options && datalessAt t place
 
 -- where the next record and the next name go, and both buffers
 pub data Writing : Type 0 where
@@ -63,14 +64,14 @@ entriesIn kind w = if eqb kind mapKind then both (recordOf struct false noStrate
 -- the record and the name of a place, with nothing below it
 unfoldable pub fieldAt : ℕ → List ℕ → List ℕ → ℕ → Bool → ℕ → Writing → Writing
 fieldAt options text t place nullable number w =
-    if isDictionary options text t place then both (recordOf (dictionaryType options) nullable noStrategy number (length (childName text t place)) 0) (childName text t place) w
+    if isDictionary options t place then both (recordOf (dictionaryType options) nullable noStrategy number (length (childName text t place)) 0) (childName text t place) w
     else both
-    (recordOf (typeOf options (word t place kindWord) % 256) nullable (strategyOf (word t place kindWord)) number (length (childName text t place)) (fieldCount text t (word t place kindWord) place))
+    (recordOf (typeOf options (word t place kindWord) % 256) nullable (strategyOf (word t place kindWord)) number (length (childName text t place)) (fieldCount t (word t place kindWord) place))
     (childName text t place) w
 
 -- whether nothing is emitted below a place
-unfoldable pub isLeaf : ℕ → List ℕ → List ℕ → Bool → ℕ → Bool
-isLeaf options text t flat place = not (isContainer (word t place kindWord)) || flat || isDictionary options text t place
+unfoldable pub isLeaf : ℕ → List ℕ → Bool → ℕ → Bool
+isLeaf options t flat place = not (isContainer (word t place kindWord)) || flat || isDictionary options t place
 
 -- a writer of the field of a place, which a sample lacks or not, with a variant number
 abbrev pub Writer : Type 0
@@ -81,26 +82,26 @@ unfoldable pub childIn : List ℕ → Writer → ℕ → ℕ → ℕ → ℕ →
 childIn t inner kind place slot child w = inner child (lackingAt t kind place child) (variantAt t child % 256) (gapsIn slot (gapsAt kind t slot child) w)
 
 -- the fields below a place, from a child on
-unfoldable pub fieldsFrom : List ℕ → List ℕ → Writer → ℕ → ℕ → ℕ → ℕ → ℕ → Writing → Writing
-fieldsFrom text t inner kind place zero slot child w = w
-fieldsFrom text t inner kind place (suc left) slot child w =
+unfoldable pub fieldsFrom : List ℕ → Writer → ℕ → ℕ → ℕ → ℕ → ℕ → Writing → Writing
+fieldsFrom t inner kind place zero slot child w = w
+fieldsFrom t inner kind place (suc left) slot child w =
     elim (eqb child 0) [
       | true ↦ w
-      | false ↦ fieldsFrom text t inner kind place left (sumOf (variantAt t child) 1) (nextChild text t true kind place child) (childIn t inner kind place slot child w)
+      | false ↦ fieldsFrom t inner kind place left (sumOf (variantAt t child) 1) (nextChild t true kind place child) (childIn t inner kind place slot child w)
     ]
 
-abbrev pub fieldsBelow : List ℕ → List ℕ → Writer → ℕ → ℕ → Writing → Writing
-fieldsBelow text t inner kind place w = fieldsFrom text t inner kind place childLimit 0 (nextChild text t true kind place 0) (entriesIn kind w)
+abbrev pub fieldsBelow : List ℕ → Writer → ℕ → ℕ → Writing → Writing
+fieldsBelow t inner kind place w = fieldsFrom t inner kind place childLimit 0 (nextChild t true kind place 0) (entriesIn kind w)
 
 unfoldable pub emittedBy : ℕ → List ℕ → List ℕ → Bool → (ℕ → ℕ → Writing → Writing) → Writer
 emittedBy options text t flat inner place lacking number w =
     let own = fieldAt options text t place (lacking || eqb (word t place nullWord) 1) number w in
-    if isLeaf options text t flat place then own else inner (word t place kindWord) place own
+    if isLeaf options t flat place then own else inner (word t place kindWord) place own
 
 -- with so many levels left
 unfoldable pub emittedAt : ℕ → List ℕ → List ℕ → ℕ → Writer
 emittedAt options text t zero = emittedBy options text t true (λ kind place w. w)
-emittedAt options text t (suc levels) = emittedBy options text t false (fieldsBelow text t (emittedAt options text t levels))
+emittedAt options text t (suc levels) = emittedBy options text t false (fieldsBelow t (emittedAt options text t levels))
 
 -- ---- the schema of what was traced, whose root is place 0
 -- more levels than the tree is deep: a place's number is above its parent's
@@ -124,7 +125,7 @@ finished options text t fields names records bytes below =
     else if not (isStructRoot (word t 0 kindWord)) then answered (E.Refused F.RootNotStruct) fields names
     else if ltb (length fields) (records * 8) || ltb (length names) bytes then answered (E.Refused F.ShortBuffer) fields names
     else asAnswered (E.Schema records bytes below)
-    (fieldsBelow text t (emittedAt options text t levelLimit) (word t 0 kindWord) 0 (writing 0 0 fields names))
+    (fieldsBelow t (emittedAt options text t levelLimit) (word t 0 kindWord) 0 (writing 0 0 fields names))
 
 abbrev pub onWalked : (ℕ → ℕ → ℕ → Answered) → List ℕ → List ℕ → Walked → Answered
 onWalked k fields names (W.Refused refusal) = answered (E.Refused refusal) fields names

@@ -14,6 +14,7 @@ ghost use Rattle.model.specs.Tracing.{one};
 ghost use Rattle.model.specs.Emission.{typeOf, strategyOf};
 ghost use Rattle.shapes.specs.Steps.{fieldCode};
 ghost use Rattle.places.specs.Layout.{Sound, nullWord};
+ghost use Rattle.order.specs.Flat.{sortedPlaces};
 ghost use Rattle.walk.specs.Order.{childName, nextChild};
 ghost use Rattle.schema.specs.Put.{Put, putBytes, recordOf, putGaps};
 ghost use Rattle.schema.specs.Emit.{countWith, countFrom, fieldCount, lackingAt, isDictionary, isStructRoot, Writing, entriesIn, fieldAt, isLeaf, childIn, emittedAt, fieldsBelow, Answered, finished, toSchemaAt};
@@ -145,7 +146,7 @@ fn put_name(text: &[u8], table: &[u32], child: usize, names: &mut [u8], at: usiz
     if is_position(step) {
         return put_position(((step - 4) / 2 % 65536) as u16, names, at);
     }
-    put_bytes(walk::given_name(table, child).bytes(text), names, at)
+    put_bytes(order::given_name(table, child).bytes(text), names, at)
 }
 
 // Union slots never seen.
@@ -207,25 +208,25 @@ fn count_with(kind: u32, table: &[u32], child: usize, count: u32) -> u32
     ensures { λ r. ⌜ r ≡ countWith kind (now (table .entry)) child count ⌝ }
 {
     if kind == shapes::UNION {
-        return walk::sum(walk::variant(table, child), 1);
+        return walk::sum(order::variant(table, child), 1);
     }
     walk::sum(count, 1)
 }
 
 // How many fields stand below a place, from a child on.
-fn count_children(text: &[u8], table: &[u32], kind: u32, place: usize) -> u32
-    requires { ⌜ Sound (now text) (now table) 1024 × (place < 1024) ⌝ }
-    ensures { λ r. ⌜ r ≡ countFrom (now (text .entry)) (now (table .entry)) kind place 1024 0 (nextChild (now (text .entry)) (now (table .entry)) false kind place 0) ⌝ }
+fn count_children(table: &[u32], kind: u32, place: usize) -> u32
+    requires { ⌜ (place < 1024) × (16384 ≤ length (now table)) ⌝ }
+    ensures { λ r. ⌜ r ≡ countFrom (now (table .entry)) kind place 1024 0 (nextChild (now (table .entry)) false kind place 0) ⌝ }
 {
     let mut count: u32 = 0;
-    let mut child = walk::next_child(text, table, false, kind, place, 0);
+    let mut child = walk::next_child(table, false, kind, place, 0);
     let mut left = walk::CHILDREN;
     while 0 < left {
         if child == 0 {
             return count;
         }
         count = count_with(kind, table, child, count);
-        child = walk::next_child(text, table, false, kind, place, child);
+        child = walk::next_child(table, false, kind, place, child);
         left -= 1;
     }
     count
@@ -233,14 +234,14 @@ fn count_children(text: &[u8], table: &[u32], kind: u32, place: usize) -> u32
 
 // How many fields a place's field has: the entries of a map, the slots of a union up to the highest seen, else its
 // children.
-fn field_count(text: &[u8], table: &[u32], kind: u32, place: usize) -> u32
-    requires { ⌜ Sound (now text) (now table) 1024 × (place < 1024) ⌝ }
-    ensures { λ r. ⌜ r ≡ fieldCount (now (text .entry)) (now (table .entry)) kind place ⌝ }
+fn field_count(table: &[u32], kind: u32, place: usize) -> u32
+    requires { ⌜ (place < 1024) × (16384 ≤ length (now table)) ⌝ }
+    ensures { λ r. ⌜ r ≡ fieldCount (now (table .entry)) kind place ⌝ }
 {
     if kind == shapes::MAP {
         return 1;
     }
-    count_children(text, table, kind, place)
+    count_children(table, kind, place)
 }
 
 // A struct, in either mode.
@@ -322,9 +323,9 @@ fn is_lacking(table: &[u32], kind: u32, place: usize, child: usize) -> bool
 }
 
 // A union that is emitted as a dictionary.
-fn is_dictionary(options: TracingOptions, text: &[u8], table: &[u32], place: usize) -> bool
-    requires { ⌜ Sound (now text) (now table) 1024 × (place < 1024) ⌝ }
-    ensures { λ r. ⌜ r ≡ isDictionary (options .word) (now (text .entry)) (now (table .entry)) place ⌝ }
+fn is_dictionary(options: TracingOptions, table: &[u32], place: usize) -> bool
+    requires { ⌜ (place < 1024) × (16384 ≤ length (now table)) ⌝ }
+    ensures { λ r. ⌜ r ≡ isDictionary (options .word) (now (table .entry)) place ⌝ }
 {
     if words::get(table, place, places::KIND) != shapes::UNION {
         return false;
@@ -332,7 +333,7 @@ fn is_dictionary(options: TracingOptions, text: &[u8], table: &[u32], place: usi
     if !options.enums_without_data_as_strings() {
         return false;
     }
-    walk::is_dataless(text, table, place)
+    walk::is_dataless(table, place)
 }
 
 // The record and the name of a place, with nothing below it.
@@ -356,7 +357,7 @@ fn put_field(
     let start = ends.names;
     let length = walk::name_length(text, table, place);
     let named = put_name(text, table, place, names, start);
-    if is_dictionary(options, text, table, place) {
+    if is_dictionary(options, table, place) {
         let next = put_record(
             fields,
             at,
@@ -372,7 +373,7 @@ fn put_field(
             names: named,
         };
     }
-    let count = field_count(text, table, kind, place);
+    let count = field_count(table, kind, place);
     let next = put_record(
         fields,
         at,
@@ -390,9 +391,9 @@ fn put_field(
 }
 
 // Whether nothing is emitted below a place.
-fn is_leaf(options: TracingOptions, text: &[u8], levels: usize, table: &[u32], place: usize) -> bool
-    requires { ⌜ Sound (now text) (now table) 1024 × (place < 1024) ⌝ }
-    ensures { λ r. ⌜ r ≡ isLeaf (options .word) (now (text .entry)) (now (table .entry)) (eqb levels 0) place ⌝ }
+fn is_leaf(options: TracingOptions, levels: usize, table: &[u32], place: usize) -> bool
+    requires { ⌜ (place < 1024) × (16384 ≤ length (now table)) ⌝ }
+    ensures { λ r. ⌜ r ≡ isLeaf (options .word) (now (table .entry)) (eqb levels 0) place ⌝ }
 {
     if words::get(table, place, places::KIND) < shapes::SEQUENCE {
         return true;
@@ -400,7 +401,7 @@ fn is_leaf(options: TracingOptions, text: &[u8], levels: usize, table: &[u32], p
     if levels == 0 {
         return true;
     }
-    is_dictionary(options, text, table, place)
+    is_dictionary(options, table, place)
 }
 
 fn is_nullable(table: &[u32], place: usize, lacking: bool) -> bool
@@ -442,7 +443,7 @@ fn emit(
         fields,
         names,
     );
-    if is_leaf(options, text, levels, table, place) {
+    if is_leaf(options, levels, table, place) {
         return own;
     }
     let kind = words::get(table, place, places::KIND);
@@ -473,11 +474,11 @@ fn emit_children(
 ) -> Ends
     requires { ⌜ Sound (now text) (now table) 1024 × (place < 1024) ⌝ }
     requires { ⌜ (ends .records ≤ length (now fields)) × (ends .names ≤ length (now names)) ⌝ }
-    ensures { λ r. ⌜ (Writing.writing (r .records) (r .names) (now (fields .exit)) (now (names .exit)) ≡ fieldsBelow (now (text .entry)) (now (table .entry)) (emittedAt (options .word) (now (text .entry)) (now (table .entry)) levels) kind place (Writing.writing (ends .records) (ends .names) (now (fields .entry)) (now (names .entry)))) × (r .records ≤ length (now (fields .exit))) × (r .names ≤ length (now (names .exit))) ⌝ }
+    ensures { λ r. ⌜ (Writing.writing (r .records) (r .names) (now (fields .exit)) (now (names .exit)) ≡ fieldsBelow (now (table .entry)) (emittedAt (options .word) (now (text .entry)) (now (table .entry)) levels) kind place (Writing.writing (ends .records) (ends .names) (now (fields .entry)) (now (names .entry)))) × (r .records ≤ length (now (fields .exit))) × (r .names ≤ length (now (names .exit))) ⌝ }
 {
     let mut so_far = put_entries(kind, ends, fields, names);
     let mut slot: u32 = 0;
-    let mut child = walk::next_child(text, table, true, kind, place, 0);
+    let mut child = walk::next_child(table, true, kind, place, 0);
     let mut left = walk::CHILDREN;
     while 0 < left {
         if child == 0 {
@@ -496,8 +497,8 @@ fn emit_children(
             fields,
             names,
         );
-        slot = walk::sum(walk::variant(table, child), 1);
-        child = walk::next_child(text, table, true, kind, place, child);
+        slot = walk::sum(order::variant(table, child), 1);
+        child = walk::next_child(table, true, kind, place, child);
         left -= 1;
     }
     so_far
@@ -525,7 +526,7 @@ fn emit_child(
     let at = ends.records;
     let start = ends.names;
     let next = put_gaps(fields, at, slot, walk::gaps(kind, table, slot, child));
-    let number = (walk::variant(table, child) % 256) as u8;
+    let number = (order::variant(table, child) % 256) as u8;
     emit(
         options,
         text,
@@ -549,17 +550,19 @@ fn wide(n: u32) -> usize
     n as usize
 }
 
-// The schema of what was traced, whose root is place 0.
+// The schema of what was traced, so many places whose root is place 0. Their children are put in order first.
 pub fn to_schema(
     options: TracingOptions,
     text: &[u8],
-    table: &[u32],
+    count: usize,
+    table: &mut [u32],
     fields: &mut [u8],
     names: &mut [u8],
 ) -> Emitted
-    requires { ⌜ Sound (now text) (now table) 1024 ⌝ }
-    ensures { λ r. ⌜ Answered.answered r (now (fields .exit)) (now (names .exit)) ≡ toSchemaAt (options .word) (now (text .entry)) (now (table .entry)) (now (fields .entry)) (now (names .entry)) ⌝ }
+    requires { ⌜ Sound (now text) (now table) 1024 × (count ≤ 1024) ⌝ }
+    ensures { λ r. ⌜ (Answered.answered r (now (fields .exit)) (now (names .exit)) ≡ toSchemaAt (options .word) (now (text .entry)) (sortedPlaces (now (text .entry)) (now (table .entry)) count) (now (fields .entry)) (now (names .entry))) × (now (table .exit) ≡ sortedPlaces (now (text .entry)) (now (table .entry)) count) ⌝ }
 {
+    order::sort_places(text, count, table);
     match walk::walk_place(options, text, LEVELS, 0, table) {
         Walked::Refused(refusal) => Emitted::Refused(refusal),
         Walked::Below(records, bytes, below) => finish(

@@ -46,7 +46,7 @@ module _ (text t : List ℕ) (inner : ℕ → Walked) (kind place records names 
     pub next : (left : ℕ) (answer : Walked) (r k c further following : ℕ) (more moreNames moreBelow : ℕ) → childrenFrom text t inner kind place left records names below slot child ≡ whole → 0 < left → is ≡ false →
         answer ≡ inner child → answer ≡ W.Below r k c →
         more ≡ recordsWith kind t slot child records r → moreNames ≡ namesWith text t child names k → moreBelow ≡ columnsWith kind t slot child below r c →
-        further ≡ slotBehind t child → following ≡ nextChild text t false kind place child →
+        further ≡ slotBehind t child → following ≡ nextChild t false kind place child →
         childrenFrom text t inner kind place (left - 1) more moreNames moreBelow further following ≡ whole
     unfolding childrenFrom
     next zero answer r k c further following more moreNames moreBelow w h i a e p q s f g = absurd (omega arith)
@@ -56,11 +56,11 @@ module _ (text t : List ℕ) (inner : ℕ → Walked) (kind place records names 
 
 -- ---- a map's entries
 module _ (text t : List ℕ) (inner : ℕ → Walked) (kind place : ℕ) (answer : Walked) where
-  pub of-map : kind ≡ mapKind → answer ≡ childrenFrom text t inner kind place 1024 1 7 0 0 (nextChild text t false kind place 0) → answer ≡ childrenBelow text t inner kind place
+  pub of-map : kind ≡ mapKind → answer ≡ childrenFrom text t inner kind place 1024 1 7 0 0 (nextChild t false kind place 0) → answer ≡ childrenBelow text t inner kind place
   unfolding if_then_else_
   of-map e a = rw (eq-eqb kind mapKind e) a
 
-  pub of-other : (kind ≡ mapKind → ⊥) → answer ≡ childrenFrom text t inner kind place 1024 0 0 0 0 (nextChild text t false kind place 0) → answer ≡ childrenBelow text t inner kind place
+  pub of-other : (kind ≡ mapKind → ⊥) → answer ≡ childrenFrom text t inner kind place 1024 0 0 0 0 (nextChild t false kind place 0) → answer ≡ childrenBelow text t inner kind place
   unfolding if_then_else_
   of-other n a = rw (ne-eqb kind mapKind n) a
 
@@ -89,7 +89,7 @@ module _ (options : ℕ) (text t : List ℕ) (place kind : ℕ) (k : kind ≡ wo
       no-level zero e = rw (← k, ne-eqb kind null u, le-leb sequenceKind kind h)
       no-level (suc m) e = absurd (omega arith)
 
-      module _ (x : kind ≡ unionKind) (flat : Bool) (d : flat ≡ datalessAt text t place) (f : flat ≡ true) (strings : Bool) (s : strings ≡ enumsWithoutDataAsStrings options) where
+      module _ (x : kind ≡ unionKind) (flat : Bool) (d : flat ≡ datalessAt t place) (f : flat ≡ true) (strings : Bool) (s : strings ≡ enumsWithoutDataAsStrings options) where
         pub as-strings : (levels : ℕ) → (levels ≡ 0 → ⊥) → strings ≡ true → W.Below 0 0 0 ≡ walked options text t levels place
         unfolding walked walkedBy if_then_else_
         as-strings zero n p = absurd (n refl)
@@ -101,26 +101,26 @@ module _ (options : ℕ) (text t : List ℕ) (place kind : ℕ) (k : kind ≡ wo
         dataless-union (suc m) allowed n p a q = rw (← k, ne-eqb kind null u, le-leb sequenceKind kind h, eq-eqb kind unionKind x, sym d ∙ f, sym s ∙ p, sym a ∙ not-true allowed q)
 
 -- no union, or one with data, or one that is emitted with its children all the same
-abbrev pub Opens : ℕ → List ℕ → List ℕ → ℕ → ℕ → Type 0
-Opens options text t kind place =
-    ((eqb kind unionKind && datalessAt text t place && enumsWithoutDataAsStrings options) ≡ false) × ((eqb kind unionKind && datalessAt text t place && not (allowNullFields options)) ≡ false)
+abbrev pub Opens : ℕ → List ℕ → ℕ → ℕ → Type 0
+Opens options t kind place =
+    ((eqb kind unionKind && datalessAt t place && enumsWithoutDataAsStrings options) ≡ false) × ((eqb kind unionKind && datalessAt t place && not (allowNullFields options)) ≡ false)
 
-module _ (options : ℕ) (text t : List ℕ) (kind place : ℕ) where
-  pub no-union : (kind ≡ unionKind → ⊥) → Opens options text t kind place
+module _ (options : ℕ) (t : List ℕ) (kind place : ℕ) where
+  pub no-union : (kind ≡ unionKind → ⊥) → Opens options t kind place
   no-union n = (rw (ne-eqb kind unionKind n), rw (ne-eqb kind unionKind n))
 
-  pub with-data : (flat : Bool) → kind ≡ unionKind → flat ≡ datalessAt text t place → flat ≡ false → Opens options text t kind place
+  pub with-data : (flat : Bool) → kind ≡ unionKind → flat ≡ datalessAt t place → flat ≡ false → Opens options t kind place
   with-data flat x d f = (rw (eq-eqb kind unionKind x, sym d ∙ f), rw (eq-eqb kind unionKind x, sym d ∙ f))
 
-  pub null-children : (flat strings allowed : Bool) → kind ≡ unionKind → flat ≡ datalessAt text t place → flat ≡ true →
-      strings ≡ enumsWithoutDataAsStrings options → strings ≡ false → allowed ≡ allowNullFields options → not allowed ≡ false → Opens options text t kind place
+  pub null-children : (flat strings allowed : Bool) → kind ≡ unionKind → flat ≡ datalessAt t place → flat ≡ true →
+      strings ≡ enumsWithoutDataAsStrings options → strings ≡ false → allowed ≡ allowNullFields options → not allowed ≡ false → Opens options t kind place
   null-children flat strings allowed x d f s p a q =
       (rw (eq-eqb kind unionKind x, sym d ∙ f, sym s ∙ p), rw (eq-eqb kind unionKind x, sym d ∙ f, sym a ∙ not-false allowed q))
 
-  pub opened : (levels : ℕ) (answer : Walked) → kind ≡ word t place kindWord → (kind ≡ null → ⊥) → sequenceKind ≤ kind → (levels ≡ 0 → ⊥) → Opens options text t kind place →
+  pub opened : (text : List ℕ) (levels : ℕ) (answer : Walked) → kind ≡ word t place kindWord → (kind ≡ null → ⊥) → sequenceKind ≤ kind → (levels ≡ 0 → ⊥) → Opens options t kind place →
       answer ≡ childrenBelow text t (walked options text t (levels - 1)) kind place → answer ≡ walked options text t levels place
   unfolding walked walkedBy if_then_else_
-  opened zero answer k u h n o e = absurd (n refl)
-  opened (suc m) answer k u h n o e =
+  opened text zero answer k u h n o e = absurd (n refl)
+  opened text (suc m) answer k u h n o e =
       let l : suc m - 1 ≡ m = omega arith in
       rw (← k, ne-eqb kind null u, le-leb sequenceKind kind h, o .0, o .1) (rw l at e)

@@ -12,9 +12,10 @@ use Rattle.words.specs.Word.{word}
 use Rattle.model.specs.Kinds.{mapKind, unionKind, isContainer}
 use Rattle.model.specs.Emission.{slotLimit, entriesName}
 use Rattle.places.specs.Layout.{kindWord}
+use Rattle.order.specs.Flat.{variantAt}
 use Rattle.walk.specs.declared.Walked.{Walked}
 use Rattle.walk.specs.declared.Walked.the-variants as W
-use Rattle.walk.specs.Order.{variantAt, childName, nextChild, onward, datalessAt, childLimit}
+use Rattle.walk.specs.Order.{childName, nextChild, onward, datalessAt, childLimit}
 
 -- counts are of 32 bits, which no batch exceeds
 abbrev pub sumOf : ℕ → ℕ → ℕ
@@ -60,7 +61,7 @@ childrenFrom text t inner kind place (suc left) records names below slot child =
       | false ↦ elim (isBeyond kind t child) [
         | true ↦ W.Refused F.TooManySlots
         | false ↦ withChild
-            (λ r n c. childrenFrom text t inner kind place left r n c (slotBehind t child) (nextChild text t false kind place child))
+            (λ r n c. childrenFrom text t inner kind place left r n c (slotBehind t child) (nextChild t false kind place child))
             text t kind records names below slot child (inner child)
       ]
     ]
@@ -68,15 +69,15 @@ childrenFrom text t inner kind place (suc left) records names below slot child =
 -- a map's entries stand above its key and value
 abbrev pub childrenBelow : List ℕ → List ℕ → (ℕ → Walked) → ℕ → ℕ → Walked
 childrenBelow text t inner kind place =
-    childrenFrom text t inner kind place childLimit (if eqb kind mapKind then 1 else 0) (if eqb kind mapKind then length entriesName else 0) 0 0 (nextChild text t false kind place 0)
+    childrenFrom text t inner kind place childLimit (if eqb kind mapKind then 1 else 0) (if eqb kind mapKind then length entriesName else 0) 0 0 (nextChild t false kind place 0)
 
 -- a place: refusals 12 and 13, and what stands below it; `flat` where no level is left, and a reader of its children
 unfoldable pub walkedBy : ℕ → List ℕ → List ℕ → Bool → (ℕ → Walked) → ℕ → Walked
 walkedBy options text t flat inner place =
     if eqb (word t place kindWord) null then (if allowNullFields options then W.Below 0 0 0 else W.Refused F.NullField)
     else if not (isContainer (word t place kindWord)) || flat then W.Below 0 0 0
-    else if eqb (word t place kindWord) unionKind && datalessAt text t place && enumsWithoutDataAsStrings options then W.Below 0 0 0
-    else if eqb (word t place kindWord) unionKind && datalessAt text t place && not (allowNullFields options) then W.Refused F.DatalessUnion
+    else if eqb (word t place kindWord) unionKind && datalessAt t place && enumsWithoutDataAsStrings options then W.Below 0 0 0
+    else if eqb (word t place kindWord) unionKind && datalessAt t place && not (allowNullFields options) then W.Refused F.DatalessUnion
     else childrenBelow text t inner (word t place kindWord) place
 
 -- with so many levels left

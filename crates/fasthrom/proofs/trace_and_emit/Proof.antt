@@ -2,13 +2,14 @@
 use borrow.Author.Needs.{needs}
 use mathlib.Core.Path.{_≡_, refl}
 use mathlib.Core.List.{List}
-use Prim.Native.Nat.{ℕ}
+use Prim.Native.Nat.{ℕ, _≤_}
 use lib.ListN.{length}
 use Rattle.refusal.specs.declared.Refusal.{Refusal}
 use Rattle.samples.specs.declared.Traced.{Traced}
 use Rattle.samples.specs.declared.Traced.the-variants as T
 use Rattle.samples.specs.Flat.{out, fromSamples, SoundTraced}
 use Rattle.places.specs.Layout.{Sound}
+use Rattle.order.specs.Flat.{sortedPlaces}
 use Rattle.schema.specs.declared.Emitted.{Emitted}
 use Rattle.schema.specs.declared.Emitted.the-variants as E
 use Rattle.schema.specs.Emit.{answered, toSchemaAt}
@@ -18,19 +19,23 @@ use Rattle.fasthrom.specs.Laws.{sound-more}
 use Rattle.fasthrom.proofs.trace_and_emit.Statement.{statement}
 use Rattle.fasthrom.proofs.trace_and_emit.Tie as tie
 
-sound-after : (text u : List ℕ) (r : Traced) (behind n : ℕ) → r ≡ T.Next behind n → SoundTraced text u 1 r → Sound text u 1024
-sound-after text u r behind n e h = let s : SoundTraced text u 1 (T.Next behind n) = rw e at h in sound-more text u n (s .0)
+module _ (text u : List ℕ) (r : Traced) (behind n : ℕ) (next : r ≡ T.Next behind n) (after : SoundTraced text u 1 r) where
+  sound-after : Sound text u 1024
+  sound-after = let s : SoundTraced text u 1 (T.Next behind n) = rw next at after in sound-more text u n (s .0)
+
+  few-after : n ≤ 1024
+  few-after = let s : SoundTraced text u 1 (T.Next behind n) = rw next at after in s .0 .most
 
 module _ (options : ℕ) (commands text t u fields names : List ℕ) (r : Traced) (traced : out r u ≡ fromSamples commands text options t) where
   refused : (refusal : Refusal) (place : ℕ) → r ≡ T.Refused refusal place → given (O.Refused refusal place) u fields names ≡ emittedFrom options commands text fields names (fromSamples commands text options t)
   refused refusal place e = rw (← traced, e) refl
 
-  module _ (behind n : ℕ) (next : r ≡ T.Next behind n) (records written : List ℕ) (a : Emitted) (emitted : answered a records written ≡ toSchemaAt options text u fields names) where
-    schema : (x y z : ℕ) → a ≡ E.Schema x y z → given (O.Schema x y z) u records written ≡ emittedFrom options commands text fields names (fromSamples commands text options t)
-    schema x y z e = rw (← traced, next, ← emitted, e) refl
+  module _ (behind n : ℕ) (next : r ≡ T.Next behind n) (ordered records written : List ℕ) (a : Emitted) (emitted : answered a records written ≡ toSchemaAt options text (sortedPlaces text u n) fields names) (in-order : ordered ≡ sortedPlaces text u n) where
+    schema : (x y z : ℕ) → a ≡ E.Schema x y z → given (O.Schema x y z) ordered records written ≡ emittedFrom options commands text fields names (fromSamples commands text options t)
+    schema x y z e = rw (← traced, next, in-order, ← emitted, e) refl
 
-    turned-down : (refusal : Refusal) → a ≡ E.Refused refusal → given (O.Refused refusal (length commands)) u records written ≡ emittedFrom options commands text fields names (fromSamples commands text options t)
-    turned-down refusal e = rw (← traced, next, ← emitted, e) refl
+    turned-down : (refusal : Refusal) → a ≡ E.Refused refusal → given (O.Refused refusal (length commands)) ordered records written ≡ emittedFrom options commands text fields names (fromSamples commands text options t)
+    turned-down refusal e = rw (← traced, next, in-order, ← emitted, e) refl
 
 pub trace-and-emit-spec : {M : Type 1} → statement M
 trace-and-emit-spec =
@@ -38,7 +43,7 @@ trace-and-emit-spec =
     (tie.spec
     (λ c κs. search needs)
     (λ c. search needs)
-    (λ c κs. search (sound-after, needs))
+    (λ c κs. (search (sound-after, needs), search (few-after, needs)))
     (λ c. search needs)
     (λ c. search needs)
     (λ c. search needs)

@@ -43,7 +43,7 @@ module _ (options : ℕ) (text t fields names : List ℕ) (records bytes below k
           short-names h =
               rw (← u, ne-eqb seen 1 n, ← k, ne-eqb kind null m, sym r ∙ not-false root s, ← d, le-ltb (length fields) (needed * 8) g, ← b, lt-ltb (length names) many h)
 
-          emitted : (i j : ℕ) (out named : List ℕ) → many ≤ length names → writing i j out named ≡ fieldsBelow text t (emittedAt options text t levelLimit) kind 0 (writing 0 0 fields names) →
+          emitted : (i j : ℕ) (out named : List ℕ) → many ≤ length names → writing i j out named ≡ fieldsBelow t (emittedAt options text t levelLimit) kind 0 (writing 0 0 fields names) →
               answered (E.Schema records bytes below) out named ≡ finished options text t fields names records bytes below
           unfolding finished if_then_else_
           emitted i j out named h e =

@@ -14,15 +14,15 @@ use Rattle.schema.specs.Emit.{isDictionary}
 use Rattle.schema.proofs.is_dictionary.Statement.{statement}
 use Rattle.schema.proofs.is_dictionary.Tie as tie
 
-module _ (options : ℕ) (text t : List ℕ) (place kind : ℕ) (k : kind ≡ word t place kindWord) where
-  no-union : (kind ≡ unionKind → ⊥) → false ≡ isDictionary options text t place
+module _ (options : ℕ) (t : List ℕ) (place kind : ℕ) (k : kind ≡ word t place kindWord) where
+  no-union : (kind ≡ unionKind → ⊥) → false ≡ isDictionary options t place
   no-union n = rw (← k, ne-eqb kind unionKind n)
 
   module _ (u : kind ≡ unionKind) (strings : Bool) (s : strings ≡ enumsWithoutDataAsStrings options) where
-    no-strings : not strings ≡ true → false ≡ isDictionary options text t place
+    no-strings : not strings ≡ true → false ≡ isDictionary options t place
     no-strings p = rw (← k, eq-eqb kind unionKind u, sym s ∙ not-true strings p)
 
-    by-data : (is : Bool) → not strings ≡ false → is ≡ datalessAt text t place → is ≡ isDictionary options text t place
+    by-data : (is : Bool) → not strings ≡ false → is ≡ datalessAt t place → is ≡ isDictionary options t place
     by-data is p d = rw (← k, eq-eqb kind unionKind u, sym s ∙ not-false strings p) d
 
 pub is-dictionary-spec : {M : Type 1} → statement M

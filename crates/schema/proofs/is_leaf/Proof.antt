@@ -13,16 +13,16 @@ use Rattle.schema.specs.Emit.{isDictionary, isLeaf}
 use Rattle.schema.proofs.is_leaf.Statement.{statement}
 use Rattle.schema.proofs.is_leaf.Tie as tie
 
-module _ (options : ℕ) (text t : List ℕ) (levels place kind : ℕ) (k : kind ≡ word t place kindWord) where
-  primitive : kind < sequenceKind → true ≡ isLeaf options text t (eqb levels 0) place
+module _ (options : ℕ) (t : List ℕ) (levels place kind : ℕ) (k : kind ≡ word t place kindWord) where
+  primitive : kind < sequenceKind → true ≡ isLeaf options t (eqb levels 0) place
   unfolding isLeaf
   primitive h = rw (← k, lt-leb sequenceKind kind h)
 
-  no-level : sequenceKind ≤ kind → levels ≡ 0 → true ≡ isLeaf options text t (eqb levels 0) place
+  no-level : sequenceKind ≤ kind → levels ≡ 0 → true ≡ isLeaf options t (eqb levels 0) place
   unfolding isLeaf
   no-level h e = rw (← k, le-leb sequenceKind kind h, eq-eqb levels 0 e)
 
-  by-dictionary : (is : Bool) → sequenceKind ≤ kind → (levels ≡ 0 → ⊥) → is ≡ isDictionary options text t place → is ≡ isLeaf options text t (eqb levels 0) place
+  by-dictionary : (is : Bool) → sequenceKind ≤ kind → (levels ≡ 0 → ⊥) → is ≡ isDictionary options t place → is ≡ isLeaf options t (eqb levels 0) place
   unfolding isLeaf
   by-dictionary is h n d = rw (← k, le-leb sequenceKind kind h, ne-eqb levels 0 n) (rw (← k) at d)
 

@@ -19,13 +19,13 @@ use Rattle.schema.proofs.put_field.Statement.{statement}
 use Rattle.schema.proofs.put_field.Tie as tie
 
 module _ (options : ℕ) (text t : List ℕ) (place : ℕ) (nullable : Bool) (number i j next named size : ℕ) (fields names records bytes : List ℕ)
-    (is : Bool) (d : is ≡ isDictionary options text t place) (l : size ≡ length (childName text t place)) (q : put named bytes ≡ putBytes (childName text t place) names j) where
+    (is : Bool) (d : is ≡ isDictionary options t place) (l : size ≡ length (childName text t place)) (q : put named bytes ≡ putBytes (childName text t place) names j) where
   of-dictionary : (type : DataType) (code : ℕ) → is ≡ true → codeOf type ≡ dictionaryType options → code ≡ codeOf type → put next records ≡ putBytes (recordOf code nullable noStrategy number size 0) fields i →
       writing next named records bytes ≡ fieldAt options text t place nullable number (writing i j fields names)
   unfolding fieldAt both if_then_else_
   of-dictionary type code p e f r = rw (sym d ∙ p, ← l, ← (f ∙ e), ← r, ← q)
 
-  of-kind : (kind code strategy count : ℕ) → is ≡ false → kind ≡ word t place kindWord → code ≡ typeOf options kind % 256 → strategy ≡ strategyOf kind → count ≡ fieldCount text t kind place →
+  of-kind : (kind code strategy count : ℕ) → is ≡ false → kind ≡ word t place kindWord → code ≡ typeOf options kind % 256 → strategy ≡ strategyOf kind → count ≡ fieldCount t kind place →
       put next records ≡ putBytes (recordOf code nullable strategy number size count) fields i →
       writing next named records bytes ≡ fieldAt options text t place nullable number (writing i j fields names)
   unfolding fieldAt both if_then_else_
