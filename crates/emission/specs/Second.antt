@@ -7,11 +7,10 @@ use mathlib.Core.Option.{Option, none, some}
 use Prim.Native.Nat.{_-_, ℕ, zero, suc, _+_, _%_, _^_, _<_, _≤_}
 use native.Mathlib.Nat.{mod-eq-of-lt}
 use native.Mathlib.Omega.{arith}
-use lib.Dec.{eqb, leb, ltb}
+use lib.Dec.{eqb, leb}
 use lib.ListN.{length, drop}
-use borrow.Author.Tests.{eqb-true, ne-eqb, ltb-true, leb-true, leb-false}
+use borrow.Author.Tests.{eqb-true, ne-eqb, leb-true, leb-false}
 use Rattle.logic.specs.Test.{if_then_else_, cases}
-use Rattle.logic.specs.Test.{both as both-are}
 use Rattle.logic.specs.Buffer.{written}
 use Rattle.datatype.specs.Codes.{null, utf8, largeUtf8, struct, noStrategy}
 use Rattle.options.specs.Word.{allowNullFields, stringDictionaryEncoding, stringAsLargeUtf8, sequenceAsLargeList, enumsWithoutDataAsStrings, listType, dictionaryType}
@@ -22,7 +21,7 @@ use Rattle.model.specs.Kinds.{sequenceKind, mapKind, unionKind, tupleKind, mapM
 use Rattle.model.specs.Tracing.{one, placeLimit}
 use Rattle.model.specs.Emission.{Place, shown, Places, none-below, below, placeOf, placesOf, isMissing, dataless, slotLimit, firstOf, walk, walks, Field, mk, Fields, no-fields, more, typeOf, strategyOf, entriesName, nameOf, insertField, byName, gaps, arranged, fieldOf, fieldsOf, childCount, twoBytes, recordsOf, recordsIn, namesOf, namesIn}
 use Rattle.model.specs.Emission.{nameIn as nameOfField}
-use Rattle.places.specs.Layout.{kindWord, nullWord, samplesWord, firstWord, nextWord, heldWord}
+use Rattle.places.specs.Layout.{kindWord, nullWord, samplesWord, heldWord}
 use Rattle.refine.specs.Spots.{Spot, spot, Spots, no-spots, child, num, kindS}
 use Rattle.refine.specs.Numbers.{Good}
 use Rattle.refine.specs.Rep.{Rep, Row, ownWords}
