@@ -1,11 +1,11 @@
 // Lists the schema of the return in the folder that it runs in: options.bin, commands.bin and text.bin. A line for each
 // field record, and a last one; or why there is no schema, and where.
-ghost use mathlib.Core.Path.{_≡_};
-ghost use Prim.Native.Nat.{_+_, _*_, _<_, _≤_};
+ghost use Prim.Native.Nat.{_+_, _<_, _≤_};
 ghost use lib.ListN.{length};
 ghost use Rattle.io.specs.Counts.{Counts};
 use fasthrom::Answer;
-use libc::{STDERR_FILENO, STDOUT_FILENO};
+use libc::STDERR_FILENO;
+use libc::STDOUT_FILENO;
 
 // What came of reading: how many bytes are at the start of the buffer. Where the file cannot be read, a line on
 // standard error has said why.
