@@ -12,8 +12,8 @@ import sys
 NAMES = [b"a", b"b", b"c", b"key", b"element", b"a.b", b".", b"", b"0", "é".encode(), "€.".encode(), b"d" * 30,
          b"2024-01-02", b"1:2:3", b"2024-01-02T03:04:05", b"2024-01-02T03:04:05Z", b"1-2-3 4:5:6+00:00", b"." * 9, b"." * 18]
 NOT_UTF8 = b"\xff\xc3"
-TEXT = b"".join(NAMES) + NOT_UTF8
-OFFSET = {name: TEXT.index(name) for name in NAMES}
+# names that every text has
+ALWAYS = [b"a", b"." * 18]
 
 PRIMITIVES = list(range(0x00, 0x10))
 NUMBERS = list(range(0x02, 0x0D))
@@ -24,8 +24,14 @@ def u16(n):
 
 
 class Batches:
-    def __init__(self, seed):
+    def __init__(self, seed, names=NAMES):
         self.rng = random.Random(seed)
+        self.take(names)
+
+    def take(self, names):
+        """Later batches have these names."""
+        self.names = names
+        self.text = b"".join(names) + b"".join(name for name in ALWAYS if name not in names) + NOT_UTF8
 
     def chance(self, percent):
         return self.rng.random() * 100 < percent
@@ -34,11 +40,11 @@ class Batches:
 
     def name(self, name):
         if self.chance(0.1):
-            return u16(self.rng.randrange(len(TEXT) + 2)) + u16(self.rng.randrange(6))
-        return u16(OFFSET[name]) + u16(len(name))
+            return u16(self.rng.randrange(len(self.text) + 2)) + u16(self.rng.randrange(6))
+        return u16(self.text.index(name)) + u16(len(name))
 
     def any_name(self):
-        return self.rng.choice(NAMES)
+        return self.rng.choice(self.names)
 
     def number(self):
         if self.chance(5):
@@ -162,14 +168,17 @@ class Batches:
                 commands[at:at] = commands[at:at + self.rng.randrange(12)]
         return bytes(commands)
 
+    def any_bytes(self):
+        return bytes(self.rng.randrange(0x1C) for _ in range(self.rng.randrange(20)))
+
     def line(self):
         if self.chance(5):
-            commands = bytes(self.rng.randrange(0x1C) for _ in range(self.rng.randrange(20)))
+            commands = self.any_bytes()
         else:
             commands = self.shaped()
             if self.chance(20):
                 commands = self.damaged(commands)
-        return f"{self.options():04x} {commands.hex() or '-'} {TEXT.hex()}"
+        return f"{self.options():04x} {commands.hex() or '-'} {self.text.hex()}"
 
 
 if __name__ == "__main__":

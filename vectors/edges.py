@@ -55,17 +55,17 @@ def containers(of):
     yield b"\x1b" + u16(0) + of + b"\x16" + A + b"\x01" + END
 
 
-def full_tables():
-    """The last positions of a tuple that all but fills the table."""
-    for count in range(1016, 1025):
+def full_tables(counts=range(1016, 1025), record=lambda value: value):
+    """The last positions of a tuple that all but fills the table, each tuple a record or in one."""
+    for count in counts:
         others = [b"\x01"] * (count - 1)
         for last in list(containers(A)) + list(containers(name(0, 20))):
-            yield tuple_of(others + [last])
-            yield tuple_of(others) + tuple_of(others + [last])
-            yield tuple_of(others) + tuple_of(others + [b"\x10" + last])
-            yield tuple_of(others + [b"\x18" + u16(0) + A]) + tuple_of(others + [last])
-    yield b"\x13" + u16(65_535)
-    yield b"\x13" + u16(1) + b"\x01\x13" + u16(65_535) + b"\x01" * 65_000
+            yield record(tuple_of(others + [last]))
+            yield record(tuple_of(others)) + record(tuple_of(others + [last]))
+            yield record(tuple_of(others)) + record(tuple_of(others + [b"\x10" + last]))
+            yield record(tuple_of(others + [b"\x18" + u16(0) + A])) + record(tuple_of(others + [last]))
+    yield record(b"\x13" + u16(65_535))
+    yield record(b"\x13" + u16(1) + b"\x01") + record(b"\x13" + u16(65_535) + b"\x01" * 65_000)
 
 
 def depths():

@@ -100,11 +100,6 @@ module _ (options end : ℕ) (text t fields names : List ℕ) (n : ℕ) (u : Spo
 tree-said : {text : List ℕ} {behind n : ℕ} {t : List ℕ} {x : Result (Counted Spot)} → Ends text x (out (T.Next behind n) t) → (u : Spot) × (x ≡ counted n u) × (num u ≡ 0) × Fits text t n u
 tree-said (ends {u = u} z h) = (u, refl, z, h)
 
-module _ (options : ℕ) (commands text t : List ℕ) (bytes : Bytes commands) (long : tableWords ≤ length t) where
-  -- no more places than there may be
-  pub places-few : (behind n : ℕ) (traced : List ℕ) → fromSamples commands text options (cleared t tableWords) ≡ out (T.Next behind n) traced → n ≤ placeLimit
-  places-few behind n traced e = let (u, is, root, fits) = tree-said (rw e at (flat-is-walk options commands text t bytes long)) in fits .most
-
 pub schema-is-model : (options : ℕ) (commands text t : List ℕ) → Bytes commands → length commands ≤ inputLimit → tableWords ≤ length t → (behind n : ℕ) (traced fields names : List ℕ) →
     fromSamples commands text options (cleared t tableWords) ≡ out (T.Next behind n) traced →
     Emits fields names (schemaOf (record { options = options; commands = commands; text = text })) (toSchemaAt options text (sortedPlaces text traced n) fields names)

@@ -40,8 +40,7 @@ abbrev pub asGiven : ℕ → List ℕ → Answered → Given
 asGiven end t (answered (E.Schema records bytes columns) fields names) = given (O.Schema records bytes columns) t fields names
 asGiven end t (answered (E.Refused refusal) fields names) = given (O.Refused refusal end) t fields names
 
--- what follows tracing
+-- what follows tracing: the children are put in order, and the schema is emitted
 abbrev pub emittedFrom : ℕ → List ℕ → List ℕ → List ℕ → List ℕ → Out → Given
 emittedFrom options commands text fields names (out (T.Refused refusal place) t) = given (O.Refused refusal place) t fields names
-emittedFrom options commands text fields names (out (T.Next behind n) t) =
-    asGiven (length commands) (sortedPlaces text t n) (toSchemaAt options text (sortedPlaces text t n) fields names)
+emittedFrom options commands text fields names (out (T.Next behind n) t) = asGiven (length commands) (sortedPlaces text t n) (toSchemaAt options text (sortedPlaces text t n) fields names)

@@ -8,7 +8,7 @@ use native.Mathlib.Omega.{arith}
 use lib.ListN.{length, getD}
 use Rattle.logic.specs.Test.{if_then_else_}
 use Rattle.refusal.specs.Number.{numberOf, shortBuffer}
-use Rattle.words.specs.Word.{cleared}
+use Rattle.words.specs.Word.{cleared, tailOf}
 use Rattle.words.specs.Laws.{tail-cleared, cleared-again}
 use Rattle.model.specs.Result.{Result, accepted, refused}
 use Rattle.model.specs.Reading.{values}
@@ -19,6 +19,7 @@ use Rattle.model.specs.Answer.{inputLimit, tableWords, schemaOf, answerOf, isSh
 use Rattle.model.specs.Demand3.{batch}
 use Rattle.places.specs.Layout.{Sound}
 use Rattle.places.specs.Laws.{sound-cleared}
+use Rattle.equality.specs.Count.{traced}
 use Rattle.samples.specs.declared.Traced.{Traced}
 use Rattle.samples.specs.declared.Traced.the-variants as T
 use Rattle.samples.specs.Flat.{Out, out, fromSamples}
@@ -30,7 +31,7 @@ use Rattle.schema.specs.declared.Emitted.the-variants as E
 use Rattle.schema.specs.Emit.{Answered, answered, toSchemaAt}
 use Rattle.order.specs.Flat.{sortedPlaces}
 use Rattle.order.specs.Laws.{tail-ordered}
-use Rattle.emission.specs.Refinement.{Emits, places-few, schema-is-model}
+use Rattle.emission.specs.Refinement.{Emits, schema-is-model}
 use Rattle.refusal.specs.declared.Refusal.{Refusal}
 use Rattle.refusal.specs.declared.Refusal.the-variants as F
 use Rattle.fasthrom.specs.declared.Outcome.{Outcome}
@@ -85,15 +86,15 @@ module _ (options : ℕ) (commands text t fields names : List ℕ) (bytes : Byte
   ended (given o u records written) = answerBy o (lent (cleared u tableWords) records written)
 
   -- what stands past the places' words is as it was
-  zeroed-again : (r : Traced) (u : List ℕ) → out r u ≡ fromSamples commands text options (cleared t tableWords) → cleared u tableWords ≡ cleared t tableWords
-  zeroed-again r u e = cleared-again t u (samples-tail commands text options (cleared t tableWords) u r (sound-cleared text t long) e ∙ tail-cleared t)
+  untouched : (r : Traced) (u : List ℕ) → out r u ≡ fromSamples commands text options (cleared t tableWords) → tailOf u ≡ tailOf t
+  untouched r u e = samples-tail commands text options (cleared t tableWords) u r (sound-cleared text t long) e ∙ tail-cleared t
 
   refused-is : (refusal : Refusal) (place : ℕ) (u : List ℕ) → out (T.Refused refusal place) u ≡ fromSamples commands text options (cleared t tableWords) →
       ended (given (O.Refused refusal place) u fields names) ≡ answerOf b (lent t fields names) (schemaOf b)
   unfolding schemaOf answerOf outcome
   refused-is refusal place u e =
       let is : refused (numberOf refusal) place ≡ trace options (values options commands text) = rw (← e) at (traced-is-model options commands text t bytes short long) in
-      rw (← is, zeroed-again (T.Refused refusal place) u e) refl
+      rw (← is, cleared-again t u (untouched (T.Refused refusal place) u e)) refl
 
   -- a schema that fits both buffers, or does not
   fits-or-not : (u : List ℕ) (schema : Fields) (isLong : Bool) (a : Answered) → cleared u tableWords ≡ cleared t tableWords →
@@ -113,17 +114,18 @@ module _ (options : ℕ) (commands text t fields names : List ℕ) (bytes : Byte
       let swap : countIn schema * 8 ≡ 8 * countIn schema = omega arith in
       fits-or-not u schema (isShort schema (lent t fields names)) a z (rw swap at e)
 
-  -- nor are they changed when children are put in order
-  zeroed-ordered : (behind n : ℕ) (u : List ℕ) → out (T.Next behind n) u ≡ fromSamples commands text options (cleared t tableWords) → cleared (sortedPlaces text u n) tableWords ≡ cleared t tableWords
-  zeroed-ordered behind n u e = cleared-again u (sortedPlaces text u n) (tail-ordered text u n (places-few options commands text t bytes long behind n u (sym e))) ∙ zeroed-again (T.Next behind n) u e
+  -- tracing leaves at most 1,024 places
+  few : (n : ℕ) (tree : Tree) → trace options (values options commands text) ≡ counted n tree → n ≤ 1024
+  few n tree e = let (seen, is, most) = traced options (values options commands text) (record { places = n; what = tree }) e in omega arith
 
   emitted-is : (behind n : ℕ) (u : List ℕ) → out (T.Next behind n) u ≡ fromSamples commands text options (cleared t tableWords) →
-      ended (asGiven (length commands) (sortedPlaces text u n) (toSchemaAt options text (sortedPlaces text u n) fields names)) ≡ answerOf b (lent t fields names) (schemaOf b)
+      ended (emittedFrom options commands text fields names (out (T.Next behind n) u)) ≡ answerOf b (lent t fields names) (schemaOf b)
   unfolding schemaOf outcome
   emitted-is behind n u e =
       let is : counted n (treeOf text u) ≡ trace options (values options commands text) = rw (← e) at (traced-is-model options commands text t bytes short long) in
-      emits-is (sortedPlaces text u n) (schemaOf b) (toSchemaAt options text (sortedPlaces text u n) fields names) (rw (← is) (emission-stands options (length commands) (treeOf text u)))
-      (zeroed-ordered behind n u e)
+      emits-is (sortedPlaces text u n) (schemaOf b) (toSchemaAt options text (sortedPlaces text u n) fields names)
+      (rw (← is) (emission-stands options (length commands) (treeOf text u)))
+      (cleared-again t (sortedPlaces text u n) (tail-ordered text u n (few n (treeOf text u) (sym is)) ∙ untouched (T.Next behind n) u e))
       (schema-is-model options commands text t bytes short long behind n u fields names (sym e))
 
   -- what is given before the table is zeroed again

@@ -19,22 +19,23 @@ use Rattle.fasthrom.specs.Laws.{sound-more}
 use Rattle.fasthrom.proofs.trace_and_emit.Statement.{statement}
 use Rattle.fasthrom.proofs.trace_and_emit.Tie as tie
 
-sound-after : (text u : List ℕ) (r : Traced) (behind n : ℕ) → r ≡ T.Next behind n → SoundTraced text u 1 r → Sound text u 1024
-sound-after text u r behind n e h = let s : SoundTraced text u 1 (T.Next behind n) = rw e at h in sound-more text u n (s .0)
+module _ (text u : List ℕ) (r : Traced) (behind n : ℕ) (next : r ≡ T.Next behind n) (after : SoundTraced text u 1 r) where
+  sound-after : Sound text u 1024
+  sound-after = let s : SoundTraced text u 1 (T.Next behind n) = rw next at after in sound-more text u n (s .0)
 
-few-after : (text u : List ℕ) (r : Traced) (behind n : ℕ) → r ≡ T.Next behind n → SoundTraced text u 1 r → n ≤ 1024
-few-after text u r behind n e h = let s : SoundTraced text u 1 (T.Next behind n) = rw e at h in s .0 .most
+  few-after : n ≤ 1024
+  few-after = let s : SoundTraced text u 1 (T.Next behind n) = rw next at after in s .0 .most
 
 module _ (options : ℕ) (commands text t u fields names : List ℕ) (r : Traced) (traced : out r u ≡ fromSamples commands text options t) where
   refused : (refusal : Refusal) (place : ℕ) → r ≡ T.Refused refusal place → given (O.Refused refusal place) u fields names ≡ emittedFrom options commands text fields names (fromSamples commands text options t)
   refused refusal place e = rw (← traced, e) refl
 
-  module _ (behind n : ℕ) (next : r ≡ T.Next behind n) (ordered records written : List ℕ) (o : ordered ≡ sortedPlaces text u n) (a : Emitted) (emitted : answered a records written ≡ toSchemaAt options text (sortedPlaces text u n) fields names) where
+  module _ (behind n : ℕ) (next : r ≡ T.Next behind n) (ordered records written : List ℕ) (a : Emitted) (emitted : answered a records written ≡ toSchemaAt options text (sortedPlaces text u n) fields names) (in-order : ordered ≡ sortedPlaces text u n) where
     schema : (x y z : ℕ) → a ≡ E.Schema x y z → given (O.Schema x y z) ordered records written ≡ emittedFrom options commands text fields names (fromSamples commands text options t)
-    schema x y z e = rw (← traced, next, ← emitted, o, e) refl
+    schema x y z e = rw (← traced, next, in-order, ← emitted, e) refl
 
     turned-down : (refusal : Refusal) → a ≡ E.Refused refusal → given (O.Refused refusal (length commands)) ordered records written ≡ emittedFrom options commands text fields names (fromSamples commands text options t)
-    turned-down refusal e = rw (← traced, next, ← emitted, o, e) refl
+    turned-down refusal e = rw (← traced, next, in-order, ← emitted, e) refl
 
 pub trace-and-emit-spec : {M : Type 1} → statement M
 trace-and-emit-spec =
