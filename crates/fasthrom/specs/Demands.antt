@@ -77,13 +77,27 @@ ends : (b : Batch) (lent : Buffers) (a : Answer) → Ending b lent a → Demand1
 ends b lent a (whole schema traced fits) = inl (record { schema = schema; traced = traced; fits = fits; given = refl })
 ends b lent a (barred n low high) =
     inr (record {
-      least = low; most = omega arith; place = zero-le; field-records = refl; name-bytes = refl; columns = refl; fields = refl; names = refl;
+      least = low;
+      most = omega arith;
+      place = zero-le;
+      field-records = refl;
+      name-bytes = refl;
+      columns = refl;
+      fields = refl;
+      names = refl;
       early = λ h. (refl, refl);
       late = λ h. absurd (omega arith);
     })
 ends b lent a (turned n place low high inside short) =
     inr (record {
-      least = omega arith; most = high; place = inside; field-records = refl; name-bytes = refl; columns = refl; fields = refl; names = refl;
+      least = omega arith;
+      most = high;
+      place = inside;
+      field-records = refl;
+      name-bytes = refl;
+      columns = refl;
+      fields = refl;
+      names = refl;
       early = λ h. absurd (omega arith);
       late = λ h. refl;
     })

@@ -63,7 +63,14 @@ fn trace_and_emit(
     ensures { λ r. ⌜ Given.given r (now (table .exit)) (now (fields .exit)) (now (names .exit)) ≡ emittedFrom (options .word) (now (commands .entry)) (now (text .entry)) (now (fields .entry)) (now (names .entry)) (fromSamples (now (commands .entry)) (now (text .entry)) (options .word) (now (table .entry))) ⌝ }
 {
     match samples::from_samples(commands, text, options, table) {
-        Traced::Next(_, count) => match schema::to_schema(options, text, count, table, fields, names) {
+        Traced::Next(_, count) => match schema::to_schema(
+            options,
+            text,
+            count,
+            table,
+            fields,
+            names,
+        ) {
             Emitted::Schema(records, bytes, columns) => Outcome::Schema(records, bytes, columns),
             Emitted::Refused(refusal) => Outcome::Refused(refusal, commands.len()),
         },
