@@ -3,8 +3,10 @@
     python3 vectors/edges.py
 
 Commands and text of the greatest length and one more, the 1,024th and the 1,025th place made by every kind of command,
-containers and variants at depths around 20, unions of around 128 slots.
+containers and variants at depths around 20, unions of around 128 slots, many children that are put in order.
 """
+
+import random
 
 TEXT = b"a" + b"." * 30
 ALLOW_NULL_FIELDS, MAP_AS_STRUCT, ENUMS_AS_STRINGS = 1, 2, 512
@@ -83,6 +85,23 @@ def slots():
     yield field(b"\x18" + u16(65_535) + A)
 
 
+def orders():
+    """Map-mode fields and variants seen in any order, in one record or in two: (options, commands, text)."""
+    rng = random.Random(3)
+    for count in (1, 2, 3, 4, 5, 7, 8, 9, 15, 16, 17, 31, 33, 64, 100, 127, 255, 256, 512, 1022):
+        texts = [b"".join(b"%04d" % i for i in rng.sample(range(2000), count)), bytes(rng.choices(b"ab", k=count + 40))]
+        for text in texts:
+            spans = [(4 * i, 4) for i in range(count)] if text is texts[0] else [(i, rng.randrange(40)) for i in range(count)]
+            keys = [b"\x0d" + name(*span) + b"\x01" for span in spans]
+            again = rng.sample(keys, len(keys))
+            yield MAP_AS_STRUCT, field(b"\x14" + b"".join(keys) + END), text
+            yield MAP_AS_STRUCT, field(b"\x14" + b"".join(keys[: count // 2]) + END) + field(b"\x14" + b"".join(again) + END), text
+        numbers = rng.sample(range(128), min(count, 128))
+        variants = [field(b"\x19" + u16(number) + A + b"\x04") for number in numbers]
+        yield ALLOW_NULL_FIELDS, b"".join(variants), TEXT
+        yield ENUMS_AS_STRINGS, b"".join(field(b"\x18" + u16(number) + A) for number in numbers), TEXT
+
+
 def main():
     batches = [*lengths(), *full_tables(), *depths(), *slots()]
     for word in (ALLOW_NULL_FIELDS, ALLOW_NULL_FIELDS | MAP_AS_STRUCT, ENUMS_AS_STRINGS):
@@ -90,6 +109,8 @@ def main():
             print(f"{word:04x} {commands.hex() or '-'} {TEXT.hex()}")
         for text in (b"x" * 65_535, b"x" * 65_536):
             print(f"{word:04x} {field(bytes([1])).hex()} {text.hex()}")
+    for word, commands, text in orders():
+        print(f"{word:04x} {commands.hex()} {text.hex()}")
 
 
 if __name__ == "__main__":
