@@ -53,10 +53,10 @@ fn places(tracer: &Tracer) -> usize {
     }
 }
 
-struct Question<'a> {
-    word: u16,
-    commands: &'a [u8],
-    text: &'a [u8],
+pub struct Question<'a> {
+    pub word: u16,
+    pub commands: &'a [u8],
+    pub text: &'a [u8],
 }
 
 impl Question<'_> {
@@ -113,10 +113,10 @@ impl Question<'_> {
 }
 
 #[derive(Default)]
-struct Answer {
-    records: Vec<u8>,
-    names: Vec<u8>,
-    columns: usize,
+pub struct Answer {
+    pub records: Vec<u8>,
+    pub names: Vec<u8>,
+    pub columns: usize,
 }
 
 impl Answer {
@@ -149,7 +149,8 @@ impl Answer {
     }
 }
 
-fn answer(question: &Question, record_bytes: usize, name_bytes: usize) -> Result<Answer, Refused> {
+/// The whole call with buffers of those lengths.
+pub fn answer(question: &Question, record_bytes: usize, name_bytes: usize) -> Result<Answer, Refused> {
     let mut answer = Answer::default();
     for field in question.schema()? {
         answer.add(&field, 0);

@@ -7,11 +7,12 @@ mod coerce;
 mod commands;
 mod hex;
 mod internal;
+mod listing;
 mod texts;
 
 use std::io::{self, BufWriter, Write};
 
-const USAGE: &str = "usage: oracle texts | utf8 | coerce | batch [RECORD-BYTES NAME-BYTES]";
+const USAGE: &str = "usage: oracle texts | utf8 | coerce | batch [RECORD-BYTES NAME-BYTES] | list DIRECTORY";
 
 /// A chain of 65,535 somes is 65,535 calls of the serializer, one inside another.
 const STACK: usize = 1 << 30;
@@ -27,6 +28,7 @@ fn run(arguments: &[String]) -> io::Result<()> {
             let length = |s: &str| s.parse().map_err(io::Error::other);
             batch::answers(&mut out, length(records)?, length(names)?)?
         }
+        ["list", directory] => listing::list(&mut out, directory)?,
         _ => return Err(io::Error::other(USAGE)),
     }
     out.flush()
