@@ -24,6 +24,10 @@
 //! # Ok::<(), Box<dyn std::error::Error>>(())
 //! ```
 
+// the tests of the call share random records with those under tests/
+#[cfg(test)]
+extern crate self as fasthrom;
+
 mod call;
 mod data_type;
 mod options;

@@ -157,7 +157,27 @@ impl Records {
 }
 
 /// That a value was written. Only writing one gives it, and for that value alone, so a closure that is to write a value
-/// writes just one.
+/// writes just one. Anything else does not compile:
+///
+/// ```compile_fail
+/// fasthrom::Records::new().add(|record| ()); // no value
+/// ```
+/// ```compile_fail
+/// fasthrom::Records::new().add(|record| {
+///     record.bool();
+///     record.bool() // a second one
+/// });
+/// ```
+/// ```compile_fail
+/// fasthrom::Records::new().add(|record| {
+///     let mut other = None;
+///     fasthrom::Records::new().add(|inner| {
+///         other = Some(inner.bool()); // another's
+///         record.bool()
+///     });
+///     other.unwrap()
+/// });
+/// ```
 pub struct Done<'a>(PhantomData<fn(&'a ()) -> &'a ()>);
 
 /// Where a value is to be written. Of most values only the kind is told.

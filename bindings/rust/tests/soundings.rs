@@ -63,7 +63,7 @@ fn the_sounding() {
         "length: Float64\nname: LargeUtf8, nullable\n"
     );
 
-    // the encoder writes the same bytes, but that the text `name` is a text of its own here
+    // the encoder writes the same bytes
     let mut records = Records::new();
     records
         .add(|record| {
