@@ -96,13 +96,13 @@ impl fmt::Display for Refusal {
             Refusal::BadKey => "a map's key is not a text, as map_as_struct asks",
             Refusal::TooDeep => "a container or a variant stands at depth 20 or more",
             Refusal::Mismatch => {
-                "a container meets another kind of container, or a value that is none"
+                "a container meets another kind of container, or a value that is no container"
             }
             Refusal::TwoNames => "a variant number has two names",
             Refusal::NoJoint => "two types meet that have no type in common",
             Refusal::TooManyPlaces => "there are more than 1,024 places",
             Refusal::NullField => {
-                "a field was seen with nulls only or never, and allow_null_fields is off"
+                "a place was seen with nulls only or never, and allow_null_fields is off"
             }
             Refusal::DatalessUnion => {
                 "no variant of an enum has data, and neither enums_without_data_as_strings nor \

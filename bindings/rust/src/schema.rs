@@ -1,6 +1,6 @@
 //! What a batch was traced to.
 
-use std::fmt;
+use std::fmt::{self, Write};
 
 use crate::data_type::{DataType, Strategy};
 
@@ -97,13 +97,8 @@ impl Field {
         if let Some(number) = self.variant {
             write!(f, "variant {number} ")?;
         }
-        // a name may hold line ends, and the listing is to have one line a field
-        let name = self.name.escape_debug();
-        if self.name.is_empty() {
-            write!(f, "\"\": {}", self.data_type)?;
-        } else {
-            write!(f, "{name}: {}", self.data_type)?;
-        }
+        self.list_name(f)?;
+        write!(f, ": {}", self.data_type)?;
         if self.nullable {
             f.write_str(", nullable")?;
         }
@@ -114,6 +109,20 @@ impl Field {
         self.children
             .iter()
             .try_for_each(|child| child.list(f, level + 1))
+    }
+
+    /// The name on one line, whatever it holds.
+    fn list_name(&self, f: &mut fmt::Formatter<'_>) -> fmt::Result {
+        if self.name.is_empty() {
+            return f.write_str("\"\"");
+        }
+        self.name.chars().try_for_each(|letter| {
+            if letter.is_control() {
+                write!(f, "{}", letter.escape_default())
+            } else {
+                f.write_char(letter)
+            }
+        })
     }
 }
 

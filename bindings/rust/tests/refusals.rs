@@ -39,7 +39,7 @@ fn before_the_commands_are_read() {
 }
 
 #[test]
-fn at_a_command() {
+fn no_batch() {
     let bad = "a command is unknown, cut off, or cannot stand there, at byte";
     let due = format!("{bad} 7 of the commands");
     check(30, &field(&[1])[..7], Refusal::BadCommand, &due);
@@ -56,19 +56,15 @@ fn at_a_command() {
         Refusal::BadKey,
         "a map's key is not a text, as map_as_struct asks, at byte 7 of the commands",
     );
-    let mut deep = vec![0x12; 21];
-    deep.resize(42, 0x17);
-    check(
-        30,
-        &deep,
-        Refusal::TooDeep,
-        "a container or a variant stands at depth 20 or more, at byte 20 of the commands",
-    );
+}
+
+#[test]
+fn where_values_meet() {
     check(
         30,
         &fields(&[1], &[0x12, 0x17]),
         Refusal::Mismatch,
-        "a container meets another kind of container, or a value that is none, \
+        "a container meets another kind of container, or a value that is no container, \
          at byte 14 of the commands",
     );
     let (a, b) = ([0x18, 0, 0, 0, 0, 1, 0], [0x18, 0, 0, 1, 0, 1, 0]);
@@ -84,6 +80,18 @@ fn at_a_command() {
         Refusal::NoJoint,
         "two types meet that have no type in common, at byte 14 of the commands",
     );
+}
+
+#[test]
+fn past_a_bound() {
+    let mut deep = vec![0x12; 21];
+    deep.resize(42, 0x17);
+    check(
+        30,
+        &deep,
+        Refusal::TooDeep,
+        "a container or a variant stands at depth 20 or more, at byte 20 of the commands",
+    );
     // a first tuple makes all its positions at once
     let mut wide = vec![0x13, 0, 4];
     wide.resize(3 + 1024, 1);
@@ -96,12 +104,12 @@ fn at_a_command() {
 }
 
 #[test]
-fn of_the_batch_as_a_whole() {
+fn of_a_field() {
     check(
         30,
         &field(&[0]),
         Refusal::NullField,
-        "a field was seen with nulls only or never, and allow_null_fields is off",
+        "a place was seen with nulls only or never, and allow_null_fields is off",
     );
     check(
         30,
@@ -116,6 +124,10 @@ fn of_the_batch_as_a_whole() {
         Refusal::TooManySlots,
         "an enum has a variant number above 127",
     );
+}
+
+#[test]
+fn of_the_root_and_the_buffers() {
     check(
         30,
         &[0x10, 0x15, 0x17],

@@ -210,30 +210,29 @@ fn options_have_the_bits_of_document_01() {
     );
 }
 
+/// A sequence, a tuple, a map and a variant.
+fn containers(record: Value<'_>) -> Done<'_> {
+    record.structure(|fields| {
+        fields.field("stops", |v| v.sequence(|items| items.item(|v| v.u16())));
+        fields.field("size", |v| {
+            v.tuple(|items| {
+                items.item(|v| v.f32());
+                items.item(|v| v.bytes());
+            })
+        });
+        fields.field("fares", |v| {
+            v.map(|entries| entries.entry(|k| k.text("car"), |v| v.some(|v| v.i64())))
+        });
+        fields.field("state", |v| v.newtype_variant(1, "Late", |v| v.char()));
+    })
+}
+
 #[test]
 fn one_of_each_container() {
     let mut records = Records::new();
-    records
-        .add(|record| {
-            record.structure(|fields| {
-                fields.field("stops", |v| v.sequence(|items| items.item(|v| v.u16())));
-                fields.field("size", |v| {
-                    v.tuple(|items| {
-                        items.item(|v| v.f32());
-                        items.item(|v| v.bytes());
-                    })
-                });
-                fields.field("fares", |v| {
-                    v.map(|entries| entries.entry(|k| k.text("car"), |v| v.some(|v| v.i64())))
-                });
-                fields.field("state", |v| v.newtype_variant(1, "Late", |v| v.char()));
-            })
-        })
-        .unwrap();
+    records.add(containers).unwrap();
     let schema = traced(defaults(), &records).unwrap();
-    assert_eq!(
-        schema.to_string(),
-        "\
+    let listing = "\
 stops: LargeList
   element: UInt16
 size: Struct, TupleAsStruct
@@ -244,16 +243,26 @@ fares: Struct, MapAsStruct
 state: Union
   variant 0 \"\": Null, nullable, UnknownVariant
   variant 1 Late: UInt32
-"
-    );
+";
+    assert_eq!(schema.to_string(), listing);
     assert_eq!(schema.columns(), 6);
 
-    let plain = TracingOptions::from_word(0);
-    let schema = traced(plain, &records).unwrap();
+    let schema = traced(TracingOptions::from_word(0), &records).unwrap();
     let listing = schema.to_string();
     assert!(listing.starts_with("stops: List\n"), "{listing}");
     let map = "fares: Map\n  entries: Struct\n    key: Utf8\n    value: Int64, nullable\n";
     assert!(listing.contains(map), "{listing}");
+}
+
+#[test]
+fn a_listing_has_a_line_a_field() {
+    let mut records = Records::new();
+    records
+        .add(|r| r.structure(|f| f.field("Ærø's\nberth", |v| v.bool())))
+        .unwrap();
+    let schema = traced(defaults(), &records).unwrap();
+    assert_eq!(schema.to_string(), "Ærø's\\nberth: Boolean\n");
+    assert_eq!(schema.fields()[0].name, "Ærø's\nberth");
 }
 
 #[test]

@@ -48,7 +48,7 @@ fn ask(question: &Question, lent: &mut Lent) -> Answer {
     call(question.options, &commands, &text, table, fields, names)
 }
 
-/// Whether all are the same as one; asked of the ends and of neighbours, which is fast to compare.
+/// Whether all are the same as one: the first is, and each is as the one before it, which is fast to compare.
 fn all_are<T: PartialEq>(all: &[T], one: T) -> bool {
     all.is_empty() || all[0] == one && all[1..] == all[..all.len() - 1]
 }
