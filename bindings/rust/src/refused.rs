@@ -75,7 +75,8 @@ impl Refusal {
     /// The refusal that an answer's number stands for; 0, that there is none.
     pub(crate) fn from_number(number: u32) -> Option<Self> {
         let index = number.checked_sub(1)?;
-        Some(Refusal::ALL[index as usize])
+        let refusal = Refusal::ALL.get(index as usize);
+        Some(*refusal.expect("a library that refuses as this crate knows"))
     }
 
     /// Whether the place is that of a command: others are found before the commands are read, or after all of them.
