@@ -113,14 +113,14 @@ impl Question<'_> {
 }
 
 #[derive(Default)]
-struct Answer {
-    records: Vec<u8>,
-    names: Vec<u8>,
-    columns: usize,
+pub struct Answer {
+    pub records: Vec<u8>,
+    pub names: Vec<u8>,
+    pub columns: usize,
 }
 
 impl Answer {
-    fn add(&mut self, field: &Field, variant: i8) {
+    pub fn add(&mut self, field: &Field, variant: i8) {
         let strategy = match get_strategy_from_metadata(&field.metadata) {
             Ok(None) => 0,
             Ok(Some(Strategy::TupleAsStruct)) => 1,
