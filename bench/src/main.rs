@@ -2,6 +2,7 @@
 
 #[path = "../../oracle/src/batch.rs"]
 mod batch;
+mod clock;
 #[path = "../../oracle/src/codes.rs"]
 mod codes;
 #[path = "../../oracle/src/commands.rs"]
@@ -16,7 +17,7 @@ mod published;
 mod shapes;
 
 use std::hint::black_box;
-use std::time::{Duration, Instant};
+use std::time::Duration;
 
 use serde::Serialize;
 
@@ -143,11 +144,11 @@ impl Case {
 
     /// How long so many runs take.
     fn time(&mut self, side: Side, runs: u32) -> Duration {
-        let start = Instant::now();
+        let start = clock::processor_time();
         for _ in 0..runs {
             self.run(side);
         }
-        start.elapsed()
+        clock::processor_time() - start
     }
 
     /// How many runs a round takes.
