@@ -121,7 +121,11 @@ impl Case {
         for schema in schemas {
             let mut rust = batch::Answer::default();
             schema.fields.iter().for_each(|field| rust.add(field, 0));
-            assert_eq!(self.lent.written(answer), (&rust.records[..], &rust.names[..]), "{shape} differs");
+            assert_eq!(
+                self.lent.written(answer),
+                (&rust.records[..], &rust.names[..]),
+                "{shape} differs"
+            );
             assert_eq!(answer.columns as usize, rust.columns);
         }
         if let Shape::Wide(width) | Shape::Alike(width) = shape {
@@ -181,14 +185,19 @@ impl Case {
 fn times() {
     for (shape, size) in shapes::all() {
         let mut case = Case::new(shape, size);
-        let sides: Vec<Side> = [Side::Ours, Side::Rust, Side::Native].into_iter().filter(|&s| case.has(s)).collect();
+        let sides: Vec<Side> = [Side::Ours, Side::Rust, Side::Native]
+            .into_iter()
+            .filter(|&s| case.has(s))
+            .collect();
         let medians: Vec<String> = case.medians(&sides).iter().map(|time| format!("{time:.0}")).collect();
         println!("{shape}, {size}\t{}\t{}", case.records.count(), medians.join("\t"));
     }
 }
 
 fn once(name: &str, side: Side) {
-    let named = shapes::all().into_iter().find(|(shape, size)| format!("{shape}, {size}") == name);
+    let named = shapes::all()
+        .into_iter()
+        .find(|(shape, size)| format!("{shape}, {size}") == name);
     let (shape, size) = named.unwrap_or_else(|| panic!("no shape is named {name}"));
     Case::new(shape, size).run(side);
 }
@@ -196,7 +205,9 @@ fn once(name: &str, side: Side) {
 fn main() {
     let arguments: Vec<String> = std::env::args().skip(1).collect();
     match arguments.iter().map(String::as_str).collect::<Vec<_>>()[..] {
-        ["shapes"] => shapes::all().iter().for_each(|(shape, size)| println!("{shape}, {size}")),
+        ["shapes"] => shapes::all()
+            .iter()
+            .for_each(|(shape, size)| println!("{shape}, {size}")),
         ["times"] => times(),
         ["once", name, "ours"] => once(name, Side::Ours),
         ["once", name, "rust"] => once(name, Side::Rust),

@@ -69,6 +69,9 @@ impl Lent {
 
     /// The field records and names that the last call wrote.
     pub fn written(&self, answer: Answer) -> (&[u8], &[u8]) {
-        (&self.fields[..answer.field_records as usize * 8], &self.names[..answer.name_bytes as usize])
+        (
+            &self.fields[..answer.field_records as usize * 8],
+            &self.names[..answer.name_bytes as usize],
+        )
     }
 }

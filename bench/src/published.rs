@@ -52,7 +52,10 @@ struct Reader<'a> {
 impl<'a> Reader<'a> {
     fn operand(&mut self) -> usize {
         self.at += 2;
-        usize::from(u16::from_le_bytes([self.batch.commands[self.at - 2], self.batch.commands[self.at - 1]]))
+        usize::from(u16::from_le_bytes([
+            self.batch.commands[self.at - 2],
+            self.batch.commands[self.at - 1],
+        ]))
     }
 
     fn name(&mut self) -> &'static str {

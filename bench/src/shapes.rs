@@ -153,7 +153,12 @@ fn name(i: usize) -> String {
         "ka", "ro", "min", "te", "sul", "va", "dor", "i", "pen", "ga", "lu", "bre", "no", "ta", "she", "or",
     ];
     // each digit once, the lowest first, so that neighbours differ early
-    format!("{}{}{}", SYLLABLES[i % 16], SYLLABLES[(i / 16 + 5) % 16], SYLLABLES[(i / 256 + i) % 16])
+    format!(
+        "{}{}{}",
+        SYLLABLES[i % 16],
+        SYLLABLES[(i / 16 + 5) % 16],
+        SYLLABLES[(i / 256 + i) % 16]
+    )
 }
 
 fn wide(b: &mut Batch, width: usize, name: impl Fn(usize) -> String) {
@@ -226,10 +231,18 @@ pub fn all() -> Vec<(Shape, Size)> {
         (Shape::Typical, Size::Records(100)),
         (Shape::Typical, Size::Records(12)),
     ];
-    for shape in [Shape::Typical, Shape::Numbers, Shape::Dates, Shape::MapMode, Shape::Deep, Shape::Wide(8), Shape::Wide(32)] {
+    for shape in [
+        Shape::Typical,
+        Shape::Numbers,
+        Shape::Dates,
+        Shape::MapMode,
+        Shape::Deep,
+        Shape::Wide(8),
+        Shape::Wide(32),
+    ] {
         all.extend([4, 16, 64].map(|size| (shape, Size::KiB(size))));
     }
-    all.extend([64, 128, 256, 512, 1_000].map(|width| (Shape::Wide(width), Size::KiB(64))));
+    all.extend([2, 4, 16, 64, 128, 256, 512, 1_000].map(|width| (Shape::Wide(width), Size::KiB(64))));
     all.extend([8, 32, 64, 128, 256, 512, 1_000].map(|width| (Shape::Alike(width), Size::KiB(64))));
     all
 }
