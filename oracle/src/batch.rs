@@ -120,7 +120,7 @@ pub struct Answer {
 }
 
 impl Answer {
-    fn add(&mut self, field: &Field, variant: i8) {
+    pub fn add(&mut self, field: &Field, variant: i8) {
         let strategy = match get_strategy_from_metadata(&field.metadata) {
             Ok(None) => 0,
             Ok(Some(Strategy::TupleAsStruct)) => 1,
