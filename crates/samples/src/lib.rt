@@ -355,6 +355,32 @@ fn read_parts(
     }
 }
 
+// A plain value of a part, at the child that its step leads to. Levels matter to containers alone, so no dots are counted.
+fn read_plain_part(
+    commands: &[u8],
+    text: &[u8],
+    options: TracingOptions,
+    step: Step,
+    here: usize,
+    at: usize,
+    levels: usize,
+    place: usize,
+    count: usize,
+    table: &mut [u32],
+) -> Traced
+    requires { ⌜ Ready (now text) (now table) count place ⌝ }
+    requires { ⌜ Inside (now text) (nameOf step) × (isPlain (now commands) at ≡ true) ⌝ }
+    ensures { λ r. ⌜ (Out.out r (now (table .exit)) ≡ partRead (now (text .entry)) (readers (now (commands .entry)) (now (text .entry)) (options .word) levels) step here at place count (now (table .entry))) × SoundTraced (now (text .entry)) (now (table .exit)) count r ⌝ }
+{
+    match places::ensure(text, place, step, count, table) {
+        Ensured::Child(child, more) => {
+            places::touch(place, child, table);
+            observe_plain(commands, options, levels, at, child, more, table)
+        }
+        Ensured::Refused(refusal) => Traced::Refused(refusal, here),
+    }
+}
+
 // The value of a part, at the child that its step leads to.
 fn read_part(
     commands: &[u8],
@@ -372,6 +398,20 @@ fn read_part(
     requires { ⌜ Inside (now text) (nameOf step) ⌝ }
     ensures { λ r. ⌜ (Out.out r (now (table .exit)) ≡ partRead (now (text .entry)) (readers (now (commands .entry)) (now (text .entry)) (options .word) levels) step here at place count (now (table .entry))) × SoundTraced (now (text .entry)) (now (table .exit)) count r ⌝ }
 {
+    if is_plain(commands, at) {
+        return read_plain_part(
+            commands,
+            text,
+            options,
+            step,
+            here,
+            at,
+            levels,
+            place,
+            count,
+            table,
+        );
+    }
     match places::ensure(text, place, step, count, table) {
         Ensured::Child(child, more) => {
             places::touch(place, child, table);

@@ -50,6 +50,7 @@ use Rattle.places.proofs.touch.Reads as touch-reads
 use Rattle.samples.proofs.lower.Reads as lower-reads
 use Rattle.samples.proofs.observe.Reads as observe-reads
 use Rattle.samples.proofs.is_plain.Reads as is-plain-reads
+use Rattle.samples.proofs.read_plain_part.Reads as read-plain-part-reads
 use Rattle.samples.proofs.observe_plain.Reads as observe-plain-reads
 use Rattle.samples.proofs.past_marks.Reads as past-marks-reads
 use Rattle.shapes.proofs.Step.name.Reads as name-reads
@@ -177,7 +178,7 @@ abbrev read-contents-claims : ℕ → read-contents-lts.Claims
 read-contents-claims t = (observe-reads.Asked, observe-reads.Learnt, read-value-below t, read-value.Post, read-container-below t, read-container.Post)
 
 abbrev read-part-claims : ℕ → read-part-lts.Claims
-read-part-claims t = (ensure-reads.Asked, ensure-reads.Learnt, touch-reads.Asked, touch-reads.Learnt, name-reads.Asked, name-reads.Learnt, lower-reads.Asked, lower-reads.Learnt, read-value-below t, read-value.Post)
+read-part-claims t = (is-plain-reads.Asked, is-plain-reads.Learnt, read-plain-part-reads.Asked, read-plain-part-reads.Learnt, ensure-reads.Asked, ensure-reads.Learnt, touch-reads.Asked, touch-reads.Learnt, name-reads.Asked, name-reads.Learnt, lower-reads.Asked, lower-reads.Learnt, read-value-below t, read-value.Post)
 
 abbrev read-parts-claims : ℕ → read-parts-lts.Claims
 read-parts-claims t = (next-part-reads.Asked, next-part-reads.Learnt, read-part-below t, read-part.Post)
@@ -376,6 +377,22 @@ read-contents-same-length-4 t c = search needs
 read-contents-returns-4 : (t : ℕ) → read-contents-lts.Need-returns-4 (read-contents-claims t) (read-contents-at t) read-contents.Post
 read-contents-returns-4 t c = (search (contents-fields, needs), search needs)
 
+-- src/lib.rt:179:1
+read-part-is-plain-requires : (t : ℕ) → read-part-lts.Need-is-plain-requires (read-part-claims t) (read-part-at t) read-part.Post
+read-part-is-plain-requires t c κs = search needs
+
+-- src/lib.rt:179:1
+read-part-read-plain-part-requires : (t : ℕ) → read-part-lts.Need-read-plain-part-requires (read-part-claims t) (read-part-at t) read-part.Post
+read-part-read-plain-part-requires t c κs = search (flagged, needs)
+
+-- src/lib.rt:179:1
+read-part-same-length : (t : ℕ) → read-part-lts.Need-same-length (read-part-claims t) (read-part-at t) read-part.Post
+read-part-same-length t c = search needs
+
+-- src/lib.rt:179:1
+read-part-returns : (t : ℕ) → read-part-lts.Need-returns (read-part-claims t) (read-part-at t) read-part.Post
+read-part-returns t c = search needs
+
 -- src/lib.rt:184:11
 read-part-ensure-requires : (t : ℕ) → read-part-lts.Need-ensure-requires (read-part-claims t) (read-part-at t) read-part.Post
 read-part-ensure-requires t c κs = search needs
@@ -405,20 +422,20 @@ read-part-enum-known-refusal : (t : ℕ) → read-part-lts.Need-enum-known-refus
 read-part-enum-known-refusal t c = search needs
 
 -- src/lib.rt:179:1
-read-part-same-length : (t : ℕ) → read-part-lts.Need-same-length (read-part-claims t) (read-part-at t) read-part.Post
-read-part-same-length t c = search needs
-
--- src/lib.rt:179:1
-read-part-returns : (t : ℕ) → read-part-lts.Need-returns (read-part-claims t) (read-part-at t) read-part.Post
-read-part-returns t c = (search (part-child, needs), search (traced-from, child-grows, needs))
-
--- src/lib.rt:179:1
 read-part-same-length-2 : (t : ℕ) → read-part-lts.Need-same-length-2 (read-part-claims t) (read-part-at t) read-part.Post
 read-part-same-length-2 t c = search needs
 
 -- src/lib.rt:179:1
 read-part-returns-2 : (t : ℕ) → read-part-lts.Need-returns-2 (read-part-claims t) (read-part-at t) read-part.Post
-read-part-returns-2 t c = (search (part-refused, needs), search needs)
+read-part-returns-2 t c = (search (part-child, needs), search (traced-from, child-grows, c .before .before .read-value .ensures .1, c .before .before .before .before .before .before .before .before .before .before .before .before .before .before .before .ensure .ensures .0, c .before .before .before .before .before .before .before .before .before .before .before .before .before .before .before .ensure .ensures .1, c .before .before .before .before .before .before .before .before .before .before .before .child .given .1, c .before .before .before .before .before .before .before .before .before .before .before .before .before .before .before .before .before .before .before .before .before .before .pre .1 .0))
+
+-- src/lib.rt:179:1
+read-part-same-length-3 : (t : ℕ) → read-part-lts.Need-same-length-3 (read-part-claims t) (read-part-at t) read-part.Post
+read-part-same-length-3 t c = search needs
+
+-- src/lib.rt:179:1
+read-part-returns-3 : (t : ℕ) → read-part-lts.Need-returns-3 (read-part-claims t) (read-part-at t) read-part.Post
+read-part-returns-3 t c = (search (part-refused, needs), search needs)
 
 abbrev read-parts-Inv-loop : read-parts-lts.InvT-loop
 read-parts-Inv-loop commands text options kind positions start levels place count table₀ i₀ at₀ places₀ table i at places =
@@ -730,6 +747,10 @@ pub +enter+read-choice+read-container+read-contents+read-part+read-parts+read-va
     (λ t. read-part-lts.spec (read-part-claims t)
     (read-part-at t)
     read-part.Post
+    (read-part-is-plain-requires t)
+    (read-part-read-plain-part-requires t)
+    (read-part-same-length t)
+    (read-part-returns t)
     (read-part-ensure-requires t)
     (read-part-enum-known-child t)
     (read-part-touch-requires t)
@@ -737,10 +758,10 @@ pub +enter+read-choice+read-container+read-contents+read-part+read-parts+read-va
     (read-part-lower-requires t)
     (read-part-read-value-requires t)
     (read-part-enum-known-refusal t)
-    (read-part-same-length t)
-    (read-part-returns t)
     (read-part-same-length-2 t)
-    (read-part-returns-2 t))
+    (read-part-returns-2 t)
+    (read-part-same-length-3 t)
+    (read-part-returns-3 t))
     (λ t. read-parts-lts.spec (read-parts-claims t)
     (read-parts-at t)
     read-parts.Post
