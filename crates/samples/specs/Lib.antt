@@ -2,5 +2,6 @@ pub mod Flat
 pub mod Onward
 pub mod Ways
 pub mod Loops
+pub mod Plain
 pub mod Table
 pub mod Tail

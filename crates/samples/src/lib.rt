@@ -1,11 +1,14 @@
 // Reads the values of a batch and traces each at its place (from_samples/mod.rs). A container's contents are read by a
 // call on itself, with the levels left falling from 20: a level for each step down, and one for each dot of its name.
 ghost use mathlib.Core.Path.{_≡_};
+ghost use mathlib.Core.Bool.{true};
 ghost use Prim.Native.Nat.{_+_, _-_, _<_, _≤_};
-ghost use lib.ListN.{length};
+ghost use lib.Dec.{eqb};
+ghost use lib.ListN.{length, getD};
 ghost use Rattle.shapes.specs.Steps.{Inside, nameOf};
 ghost use Rattle.places.specs.Layout.{Ready, Sound};
 ghost use Rattle.samples.specs.Flat.{Chain, isMark, marked, pastMarks, Out, stored, observed, dotsIn, partRead, partsBy, opened, containerBy, chosen, variantBy, readers, innerOf, valueAt, fromSamples, SoundTraced};
+ghost use Rattle.samples.specs.Plain.{isPlain, plainKind};
 use commands::Due;
 use commands::Read;
 use options::TracingOptions;
@@ -101,6 +104,54 @@ fn observe(
     }
 }
 
+const UNIT: u8 = 0x00;
+
+const CHAR: u8 = 0x0C;
+
+// Commands below this one are plain: one byte, no mark and no container.
+const TEXT: u8 = 0x0D;
+
+// Whether a plain value stands at an offset.
+fn is_plain(commands: &[u8], at: usize) -> bool
+    ensures { λ r. ⌜ r ≡ isPlain (now (commands .entry)) at ⌝ }
+{
+    at < commands.len() && commands[at] < TEXT
+}
+
+// The type of a plain value, by its byte: the byte itself, but a char is a UInt32.
+fn plain_kind(byte: u8) -> u32
+    ensures { λ r. ⌜ r ≡ plainKind byte ⌝ }
+{
+    if byte == CHAR { 8 } else { byte as u32 }
+}
+
+// A plain value at a place, seen at once.
+fn observe_plain(
+    commands: &[u8],
+    options: TracingOptions,
+    levels: usize,
+    at: usize,
+    place: usize,
+    count: usize,
+    table: &mut [u32],
+) -> Traced
+    requires { ⌜ (isPlain (now commands) at ≡ true) × (place < 1024) × (16384 ≤ length (now table)) ⌝ }
+    ensures { λ r. ⌜ Out.out r (now (table .exit)) ≡ observed (options .word) (eqb (getD (now (commands .entry)) at 0) 0) (plainKind (getD (now (commands .entry)) at 0)) levels at (at + 1) place count (now (table .entry)) ⌝ }
+{
+    let byte = commands[at];
+    observe(
+        options,
+        byte == UNIT,
+        plain_kind(byte),
+        levels,
+        at,
+        at + 1,
+        place,
+        count,
+        table,
+    )
+}
+
 // The levels left below a step.
 fn lower(levels: usize, name: Name, text: &[u8]) -> usize
     requires { ⌜ Inside (now text) name ⌝ }
@@ -124,6 +175,9 @@ pub fn read_value(
     requires { ⌜ Ready (now text) (now table) count place ⌝ }
     ensures { λ r. ⌜ (Out.out r (now (table .exit)) ≡ valueAt (now (commands .entry)) (now (text .entry)) (options .word) levels at place count (now (table .entry))) × SoundTraced (now (text .entry)) (now (table .exit)) count r ⌝ }
 {
+    if is_plain(commands, at) {
+        return observe_plain(commands, options, levels, at, place, count, table);
+    }
     let here = past_marks(commands, at, place, table);
     let read = commands::read_command(commands, text, here, Due::Value);
     let Read::Command(command, next) = read else {
@@ -301,6 +355,32 @@ fn read_parts(
     }
 }
 
+// A plain value of a part, at the child that its step leads to. Levels matter to containers alone, so no dots are counted.
+fn read_plain_part(
+    commands: &[u8],
+    text: &[u8],
+    options: TracingOptions,
+    step: Step,
+    here: usize,
+    at: usize,
+    levels: usize,
+    place: usize,
+    count: usize,
+    table: &mut [u32],
+) -> Traced
+    requires { ⌜ Ready (now text) (now table) count place ⌝ }
+    requires { ⌜ Inside (now text) (nameOf step) × (isPlain (now commands) at ≡ true) ⌝ }
+    ensures { λ r. ⌜ (Out.out r (now (table .exit)) ≡ partRead (now (text .entry)) (readers (now (commands .entry)) (now (text .entry)) (options .word) levels) step here at place count (now (table .entry))) × SoundTraced (now (text .entry)) (now (table .exit)) count r ⌝ }
+{
+    match places::ensure(text, place, step, count, table) {
+        Ensured::Child(child, more) => {
+            places::touch(place, child, table);
+            observe_plain(commands, options, levels, at, child, more, table)
+        }
+        Ensured::Refused(refusal) => Traced::Refused(refusal, here),
+    }
+}
+
 // The value of a part, at the child that its step leads to.
 fn read_part(
     commands: &[u8],
@@ -318,6 +398,20 @@ fn read_part(
     requires { ⌜ Inside (now text) (nameOf step) ⌝ }
     ensures { λ r. ⌜ (Out.out r (now (table .exit)) ≡ partRead (now (text .entry)) (readers (now (commands .entry)) (now (text .entry)) (options .word) levels) step here at place count (now (table .entry))) × SoundTraced (now (text .entry)) (now (table .exit)) count r ⌝ }
 {
+    if is_plain(commands, at) {
+        return read_plain_part(
+            commands,
+            text,
+            options,
+            step,
+            here,
+            at,
+            levels,
+            place,
+            count,
+            table,
+        );
+    }
     match places::ensure(text, place, step, count, table) {
         Ensured::Child(child, more) => {
             places::touch(place, child, table);

@@ -8,6 +8,8 @@ use Rattle.places.specs.Layout.{Ready}
 use Rattle.places.specs.Laws.{made-grows}
 use Rattle.samples.specs.Flat.{partsFrom, partsBy, readers}
 use Rattle.samples.specs.Ways.{opened-parts, opened-refused, container-opened, container-refused, variant-chosen, variant-refused, part-child, part-refused, chosen-child, chosen-refused, contents-unit, contents-value, contents-positions, contents-fields, value-refused, value-none, value-leaf, value-parts, value-variant}
+use Rattle.logic.specs.Flag.{flagged}
+use Rattle.samples.specs.Plain.{value-plain}
 use Rattle.samples.specs.Loops.{parts-end, parts-refused, parts-stopped, parts-more, parts-less, parts-counted, count-fits}
 use Rattle.samples.specs.Table.{is-place, has-room, sampled-ready, made-ready, past-ready, observed-sound, child-grows, child-room, child-place, child-ready, traced-from, traced-grows, traced-ready, falls as variant-falls, met-left}
 use Prim.Native.Nat.{_-_, ℕ, _+_, _*_, _<_, _≤_}
@@ -47,6 +49,9 @@ use Rattle.places.proofs.sample.Reads as sample-reads
 use Rattle.places.proofs.touch.Reads as touch-reads
 use Rattle.samples.proofs.lower.Reads as lower-reads
 use Rattle.samples.proofs.observe.Reads as observe-reads
+use Rattle.samples.proofs.is_plain.Reads as is-plain-reads
+use Rattle.samples.proofs.read_plain_part.Reads as read-plain-part-reads
+use Rattle.samples.proofs.observe_plain.Reads as observe-plain-reads
 use Rattle.samples.proofs.past_marks.Reads as past-marks-reads
 use Rattle.shapes.proofs.Step.name.Reads as name-reads
 use Rattle.shapes.proofs.next_part.Reads as next-part-reads
@@ -173,13 +178,13 @@ abbrev read-contents-claims : ℕ → read-contents-lts.Claims
 read-contents-claims t = (observe-reads.Asked, observe-reads.Learnt, read-value-below t, read-value.Post, read-container-below t, read-container.Post)
 
 abbrev read-part-claims : ℕ → read-part-lts.Claims
-read-part-claims t = (ensure-reads.Asked, ensure-reads.Learnt, touch-reads.Asked, touch-reads.Learnt, name-reads.Asked, name-reads.Learnt, lower-reads.Asked, lower-reads.Learnt, read-value-below t, read-value.Post)
+read-part-claims t = (is-plain-reads.Asked, is-plain-reads.Learnt, read-plain-part-reads.Asked, read-plain-part-reads.Learnt, ensure-reads.Asked, ensure-reads.Learnt, touch-reads.Asked, touch-reads.Learnt, name-reads.Asked, name-reads.Learnt, lower-reads.Asked, lower-reads.Learnt, read-value-below t, read-value.Post)
 
 abbrev read-parts-claims : ℕ → read-parts-lts.Claims
 read-parts-claims t = (next-part-reads.Asked, next-part-reads.Learnt, read-part-below t, read-part.Post)
 
 abbrev read-value-claims : ℕ → read-value-lts.Claims
-read-value-claims t = (past-marks-reads.Asked, past-marks-reads.Learnt, read-command-reads.Asked, read-command-reads.Learnt, refusal-reads.Asked, refusal-reads.Learnt, place-reads.Asked, place-reads.Learnt, shape-of-reads.Asked, shape-of-reads.Learnt, observe-reads.Asked, observe-reads.Learnt, read-container-below t, read-container.Post, read-variant-below t, read-variant.Post)
+read-value-claims t = (is-plain-reads.Asked, is-plain-reads.Learnt, observe-plain-reads.Asked, observe-plain-reads.Learnt, past-marks-reads.Asked, past-marks-reads.Learnt, read-command-reads.Asked, read-command-reads.Learnt, refusal-reads.Asked, refusal-reads.Learnt, place-reads.Asked, place-reads.Learnt, shape-of-reads.Asked, shape-of-reads.Learnt, observe-reads.Asked, observe-reads.Learnt, read-container-below t, read-container.Post, read-variant-below t, read-variant.Post)
 
 abbrev read-variant-claims : ℕ → read-variant-lts.Claims
 read-variant-claims t = (get-reads.Asked, get-reads.Learnt, meet-reads.Asked, meet-reads.Learnt, sample-reads.Asked, sample-reads.Learnt, read-choice-below t, read-choice.Post)
@@ -372,6 +377,22 @@ read-contents-same-length-4 t c = search needs
 read-contents-returns-4 : (t : ℕ) → read-contents-lts.Need-returns-4 (read-contents-claims t) (read-contents-at t) read-contents.Post
 read-contents-returns-4 t c = (search (contents-fields, needs), search needs)
 
+-- src/lib.rt:179:1
+read-part-is-plain-requires : (t : ℕ) → read-part-lts.Need-is-plain-requires (read-part-claims t) (read-part-at t) read-part.Post
+read-part-is-plain-requires t c κs = search needs
+
+-- src/lib.rt:179:1
+read-part-read-plain-part-requires : (t : ℕ) → read-part-lts.Need-read-plain-part-requires (read-part-claims t) (read-part-at t) read-part.Post
+read-part-read-plain-part-requires t c κs = search (flagged, needs)
+
+-- src/lib.rt:179:1
+read-part-same-length : (t : ℕ) → read-part-lts.Need-same-length (read-part-claims t) (read-part-at t) read-part.Post
+read-part-same-length t c = search needs
+
+-- src/lib.rt:179:1
+read-part-returns : (t : ℕ) → read-part-lts.Need-returns (read-part-claims t) (read-part-at t) read-part.Post
+read-part-returns t c = search needs
+
 -- src/lib.rt:184:11
 read-part-ensure-requires : (t : ℕ) → read-part-lts.Need-ensure-requires (read-part-claims t) (read-part-at t) read-part.Post
 read-part-ensure-requires t c κs = search needs
@@ -401,20 +422,20 @@ read-part-enum-known-refusal : (t : ℕ) → read-part-lts.Need-enum-known-refus
 read-part-enum-known-refusal t c = search needs
 
 -- src/lib.rt:179:1
-read-part-same-length : (t : ℕ) → read-part-lts.Need-same-length (read-part-claims t) (read-part-at t) read-part.Post
-read-part-same-length t c = search needs
-
--- src/lib.rt:179:1
-read-part-returns : (t : ℕ) → read-part-lts.Need-returns (read-part-claims t) (read-part-at t) read-part.Post
-read-part-returns t c = (search (part-child, needs), search (traced-from, child-grows, needs))
-
--- src/lib.rt:179:1
 read-part-same-length-2 : (t : ℕ) → read-part-lts.Need-same-length-2 (read-part-claims t) (read-part-at t) read-part.Post
 read-part-same-length-2 t c = search needs
 
 -- src/lib.rt:179:1
 read-part-returns-2 : (t : ℕ) → read-part-lts.Need-returns-2 (read-part-claims t) (read-part-at t) read-part.Post
-read-part-returns-2 t c = (search (part-refused, needs), search needs)
+read-part-returns-2 t c = (search (part-child, needs), search (traced-from, child-grows, c .before .before .read-value .ensures .1, c .before .before .before .before .before .before .before .before .before .before .before .before .before .before .before .ensure .ensures .0, c .before .before .before .before .before .before .before .before .before .before .before .before .before .before .before .ensure .ensures .1, c .before .before .before .before .before .before .before .before .before .before .before .child .given .1, c .before .before .before .before .before .before .before .before .before .before .before .before .before .before .before .before .before .before .before .before .before .before .pre .1 .0))
+
+-- src/lib.rt:179:1
+read-part-same-length-3 : (t : ℕ) → read-part-lts.Need-same-length-3 (read-part-claims t) (read-part-at t) read-part.Post
+read-part-same-length-3 t c = search needs
+
+-- src/lib.rt:179:1
+read-part-returns-3 : (t : ℕ) → read-part-lts.Need-returns-3 (read-part-claims t) (read-part-at t) read-part.Post
+read-part-returns-3 t c = (search (part-refused, needs), search needs)
 
 abbrev read-parts-Inv-loop : read-parts-lts.InvT-loop
 read-parts-Inv-loop commands text options kind positions start levels place count table₀ i₀ at₀ places₀ table i at places =
@@ -498,6 +519,22 @@ read-parts-loop-again t c = (
   search needs,
 )
 
+-- src/lib.rt:105:1
+read-value-is-plain-requires : (t : ℕ) → read-value-lts.Need-is-plain-requires (read-value-claims t) (read-value-at t) read-value.Post
+read-value-is-plain-requires t c κs = search needs
+
+-- src/lib.rt:105:1
+read-value-observe-plain-requires : (t : ℕ) → read-value-lts.Need-observe-plain-requires (read-value-claims t) (read-value-at t) read-value.Post
+read-value-observe-plain-requires t c κs = search (is-place, has-room, flagged, needs)
+
+-- src/lib.rt:105:1
+read-value-same-length : (t : ℕ) → read-value-lts.Need-same-length (read-value-claims t) (read-value-at t) read-value.Post
+read-value-same-length t c = search needs
+
+-- src/lib.rt:105:1
+read-value-returns : (t : ℕ) → read-value-lts.Need-returns (read-value-claims t) (read-value-at t) read-value.Post
+read-value-returns t c = (search (value-plain, flagged, needs), search (observed-sound, needs))
+
 -- src/lib.rt:109:9
 read-value-past-marks-requires : (t : ℕ) → read-value-lts.Need-past-marks-requires (read-value-claims t) (read-value-at t) read-value.Post
 read-value-past-marks-requires t c κs = search (is-place, has-room, needs)
@@ -523,12 +560,12 @@ read-value-place-requires : (t : ℕ) → read-value-lts.Need-place-requires (re
 read-value-place-requires t c κs = search needs
 
 -- src/lib.rt:112:9
-read-value-same-length : (t : ℕ) → read-value-lts.Need-same-length (read-value-claims t) (read-value-at t) read-value.Post
-read-value-same-length t c = search needs
+read-value-same-length-2 : (t : ℕ) → read-value-lts.Need-same-length-2 (read-value-claims t) (read-value-at t) read-value.Post
+read-value-same-length-2 t c = search needs
 
 -- src/lib.rt:112:9
-read-value-returns : (t : ℕ) → read-value-lts.Need-returns (read-value-claims t) (read-value-at t) read-value.Post
-read-value-returns t c = (search (value-refused, needs), search needs)
+read-value-returns-2 : (t : ℕ) → read-value-lts.Need-returns-2 (read-value-claims t) (read-value-at t) read-value.Post
+read-value-returns-2 t c = (search (value-refused, needs), search needs)
 
 -- src/lib.rt:114:11
 read-value-shape-of-requires : (t : ℕ) → read-value-lts.Need-shape-of-requires (read-value-claims t) (read-value-at t) read-value.Post
@@ -563,20 +600,12 @@ read-value-enum-told-2 : (t : ℕ) → read-value-lts.Need-enum-told-2 (read-val
 read-value-enum-told-2 t c = search needs
 
 -- src/lib.rt:105:1
-read-value-same-length-2 : (t : ℕ) → read-value-lts.Need-same-length-2 (read-value-claims t) (read-value-at t) read-value.Post
-read-value-same-length-2 t c = search needs
-
--- src/lib.rt:105:1
-read-value-returns-2 : (t : ℕ) → read-value-lts.Need-returns-2 (read-value-claims t) (read-value-at t) read-value.Post
-read-value-returns-2 t c = (search (value-leaf, needs), search (observed-sound, past-ready, needs))
-
--- src/lib.rt:105:1
 read-value-same-length-3 : (t : ℕ) → read-value-lts.Need-same-length-3 (read-value-claims t) (read-value-at t) read-value.Post
 read-value-same-length-3 t c = search needs
 
 -- src/lib.rt:105:1
 read-value-returns-3 : (t : ℕ) → read-value-lts.Need-returns-3 (read-value-claims t) (read-value-at t) read-value.Post
-read-value-returns-3 t c = (search (value-parts, needs), search needs)
+read-value-returns-3 t c = (search (value-leaf, needs), search (observed-sound, past-ready, needs))
 
 -- src/lib.rt:105:1
 read-value-same-length-4 : (t : ℕ) → read-value-lts.Need-same-length-4 (read-value-claims t) (read-value-at t) read-value.Post
@@ -584,7 +613,7 @@ read-value-same-length-4 t c = search needs
 
 -- src/lib.rt:105:1
 read-value-returns-4 : (t : ℕ) → read-value-lts.Need-returns-4 (read-value-claims t) (read-value-at t) read-value.Post
-read-value-returns-4 t c = (search (value-variant, needs), search needs)
+read-value-returns-4 t c = (search (value-parts, needs), search needs)
 
 -- src/lib.rt:105:1
 read-value-same-length-5 : (t : ℕ) → read-value-lts.Need-same-length-5 (read-value-claims t) (read-value-at t) read-value.Post
@@ -592,7 +621,15 @@ read-value-same-length-5 t c = search needs
 
 -- src/lib.rt:105:1
 read-value-returns-5 : (t : ℕ) → read-value-lts.Need-returns-5 (read-value-claims t) (read-value-at t) read-value.Post
-read-value-returns-5 t c = (search (value-none, needs), search needs)
+read-value-returns-5 t c = (search (value-variant, needs), search needs)
+
+-- src/lib.rt:105:1
+read-value-same-length-6 : (t : ℕ) → read-value-lts.Need-same-length-6 (read-value-claims t) (read-value-at t) read-value.Post
+read-value-same-length-6 t c = search needs
+
+-- src/lib.rt:105:1
+read-value-returns-6 : (t : ℕ) → read-value-lts.Need-returns-6 (read-value-claims t) (read-value-at t) read-value.Post
+read-value-returns-6 t c = (search (value-none, needs), search needs)
 
 -- src/lib.rt:199:9
 read-variant-get-requires : (t : ℕ) → read-variant-lts.Need-get-requires (read-variant-claims t) (read-variant-at t) read-variant.Post
@@ -710,6 +747,10 @@ pub +enter+read-choice+read-container+read-contents+read-part+read-parts+read-va
     (λ t. read-part-lts.spec (read-part-claims t)
     (read-part-at t)
     read-part.Post
+    (read-part-is-plain-requires t)
+    (read-part-read-plain-part-requires t)
+    (read-part-same-length t)
+    (read-part-returns t)
     (read-part-ensure-requires t)
     (read-part-enum-known-child t)
     (read-part-touch-requires t)
@@ -717,10 +758,10 @@ pub +enter+read-choice+read-container+read-contents+read-part+read-parts+read-va
     (read-part-lower-requires t)
     (read-part-read-value-requires t)
     (read-part-enum-known-refusal t)
-    (read-part-same-length t)
-    (read-part-returns t)
     (read-part-same-length-2 t)
-    (read-part-returns-2 t))
+    (read-part-returns-2 t)
+    (read-part-same-length-3 t)
+    (read-part-returns-3 t))
     (λ t. read-parts-lts.spec (read-parts-claims t)
     (read-parts-at t)
     read-parts.Post
@@ -746,14 +787,18 @@ pub +enter+read-choice+read-container+read-contents+read-part+read-parts+read-va
     (λ t. read-value-lts.spec (read-value-claims t)
     (read-value-at t)
     read-value.Post
+    (read-value-is-plain-requires t)
+    (read-value-observe-plain-requires t)
+    (read-value-same-length t)
+    (read-value-returns t)
     (read-value-past-marks-requires t)
     (read-value-read-command-requires t)
     (read-value-enum-known-read t)
     (read-value-enum-told t)
     (read-value-refusal-requires t)
     (read-value-place-requires t)
-    (read-value-same-length t)
-    (read-value-returns t)
+    (read-value-same-length-2 t)
+    (read-value-returns-2 t)
     (read-value-shape-of-requires t)
     (read-value-enum-known-null t)
     (read-value-observe-requires t)
@@ -762,14 +807,14 @@ pub +enter+read-choice+read-container+read-contents+read-part+read-parts+read-va
     (read-value-enum-known-number t)
     (read-value-read-variant-requires t)
     (read-value-enum-told-2 t)
-    (read-value-same-length-2 t)
-    (read-value-returns-2 t)
     (read-value-same-length-3 t)
     (read-value-returns-3 t)
     (read-value-same-length-4 t)
     (read-value-returns-4 t)
     (read-value-same-length-5 t)
-    (read-value-returns-5 t))
+    (read-value-returns-5 t)
+    (read-value-same-length-6 t)
+    (read-value-returns-6 t))
     λ t. read-variant-lts.spec (read-variant-claims t)
     (read-variant-at t)
     read-variant.Post
