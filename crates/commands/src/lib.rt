@@ -135,15 +135,18 @@ struct Reader<'a> {
 }
 
 impl<'a> Reader<'a> {
+    // Reads from an offset on.
     fn new(commands: &'a [u8], at: usize) -> Reader<'a>
         ensures { λ r. ⌜ (r .commands ≡ commands .entry) × (r .at ≡ at) ⌝ }
     {
         Reader { commands, at }
     }
 
+    // The byte there.
     fn byte(&mut self) -> u8
         requires { ⌜ now self .at < length (now (now self .commands)) ⌝ }
-        ensures { λ r. ⌜ (r ≡ getD (now (now (self .entry) .commands)) (now (self .entry) .at) 0) × (now (self .exit) ≡ behind (now (self .entry)) 1) ⌝ }
+        ensures { λ r. ⌜ (r ≡ getD (now (now (self .entry) .commands)) (now (self .entry) .at) 0)
+            × (now (self .exit) ≡ behind (now (self .entry)) 1) ⌝ }
     {
         let at = self.at;
         let byte = byte_at(self.commands, at);
@@ -151,9 +154,11 @@ impl<'a> Reader<'a> {
         byte
     }
 
+    // The operand there.
     fn operand(&mut self) -> u16
         requires { ⌜ now self .at + 2 ≤ length (now (now self .commands)) ⌝ }
-        ensures { λ r. ⌜ (r ≡ operandAt (now (now (self .entry) .commands)) (now (self .entry) .at)) × (now (self .exit) ≡ behind (now (self .entry)) 2) ⌝ }
+        ensures { λ r. ⌜ (r ≡ operandAt (now (now (self .entry) .commands)) (now (self .entry) .at))
+            × (now (self .exit) ≡ behind (now (self .entry)) 2) ⌝ }
     {
         let at = self.at;
         let operand = operand_at(self.commands, at);
@@ -162,8 +167,7 @@ impl<'a> Reader<'a> {
     }
 }
 
-// What a reader made at an offset reads there: a command's byte, an operand, and a name, which is two operands, its
-// offset in the text and its length. Whoever calls these holds no reader.
+// What a reader made at an offset reads there; whoever calls these three holds no reader. First a command's byte.
 fn read_byte(commands: &[u8], at: usize) -> u8
     requires { ⌜ at < length (now commands) ⌝ }
     ensures { λ r. ⌜ r ≡ getD (now (commands .entry)) at 0 ⌝ }
@@ -172,6 +176,7 @@ fn read_byte(commands: &[u8], at: usize) -> u8
     reader.byte()
 }
 
+// An operand.
 fn read_operand(commands: &[u8], at: usize) -> u16
     requires { ⌜ at + 2 ≤ length (now commands) ⌝ }
     ensures { λ r. ⌜ r ≡ operandAt (now (commands .entry)) at ⌝ }
@@ -180,6 +185,7 @@ fn read_operand(commands: &[u8], at: usize) -> u16
     reader.operand()
 }
 
+// A name: its offset in the text, then its length.
 fn read_name(commands: &[u8], at: usize) -> Name
     requires { ⌜ at + 4 ≤ length (now commands) ⌝ }
     ensures { λ r. ⌜ r ≡ nameAt (now (commands .entry)) at ⌝ }
