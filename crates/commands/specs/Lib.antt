@@ -1,3 +1,4 @@
 pub mod Commands
 pub mod Counted
 pub mod Laws
+pub mod Reader

@@ -2,9 +2,10 @@
 ghost use mathlib.Core.Path.{_≡_};
 ghost use mathlib.Core.Option.{some};
 ghost use Prim.Native.Nat.{_+_, _*_, _<_, _≤_};
-ghost use lib.ListN.{length};
+ghost use lib.ListN.{length, getD};
 ghost use Rattle.commands.specs.Commands.{operandAt, nameAt, forms, formOf, operands, made, stands, badKey, badName, readCommand, refusalOf, placeOf};
 ghost use Rattle.commands.specs.Counted.{nameAmong};
+ghost use Rattle.commands.specs.Reader.{behind};
 use refusal::Refusal;
 use text::Name;
 
@@ -111,23 +112,88 @@ fn word(low: u8, high: u8) -> u16
     low as u16 + high as u16 * 256
 }
 
+// The byte at an offset.
+fn byte_at(commands: &[u8], at: usize) -> u8
+    requires { ⌜ at < length (now commands) ⌝ }
+    ensures { λ r. ⌜ r ≡ getD (now (commands .entry)) at 0 ⌝ }
+{
+    commands[at]
+}
+
 // The operand at an offset.
-fn operand(commands: &[u8], at: usize) -> u16
+fn operand_at(commands: &[u8], at: usize) -> u16
     requires { ⌜ at + 2 ≤ length (now commands) ⌝ }
     ensures { λ r. ⌜ r ≡ operandAt (now (commands .entry)) at ⌝ }
 {
     word(commands[at], commands[at + 1])
 }
 
-// The name at an offset: its offset in the text, then its length.
-fn name_at(commands: &[u8], at: usize) -> Name
+// The command reader: the commands, and the offset of what is read next. Reading moves it behind what was read.
+struct Reader<'a> {
+    commands: &'a [u8],
+    at: usize,
+}
+
+impl<'a> Reader<'a> {
+    // Reads from an offset on.
+    fn new(commands: &'a [u8], at: usize) -> Reader<'a>
+        ensures { λ r. ⌜ (r .commands ≡ commands .entry) × (r .at ≡ at) ⌝ }
+    {
+        Reader { commands, at }
+    }
+
+    // The byte there.
+    fn byte(&mut self) -> u8
+        requires { ⌜ now self .at < length (now (now self .commands)) ⌝ }
+        ensures { λ r. ⌜ (r ≡ getD (now (now (self .entry) .commands)) (now (self .entry) .at) 0)
+            × (now (self .exit) ≡ behind (now (self .entry)) 1) ⌝ }
+    {
+        let at = self.at;
+        let byte = byte_at(self.commands, at);
+        self.at = at + 1;
+        byte
+    }
+
+    // The operand there.
+    fn operand(&mut self) -> u16
+        requires { ⌜ now self .at + 2 ≤ length (now (now self .commands)) ⌝ }
+        ensures { λ r. ⌜ (r ≡ operandAt (now (now (self .entry) .commands)) (now (self .entry) .at))
+            × (now (self .exit) ≡ behind (now (self .entry)) 2) ⌝ }
+    {
+        let at = self.at;
+        let operand = operand_at(self.commands, at);
+        self.at = at + 2;
+        operand
+    }
+}
+
+// What a reader made at an offset reads there; whoever calls these three holds no reader. First a command's byte.
+fn read_byte(commands: &[u8], at: usize) -> u8
+    requires { ⌜ at < length (now commands) ⌝ }
+    ensures { λ r. ⌜ r ≡ getD (now (commands .entry)) at 0 ⌝ }
+{
+    let mut reader = Reader::new(commands, at);
+    reader.byte()
+}
+
+// An operand.
+fn read_operand(commands: &[u8], at: usize) -> u16
+    requires { ⌜ at + 2 ≤ length (now commands) ⌝ }
+    ensures { λ r. ⌜ r ≡ operandAt (now (commands .entry)) at ⌝ }
+{
+    let mut reader = Reader::new(commands, at);
+    reader.operand()
+}
+
+// A name: its offset in the text, then its length.
+fn read_name(commands: &[u8], at: usize) -> Name
     requires { ⌜ at + 4 ≤ length (now commands) ⌝ }
     ensures { λ r. ⌜ r ≡ nameAt (now (commands .entry)) at ⌝ }
 {
-    Name {
-        offset: operand(commands, at),
-        length: operand(commands, at + 2),
-    }
+    let mut reader = Reader::new(commands, at);
+    let offset = reader.operand();
+    let length = reader.operand();
+    Name { offset, length }
 }
 
 impl Due {
@@ -177,9 +243,9 @@ fn has_bad_name(commands: &[u8], text: &[u8], at: usize, operands: u8) -> bool
         return false;
     }
     if operands == 2 {
-        is_bad_name(name_at(commands, at), text)
+        is_bad_name(read_name(commands, at), text)
     } else {
-        is_bad_name(name_at(commands, at + 2), text)
+        is_bad_name(read_name(commands, at + 2), text)
     }
 }
 
@@ -202,25 +268,25 @@ fn command_of(byte: u8, commands: &[u8], at: usize) -> Command
         0x0A => Command::F32,
         0x0B => Command::F64,
         0x0C => Command::Char,
-        0x0D => Command::Text(name_at(commands, at)),
+        0x0D => Command::Text(read_name(commands, at)),
         0x0E => Command::Bytes,
         0x0F => Command::None,
         0x10 => Command::Some,
         0x11 => Command::NewtypeStruct,
         0x12 => Command::Sequence,
-        0x13 => Command::Tuple(operand(commands, at)),
+        0x13 => Command::Tuple(read_operand(commands, at)),
         0x14 => Command::Map,
         0x15 => Command::Struct,
-        0x16 => Command::Field(name_at(commands, at)),
+        0x16 => Command::Field(read_name(commands, at)),
         0x17 => Command::End,
-        0x18 => Command::UnitVariant(operand(commands, at), name_at(commands, at + 2)),
-        0x19 => Command::NewtypeVariant(operand(commands, at), name_at(commands, at + 2)),
+        0x18 => Command::UnitVariant(read_operand(commands, at), read_name(commands, at + 2)),
+        0x19 => Command::NewtypeVariant(read_operand(commands, at), read_name(commands, at + 2)),
         0x1A => Command::TupleVariant(
-            operand(commands, at),
-            name_at(commands, at + 2),
-            operand(commands, at + 6),
+            read_operand(commands, at),
+            read_name(commands, at + 2),
+            read_operand(commands, at + 6),
         ),
-        _ => Command::StructVariant(operand(commands, at), name_at(commands, at + 2)),
+        _ => Command::StructVariant(read_operand(commands, at), read_name(commands, at + 2)),
     }
 }
 
@@ -231,7 +297,7 @@ pub fn read_command(commands: &[u8], text: &[u8], at: usize, due: Due) -> Read
     if commands.len() <= at {
         return Read::Refused(Refusal::BadCommand, at);
     }
-    let byte = commands[at];
+    let byte = read_byte(commands, at);
     if COMMANDS <= byte {
         return Read::Refused(Refusal::BadCommand, at);
     }

@@ -14,12 +14,12 @@ returns c = rw (lt-ltb _ _ (c .if1 .taken))
 returns-2 : tie.Need-returns-2
 unfolding nameAmong if_then_else_
 returns-2 c =
-    rw (le-ltb _ _ (c .before .before .before .if1 .left), eq-eqb _ _ (c .before .before .if2 .taken), c .is-bad-name .ensures, c .before .name-at .ensures)
+    rw (le-ltb _ _ (c .before .before .before .if1 .left), eq-eqb _ _ (c .before .before .if2 .taken), c .is-bad-name .ensures, c .before .read-name .ensures)
 
 returns-3 : tie.Need-returns-3
 unfolding nameAmong if_then_else_
 returns-3 c =
-    rw (le-ltb _ _ (c .before .before .before .if1 .left), ne-eqb _ _ (c .before .before .if2 .left), c .is-bad-name2 .ensures, c .before .name-at2 .ensures)
+    rw (le-ltb _ _ (c .before .before .before .if1 .left), ne-eqb _ _ (c .before .before .if2 .left), c .is-bad-name2 .ensures, c .before .read-name2 .ensures)
 
 pub has-bad-name-spec : {M : Type 1} → statement M
 has-bad-name-spec =

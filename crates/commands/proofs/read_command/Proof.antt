@@ -22,24 +22,24 @@ none-left : (commands text : List ℕ) (at : ℕ) (due : Due) → length command
 unfolding readCommand badCommand if_then_else_
 none-left commands text at due h = rw (le-leb _ _ h)
 
-module _ (commands text : List ℕ) (at : ℕ) (due : Due) (left : at < length commands) where
-  unknown : 28 ≤ getD commands at 0 → R.Refused F.BadCommand at ≡ readCommand commands text at due
+module _ (commands text : List ℕ) (at : ℕ) (due : Due) (byte : ℕ) (is : byte ≡ getD commands at 0) (left : at < length commands) where
+  unknown : 28 ≤ byte → R.Refused F.BadCommand at ≡ readCommand commands text at due
   unfolding readCommand badCommand if_then_else_
-  unknown h = rw (lt-leb _ _ left, le-leb _ _ h)
+  unknown h = rw (← is, lt-leb _ _ left, le-leb _ _ h)
 
-module _ (commands text : List ℕ) (at : ℕ) (due : Due) (count : ℕ) (left : at < length commands) (known : getD commands at 0 < 28) (counts : count ≡ operands (formOf (getD commands at 0))) where
+module _ (commands text : List ℕ) (at : ℕ) (due : Due) (byte : ℕ) (is : byte ≡ getD commands at 0) (count : ℕ) (left : at < length commands) (known : byte < 28) (counts : count ≡ operands (formOf byte)) where
   cut-off : length commands - at < 1 + 2 * count → R.Refused F.BadCommand at ≡ readCommand commands text at due
   unfolding readCommand badCommand if_then_else_
   cut-off h =
-      let short : length commands < at + width (formOf (getD commands at 0)) = omega arith in
-      rw (lt-leb _ _ left, lt-leb _ _ known, lt-ltb _ _ short)
+      let short : length commands < at + width (formOf byte) = omega arith in
+      rw (← is, lt-leb _ _ left, lt-leb _ _ known, lt-ltb _ _ short)
 
-module _ (commands text : List ℕ) (at : ℕ) (due : Due) (count : ℕ) (admitted : Bool) (left : at < length commands) (known : getD commands at 0 < 28) (counts : count ≡ operands (formOf (getD commands at 0))) (whole : 1 + 2 * count ≤ length commands - at) (stood : admitted ≡ stands due (getD commands at 0)) where
+module _ (commands text : List ℕ) (at : ℕ) (due : Due) (byte : ℕ) (is : byte ≡ getD commands at 0) (count : ℕ) (admitted : Bool) (left : at < length commands) (known : byte < 28) (counts : count ≡ operands (formOf byte)) (whole : 1 + 2 * count ≤ length commands - at) (stood : admitted ≡ stands due byte) where
   by-standing : badCommand commands at due ≡ not admitted
   unfolding badCommand
   by-standing =
-      let long : at + width (formOf (getD commands at 0)) ≤ length commands = omega arith in
-      rw (lt-leb _ _ left, lt-leb _ _ known, le-ltb _ _ long, stood)
+      let long : at + width (formOf byte) ≤ length commands = omega arith in
+      rw (← is, lt-leb _ _ left, lt-leb _ _ known, le-ltb _ _ long, stood)
 
   misplaced : not admitted ≡ true → R.Refused F.BadCommand at ≡ readCommand commands text at due
   unfolding readCommand if_then_else_
@@ -48,22 +48,22 @@ module _ (commands text : List ℕ) (at : ℕ) (due : Due) (count : ℕ) (admitt
   placed : not admitted ≡ false → badCommand commands at due ≡ false
   placed h = by-standing ∙ h
 
-module _ (commands text : List ℕ) (at : ℕ) (due : Due) {count : ℕ} {bad : Bool} (stands-there : badCommand commands at due ≡ false) (counts : count ≡ operands (formOf (getD commands at 0))) (named : bad ≡ badName text (nameAmong count commands (at + 1))) where
+module _ (commands text : List ℕ) (at : ℕ) (due : Due) {byte : ℕ} (is : byte ≡ getD commands at 0) {count : ℕ} {bad : Bool} (stands-there : badCommand commands at due ≡ false) (counts : count ≡ operands (formOf byte)) (named : bad ≡ badName text (nameAmong count commands (at + 1))) where
   by-name : badName text (nameIn (formOf (getD commands at 0)) commands (at + 1)) ≡ bad
-  by-name = rw (named, counts, among-is)
+  by-name = rw (← is, named, counts, among-is)
 
   misnamed : bad ≡ true → R.Refused F.BadName at ≡ readCommand commands text at due
   unfolding readCommand if_then_else_
   misnamed h = rw (stands-there, by-name, h)
 
-  module _ {key : Bool} (well-named : bad ≡ false) (keyed : key ≡ badKey due (getD commands at 0)) where
+  module _ {key : Bool} (well-named : bad ≡ false) (keyed : key ≡ badKey due byte) where
     no-key : key ≡ true → R.Refused F.BadKey at ≡ readCommand commands text at due
     unfolding readCommand if_then_else_
-    no-key h = rw (stands-there, by-name, well-named, ← keyed, h)
+    no-key h = rw (stands-there, by-name, well-named, ← is, ← keyed, h)
 
-    read : {command : Command} → key ≡ false → command ≡ made (formOf (getD commands at 0)) commands (at + 1) → R.Command command (at + (1 + 2 * count)) ≡ readCommand commands text at due
+    read : {command : Command} → key ≡ false → command ≡ made (formOf byte) commands (at + 1) → R.Command command (at + (1 + 2 * count)) ≡ readCommand commands text at due
     unfolding readCommand if_then_else_
-    read h e = rw (stands-there, by-name, well-named, ← keyed, h, e, counts)
+    read h e = rw (stands-there, by-name, well-named, ← is, ← keyed, h, e, counts)
 
 -- past the tests of refusal 4
 abbrev start : tie.Else4 → tie.Start
@@ -89,10 +89,10 @@ read-command-spec =
     (λ c. search (misplaced, needs))
     (λ c. search needs)
     (λ c κs. search needs)
-    (λ c. let d = c .before .before in misnamed _ _ _ _ (standing d) (d .before .before .before .operand-count .ensures) (c .before .has-bad-name .ensures) (c .if5 .taken))
+    (λ c. let d = c .before .before in misnamed _ _ _ _ (d .before .before .before .before .before .read-byte .ensures) (standing d) (d .before .before .before .operand-count .ensures) (c .before .has-bad-name .ensures) (c .if5 .taken))
     (λ c κs. search needs)
-    (λ c. let d = c .before .before .before .before in no-key _ _ _ _ (standing d) (d .before .before .before .operand-count .ensures) (c .before .before .before .has-bad-name .ensures) (c .before .before .if5 .left) (c .before .is-bad-key .ensures) (c .if6 .taken))
+    (λ c. let d = c .before .before .before .before in no-key _ _ _ _ (d .before .before .before .before .before .read-byte .ensures) (standing d) (d .before .before .before .operand-count .ensures) (c .before .before .before .has-bad-name .ensures) (c .before .before .if5 .left) (c .before .is-bad-key .ensures) (c .if6 .taken))
     (λ c. search needs)
     (λ c κs. search needs)
     (λ c. search needs)
-    (λ c. let d = c .before .before .before .before .before in read _ _ _ _ (standing d) (d .before .before .before .operand-count .ensures) (c .before .before .before .before .has-bad-name .ensures) (c .before .before .before .if5 .left) (c .before .before .is-bad-key .ensures) (c .before .if6 .left) (c .command-of .ensures)))
+    (λ c. let d = c .before .before .before .before .before in read _ _ _ _ (d .before .before .before .before .before .read-byte .ensures) (standing d) (d .before .before .before .operand-count .ensures) (c .before .before .before .before .has-bad-name .ensures) (c .before .before .before .if5 .left) (c .before .before .is-bad-key .ensures) (c .before .if6 .left) (c .command-of .ensures)))

@@ -1,0 +1,5 @@
+pub mod Held
+pub mod Lent
+pub mod Method
+pub mod Once
+pub mod Reading
