@@ -1,9 +1,9 @@
 -- A plain value: its command is one byte, no mark and no container, so that it is observed at once.
 use Prim.{tt}
-use mathlib.Core.Path.{_≡_, refl, sym, _∙_}
+use mathlib.Core.Path.{_≡_, refl}
 use mathlib.Core.Bool.{Bool, true, false, not, _&&_}
 use mathlib.Core.List.{List}
-use Prim.Native.Nat.{ℕ, zero, suc, _+_, _<_, _≤_}
+use Prim.Native.Nat.{ℕ, zero, suc, _+_, _<_}
 use native.Mathlib.Omega.{arith}
 use borrow.Author.Tests.{ltb-true, le-ltb, lt-leb, eqb-true, eqb-false, not-true}
 use lib.Dec.{eqb, ltb}
@@ -17,7 +17,7 @@ use Rattle.commands.specs.declared.Due.the-variants as D
 use Rattle.commands.specs.Commands.{formOf, operands, made, nameIn, textByte, stands, badCommand, badName, badKey, readCommand}
 use Rattle.shapes.specs.declared.Shape.the-variants as H
 use Rattle.shapes.specs.Shapes.{shapeAt}
-use Rattle.samples.specs.Flat.{chain, isMark, pastMarks, Out, observed, valueAt}
+use Rattle.samples.specs.Flat.{isMark, pastMarks, Out, observed, valueAt}
 use Rattle.samples.specs.Ways.{value-leaf}
 use Rattle.samples.specs.Loops.{past-other}
 

@@ -21,7 +21,7 @@ use Rattle.places.specs.declared.Ensured.{Ensured}
 use Rattle.places.specs.declared.Ensured.the-variants as E
 use Rattle.places.specs.declared.Made.{Made}
 use Rattle.places.specs.declared.Made.the-variants as D
-use Rattle.places.specs.Layout.{kindWord, nullWord, Sound, Ready}
+use Rattle.places.specs.Layout.{kindWord, nullWord, firstWord, Sound, Ready}
 use Rattle.places.specs.Flat.{meeting, ensuring, ensured, touched, sampled, making, madeAll, SoundEnsured, SoundMade}
 use Rattle.places.specs.Laws.{sound-plain, sound-sampled, sound-touched, ensured-grows}
 use Rattle.places.specs.Laws as L
@@ -115,6 +115,15 @@ module _ (text t : List ℕ) (n : ℕ) (r : Traced) (s : SoundTraced text t n r)
 
     pub traced-ready : (place : ℕ) → place < n → Ready text t m place
     traced-ready place h = let g : n ≤ m = traced-grows in record { sound = traced-sound; here = omega arith }
+
+    -- its first child is one of the table
+    pub traced-first : (place : ℕ) → place < n → (place < 1024) × (16384 ≤ length t) × (word t place firstWord < 1024)
+    traced-first place h =
+        let ready : Ready text t m place = traced-ready place h in
+        let most : m ≤ 1024 = ready .sound .most in
+        let is : place < 1024 = is-place text t m place ready in
+        let first : word t place firstWord < m = ready .sound .first place is in
+        (is, ready .sound .room, omega arith)
 
 -- the measure of the readers falls below a variant
 pub falls : (levels measure : ℕ) → 8 * levels + 2 ≡ measure → 0 < levels → 8 * (levels - 1) + 5 < measure
