@@ -3,5 +3,6 @@ pub mod Onward
 pub mod Ways
 pub mod Loops
 pub mod Plain
+pub mod Same
 pub mod Table
 pub mod Tail

@@ -93,12 +93,13 @@ module _ (commands text : List ℕ) (options levels kind positions place i at n 
       parts-within : behind ≤ length commands
       parts-within = moved-behind .1
 
-      pub parts-less : length commands - behind < length commands - at
-      parts-less = let a : at < behind = parts-above in let b : behind ≤ length commands = parts-within in omega arith
+      -- from there on, or from further on
+      pub parts-less : (further : ℕ) → behind ≤ further → length commands - further < length commands - at
+      parts-less further h = let a : at < behind = parts-above in let b : behind ≤ length commands = parts-within in omega arith
 
       -- a part is counted, and what was counted is no more than what was read
-      pub parts-counted : i ≤ at → i + 1 ≤ behind
-      parts-counted h = let a : at < behind = parts-above in omega arith
+      pub parts-counted : (further : ℕ) → behind ≤ further → i ≤ at → i + 1 ≤ further
+      parts-counted further f h = let a : at < behind = parts-above in omega arith
 
       pub count-fits : (most : ℕ) → i ≤ at → length commands < most → i + 1 < most
       count-fits most h l = let a : at < behind = parts-above in let b : behind ≤ length commands = parts-within in omega arith

@@ -1,9 +1,9 @@
 -- A plain value: its command is one byte, no mark and no container, so that it is observed at once.
 use Prim.{tt}
-use mathlib.Core.Path.{_≡_, refl, sym, _∙_}
+use mathlib.Core.Path.{_≡_, refl, _∙_}
 use mathlib.Core.Bool.{Bool, true, false, not, _&&_}
 use mathlib.Core.List.{List}
-use Prim.Native.Nat.{_-_, ℕ, zero, suc, _+_, _<_, _≤_}
+use Prim.Native.Nat.{_-_, ℕ, zero, suc, _+_, _<_}
 use native.Mathlib.Omega.{arith}
 use borrow.Author.Tests.{ltb-true, le-ltb, lt-leb, eqb-true, eqb-false, not-true}
 use lib.Dec.{eqb, ltb}
@@ -23,7 +23,7 @@ use Rattle.shapes.specs.Steps.{nameOf}
 use Rattle.places.specs.declared.Ensured.{Ensured}
 use Rattle.places.specs.declared.Ensured.the-variants as E
 use Rattle.places.specs.Flat.{meeting, ensuring, ensured, touched}
-use Rattle.samples.specs.Flat.{chain, isMark, pastMarks, Out, observed, dotsIn, partRead, readers, valueAt}
+use Rattle.samples.specs.Flat.{isMark, pastMarks, Out, observed, dotsIn, partRead, readers, valueAt}
 use Rattle.samples.specs.Ways.{value-leaf, part-child}
 use Rattle.samples.specs.Loops.{past-other}
 

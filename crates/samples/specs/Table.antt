@@ -21,7 +21,7 @@ use Rattle.places.specs.declared.Ensured.{Ensured}
 use Rattle.places.specs.declared.Ensured.the-variants as E
 use Rattle.places.specs.declared.Made.{Made}
 use Rattle.places.specs.declared.Made.the-variants as D
-use Rattle.places.specs.Layout.{kindWord, nullWord, Sound, Ready}
+use Rattle.places.specs.Layout.{kindWord, nullWord, firstWord, Sound, Ready}
 use Rattle.places.specs.Flat.{meeting, ensuring, ensured, touched, sampled, making, madeAll, SoundEnsured, SoundMade}
 use Rattle.places.specs.Laws.{sound-plain, sound-sampled, sound-touched, ensured-grows}
 use Rattle.places.specs.Laws as L
@@ -118,6 +118,15 @@ module _ (text t : List ℕ) (n : ℕ) (r : Traced) (s : SoundTraced text t n r)
 
     pub traced-ready : (place : ℕ) → place < n → Ready text t m place
     traced-ready place h = let g : n ≤ m = traced-grows in record { sound = traced-sound; here = omega arith }
+
+    -- its first child is one of the table
+    pub traced-first : (place : ℕ) → place < n → (place < 1024) × (16384 ≤ length t) × (word t place firstWord < 1024)
+    traced-first place h =
+        let ready : Ready text t m place = traced-ready place h in
+        let most : m ≤ 1024 = ready .sound .most in
+        let is : place < 1024 = is-place text t m place ready in
+        let first : word t place firstWord < m = ready .sound .first place is in
+        (is, ready .sound .room, omega arith)
 
 -- a primitive at the child that a step leads to
 pub child-observed : (text t : List ℕ) (n place : ℕ) → Ready text t n place → (step : Step) (u : List ℕ) (did : Ensured) → ensuring did u ≡ ensured text place step n t → SoundEnsured text u did → (child m : ℕ) → did ≡ E.Child child m →

@@ -6,9 +6,11 @@ ghost use Prim.Native.Nat.{_+_, _-_, _<_, _≤_};
 ghost use lib.Dec.{eqb};
 ghost use lib.ListN.{length, getD};
 ghost use Rattle.shapes.specs.Steps.{Inside, nameOf};
-ghost use Rattle.places.specs.Layout.{Ready, Sound};
+ghost use Rattle.words.specs.Word.{word};
+ghost use Rattle.places.specs.Layout.{firstWord, Ready, Sound};
 ghost use Rattle.samples.specs.Flat.{Chain, isMark, marked, pastMarks, Out, stored, observed, dotsIn, partRead, partsBy, opened, containerBy, chosen, variantBy, readers, innerOf, valueAt, fromSamples, SoundTraced};
 ghost use Rattle.samples.specs.Plain.{isPlain, plainKind};
+ghost use Rattle.samples.specs.Same.{isHeld, isOwnByte, behindRun, pastHeld, pastSame};
 use commands::Due;
 use commands::Read;
 use options::TracingOptions;
@@ -159,6 +161,70 @@ fn lower(levels: usize, name: Name, text: &[u8]) -> usize
 {
     let dots = name.dots(text);
     if levels <= dots { 0 } else { levels - dots }
+}
+
+// Whether the child is an element that the place's present sample holds.
+fn is_held(place: usize, child: usize, table: &[u32]) -> bool
+    requires { ⌜ (place < 1024) × (child < 1024) × (16384 ≤ length (now table)) ⌝ }
+    ensures { λ r. ⌜ r ≡ isHeld place child (now (table .entry)) ⌝ }
+{
+    if child == 0 {
+        return false;
+    }
+    if words::get(table, child, places::STEP) != 0 {
+        return false;
+    }
+    if words::get(table, child, places::NAME) != 0 {
+        return false;
+    }
+    words::get(table, child, places::MARK) == words::get(table, place, places::SAMPLES)
+}
+
+// Whether a type is not Null, and its code its command's byte.
+fn is_own_byte(kind: u32) -> bool
+    ensures { λ r. ⌜ r ≡ isOwnByte kind ⌝ }
+{
+    kind != shapes::UNKNOWN && kind < 12
+}
+
+// The offset behind a run of one byte.
+fn past_run(commands: &[u8], byte: u8, at: usize) -> usize
+    ensures { λ r. ⌜ r ≡ behindRun (now (commands .entry)) byte at ⌝ }
+{
+    let mut here = at;
+    while here < commands.len() {
+        if commands[here] != byte {
+            return here;
+        }
+        here += 1;
+    }
+    here
+}
+
+// The offset behind the values of a type, where they are of one byte.
+fn past_held(commands: &[u8], kind: u32, at: usize) -> usize
+    ensures { λ r. ⌜ r ≡ pastHeld (now (commands .entry)) kind at ⌝ }
+{
+    if is_own_byte(kind) {
+        past_run(commands, kind as u8, at)
+    } else {
+        at
+    }
+}
+
+// The offset behind elements that change nothing: the present sample holds one already, of their type.
+fn past_same(commands: &[u8], kind: u32, at: usize, place: usize, table: &[u32]) -> usize
+    requires { ⌜ (place < 1024) × (16384 ≤ length (now table)) × (word (now table) place firstWord < 1024) ⌝ }
+    ensures { λ r. ⌜ r ≡ pastSame (now (commands .entry)) kind at place (now (table .entry)) ⌝ }
+{
+    if kind != shapes::SEQUENCE {
+        return at;
+    }
+    let child = words::get(table, place, places::FIRST) as usize;
+    if !is_held(place, child, table) {
+        return at;
+    }
+    past_held(commands, words::get(table, child, places::KIND), at)
 }
 
 // One value at a place, with so many levels left for containers.
@@ -343,7 +409,7 @@ fn read_parts(
                 table,
             ) {
                 Traced::Next(behind, more) => {
-                    at = behind;
+                    at = past_same(commands, kind, behind, place, table);
                     places = more;
                 }
                 Traced::Refused(refusal, offset) => {

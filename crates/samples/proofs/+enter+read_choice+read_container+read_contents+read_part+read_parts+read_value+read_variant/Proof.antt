@@ -10,8 +10,9 @@ use Rattle.samples.specs.Flat.{partsFrom, partsBy, readers}
 use Rattle.samples.specs.Ways.{opened-parts, opened-refused, container-opened, container-refused, variant-chosen, variant-refused, part-child, part-refused, chosen-child, chosen-refused, contents-unit, contents-value, contents-positions, contents-fields, value-refused, value-none, value-leaf, value-parts, value-variant}
 use Rattle.logic.specs.Flag.{flagged}
 use Rattle.samples.specs.Plain.{value-plain}
+use Rattle.samples.specs.Same.{parts-same, same-above}
 use Rattle.samples.specs.Loops.{parts-end, parts-refused, parts-stopped, parts-more, parts-less, parts-counted, count-fits}
-use Rattle.samples.specs.Table.{is-place, has-room, sampled-ready, made-ready, past-ready, observed-sound, child-grows, child-room, child-place, child-ready, traced-from, traced-grows, traced-ready, falls as variant-falls, met-left}
+use Rattle.samples.specs.Table.{is-place, has-room, sampled-ready, made-ready, past-ready, observed-sound, child-grows, child-room, child-place, child-ready, traced-from, traced-grows, traced-ready, traced-first, falls as variant-falls, met-left}
 use Prim.Native.Nat.{_-_, ℕ, _+_, _*_, _<_, _≤_}
 use borrow.Fn.Kinds.{In}
 use borrow.Fn.PlainCycle.{Measures, is, falls, and}
@@ -53,6 +54,7 @@ use Rattle.samples.proofs.is_plain.Reads as is-plain-reads
 use Rattle.samples.proofs.read_plain_part.Reads as read-plain-part-reads
 use Rattle.samples.proofs.observe_plain.Reads as observe-plain-reads
 use Rattle.samples.proofs.past_marks.Reads as past-marks-reads
+use Rattle.samples.proofs.past_same.Reads as past-same-reads
 use Rattle.shapes.proofs.Step.name.Reads as name-reads
 use Rattle.shapes.proofs.next_part.Reads as next-part-reads
 use Rattle.shapes.proofs.shape_of.Reads as shape-of-reads
@@ -181,7 +183,7 @@ abbrev read-part-claims : ℕ → read-part-lts.Claims
 read-part-claims t = (is-plain-reads.Asked, is-plain-reads.Learnt, read-plain-part-reads.Asked, read-plain-part-reads.Learnt, ensure-reads.Asked, ensure-reads.Learnt, touch-reads.Asked, touch-reads.Learnt, name-reads.Asked, name-reads.Learnt, lower-reads.Asked, lower-reads.Learnt, read-value-below t, read-value.Post)
 
 abbrev read-parts-claims : ℕ → read-parts-lts.Claims
-read-parts-claims t = (next-part-reads.Asked, next-part-reads.Learnt, read-part-below t, read-part.Post)
+read-parts-claims t = (next-part-reads.Asked, next-part-reads.Learnt, read-part-below t, read-part.Post, past-same-reads.Asked, past-same-reads.Learnt)
 
 abbrev read-value-claims : ℕ → read-value-lts.Claims
 read-value-claims t = (is-plain-reads.Asked, is-plain-reads.Learnt, observe-plain-reads.Asked, observe-plain-reads.Learnt, past-marks-reads.Asked, past-marks-reads.Learnt, read-command-reads.Asked, read-command-reads.Learnt, refusal-reads.Asked, refusal-reads.Learnt, place-reads.Asked, place-reads.Learnt, shape-of-reads.Asked, shape-of-reads.Learnt, observe-reads.Asked, observe-reads.Learnt, read-container-below t, read-container.Post, read-variant-below t, read-variant.Post)
@@ -489,6 +491,10 @@ read-parts-read-part-requires t c κs = (search needs, (search needs, search (st
 read-parts-enum-known-behind-2 : (t : ℕ) → read-parts-lts.Need-enum-known-behind-2 (read-parts-claims t) (read-parts-at t) read-parts.Post read-parts-Inv-loop read-parts-μ-loop
 read-parts-enum-known-behind-2 t c = search needs
 
+-- src/lib.rt:166:26
+read-parts-past-same-requires : (t : ℕ) → read-parts-lts.Need-past-same-requires (read-parts-claims t) (read-parts-at t) read-parts.Post read-parts-Inv-loop read-parts-μ-loop
+read-parts-past-same-requires t c κs = traced-first _ _ _ _ (c .before .before .before .before .before .before .read-part .ensures .1) _ _ (c .before .before .behind2 .given .1) _ (c .before .before .before .before .before .before .before .before .before .before .before .before .loop .inv .1 .here)
+
 -- src/lib.rt:169:33
 read-parts-enum-known-refusal-2 : (t : ℕ) → read-parts-lts.Need-enum-known-refusal-2 (read-parts-claims t) (read-parts-at t) read-parts.Post read-parts-Inv-loop read-parts-μ-loop
 read-parts-enum-known-refusal-2 t c = search needs
@@ -503,19 +509,19 @@ read-parts-returns-3 t c = (search (parts-stopped, needs), search needs)
 
 -- src/lib.rt:174:9
 read-parts-add-i : (t : ℕ) → read-parts-lts.Need-add-i (read-parts-claims t) (read-parts-at t) read-parts.Post read-parts-Inv-loop read-parts-μ-loop
-read-parts-add-i t c = record { fits = count-fits _ _ _ _ _ _ _ _ _ _ _ _ (c .before .before .before .before .before .before .before .before .before .before .before .loop .inv .0) _ (c .before .before .before .before .before .before .before .before .before .before .next-part .ensures) _ _ (c .before .before .before .before .before .before .before .before .step .given .1) _ _ (c .before .before .before .before .before .read-part .ensures .0) _ _ (c .before .behind2 .given .1) _ (c .before .before .before .before .before .before .before .before .before .before .before .loop .inv .3) (search needs) }
+read-parts-add-i t c = record { fits = count-fits _ _ _ _ _ _ _ _ _ _ _ _ (c .before .before .before .before .before .before .before .before .before .before .before .before .before .loop .inv .0) _ (c .before .before .before .before .before .before .before .before .before .before .before .before .next-part .ensures) _ _ (c .before .before .before .before .before .before .before .before .before .before .step .given .1) _ _ (c .before .before .before .before .before .before .before .read-part .ensures .0) _ _ (c .before .before .before .behind2 .given .1) _ (c .before .before .before .before .before .before .before .before .before .before .before .before .before .loop .inv .3) (search needs) }
 
 -- src/lib.rt:156:5
 read-parts-loop-less : (t : ℕ) → read-parts-lts.Need-loop-less (read-parts-claims t) (read-parts-at t) read-parts.Post read-parts-Inv-loop read-parts-μ-loop
-read-parts-loop-less t c = search (parts-less, needs)
+read-parts-loop-less t c = parts-less _ _ _ _ _ _ _ _ _ _ _ _ (c .before .before .before .before .before .before .before .before .before .before .before .before .before .loop .inv .0) _ (c .before .before .before .before .before .before .before .before .before .before .before .before .next-part .ensures) _ _ (c .before .before .before .before .before .before .before .before .before .before .step .given .1) _ _ (c .before .before .before .before .before .before .before .read-part .ensures .0) _ _ (c .before .before .before .behind2 .given .1) _ (same-above _ _ _ _ _ _ (c .past-same .ensures))
 
 -- src/lib.rt:156:5
 read-parts-loop-again : (t : ℕ) → read-parts-lts.Need-loop-again (read-parts-claims t) (read-parts-at t) read-parts.Post read-parts-Inv-loop read-parts-μ-loop
 read-parts-loop-again t c = (
-  parts-more _ _ _ _ _ _ _ _ _ _ _ _ (c .before .before .before .before .before .before .before .before .before .before .before .loop .inv .0) _ (c .before .before .before .before .before .before .before .before .before .before .next-part .ensures) _ _ (c .before .before .before .before .before .before .before .before .step .given .1) _ _ (c .before .before .before .before .before .read-part .ensures .0) _ _ (c .before .behind2 .given .1),
+  parts-same _ _ _ _ _ _ _ _ _ _ _ _ _ (c .past-same .ensures) (parts-more _ _ _ _ _ _ _ _ _ _ _ _ (c .before .before .before .before .before .before .before .before .before .before .before .before .before .loop .inv .0) _ (c .before .before .before .before .before .before .before .before .before .before .before .before .next-part .ensures) _ _ (c .before .before .before .before .before .before .before .before .before .before .step .given .1) _ _ (c .before .before .before .before .before .before .before .read-part .ensures .0) _ _ (c .before .before .before .behind2 .given .1)),
   search (traced-ready, needs),
-  le-trans (c .before .before .before .before .before .before .before .before .before .before .before .loop .inv .2) (traced-grows _ _ _ _ (c .before .before .before .before .before .read-part .ensures .1) _ _ (c .before .behind2 .given .1)),
-  parts-counted _ _ _ _ _ _ _ _ _ _ _ _ (c .before .before .before .before .before .before .before .before .before .before .before .loop .inv .0) _ (c .before .before .before .before .before .before .before .before .before .before .next-part .ensures) _ _ (c .before .before .before .before .before .before .before .before .step .given .1) _ _ (c .before .before .before .before .before .read-part .ensures .0) _ _ (c .before .behind2 .given .1) (c .before .before .before .before .before .before .before .before .before .before .before .loop .inv .3),
+  le-trans (c .before .before .before .before .before .before .before .before .before .before .before .before .before .loop .inv .2) (traced-grows _ _ _ _ (c .before .before .before .before .before .before .before .read-part .ensures .1) _ _ (c .before .before .before .behind2 .given .1)),
+  parts-counted _ _ _ _ _ _ _ _ _ _ _ _ (c .before .before .before .before .before .before .before .before .before .before .before .before .before .loop .inv .0) _ (c .before .before .before .before .before .before .before .before .before .before .before .before .next-part .ensures) _ _ (c .before .before .before .before .before .before .before .before .before .before .step .given .1) _ _ (c .before .before .before .before .before .before .before .read-part .ensures .0) _ _ (c .before .before .before .behind2 .given .1) _ (same-above _ _ _ _ _ _ (c .past-same .ensures)) (c .before .before .before .before .before .before .before .before .before .before .before .before .before .loop .inv .3),
   search needs,
 )
 
@@ -778,6 +784,7 @@ pub +enter+read-choice+read-container+read-contents+read-part+read-parts+read-va
     (read-parts-enum-known-step t)
     (read-parts-read-part-requires t)
     (read-parts-enum-known-behind-2 t)
+    (read-parts-past-same-requires t)
     (read-parts-enum-known-refusal-2 t)
     (read-parts-same-length-3 t)
     (read-parts-returns-3 t)
