@@ -149,6 +149,7 @@ positionsMade text place positions n t =
     then thenMade (appendedFrom place 0 positions n t) (λ m u. making (D.Places m) (withWord u place blockWord positions))
     else madeAll text place (positionsFrom 0 positions) n t
 
+-- a sequence makes its element, a map its key and value, a tuple all its positions where the place was unknown
 unfoldable pub made : List ℕ → ℕ → ℕ → ℕ → ℕ → ℕ → List ℕ → Making
 made text place kind positions before n t =
     if eqb kind sequenceKind then madeAll text place (S.Element ∷ []) n t

@@ -21,13 +21,13 @@ use Rattle.model.specs.Kinds.{sequenceKind, mapKind, tupleKind}
 use Rattle.model.specs.Tracing.{placeLimit}
 use Rattle.shapes.specs.declared.Step.{Step}
 use Rattle.shapes.specs.declared.Step.the-variants as S
-use Rattle.shapes.specs.Steps.{codeOf, noName, nameOf, packedName, unpackedName, Inside}
+use Rattle.shapes.specs.Steps.{noName, nameOf, packedName, unpackedName, Inside}
 use Rattle.places.specs.declared.Ensured.{Ensured}
 use Rattle.places.specs.declared.Ensured.the-variants as E
 use Rattle.places.specs.declared.Made.{Made}
 use Rattle.places.specs.declared.Made.the-variants as D
 use Rattle.places.specs.Layout.{kindWord, samplesWord, firstWord, lastWord, blockWord, nextWord, parentWord, stepWord, nameWord, heldWord, markWord, Sound, Ready}
-use Rattle.places.specs.Flat.{isAt, findTurn, findFrom, findIn, inBlock, childAt, linked, described, appended, Ensuring, ensuring, confirmed, ensuredBy, ensured, onward, touched, sampled, Making, making, ofEnsuring, madeOne, thenMade, madeAll, positionsFrom, appendedFrom, positionsMade, made, SoundEnsured, SoundMade}
+use Rattle.places.specs.Flat.{isAt, findTurn, findFrom, findIn, inBlock, childAt, linked, described, appended, Ensuring, ensuring, confirmed, ensuredBy, ensured, onward, touched, sampled, Making, making, ofEnsuring, madeOne, thenMade, madeAll, appendedFrom, positionsMade, made, SoundEnsured, SoundMade}
 
 -- ---- words after a store
 set-keeps : (P : ℕ → Type 0) (l : List ℕ) (i j v : ℕ) → (j ≡ i → P v) → P (getD l j 0) → P (getD (set l i v) j 0)
@@ -221,25 +221,20 @@ module _ (text t : List ℕ) (n code : ℕ) (name : Name) (s : Sound text t n) w
       find-next x e d =
           sym (goes-on-within turn (λ c. 0) (λ c. c < n) (λ c. c < n) childrenLeft turn-keeps 1025 child x h (enough child h) (rw (ne-eqb child 0 known, ← is-at, e, d))) ∙ whole
 
--- a position in the block is a place; so is what the search finds
+-- a position in the block is a place
 pub in-block : (place i n : ℕ) (t : List ℕ) → inBlock place i n t ≡ true → word t place firstWord + i < n
 unfolding inBlock
 in-block place i n t e = both (ltb i (word t place blockWord)) _ e λ a b. ltb-true (word t place firstWord + i) n b
 
-pub child-below : (text t : List ℕ) (n place : ℕ) (step : Step) → Ready text t n place → childAt text place step n t < n
+-- and so is the child at any step, where what the search finds is one
+pub child-below : (text t : List ℕ) (n place : ℕ) → ((code : ℕ) (name : Name) → findIn text place code name t < n) → (step : Step) → childAt text place step n t < n
 unfolding childAt if_then_else_
-child-below text t n place step ready = go step
-  where
-    found : (code : ℕ) (name : Name) → findIn text place code name t < n
-    found code name = find-below text t n code name (ready .sound) _ (first-below text t n place _ (ready .sound) (ready .here) refl)
-
-    go : (step : Step) → childAt text place step n t < n
-    go S.Element = found _ noName
-    go S.Key = found _ noName
-    go S.Value = found _ noName
-    go (S.Field name) = found _ name
-    go (S.Position i) = cases (inBlock place i n t) (λ e. rw e (in-block place i n t e)) (λ e. rw e (found _ noName))
-    go (S.Variant number name) = found _ name
+child-below text t n place found S.Element = found _ noName
+child-below text t n place found S.Key = found _ noName
+child-below text t n place found S.Value = found _ noName
+child-below text t n place found (S.Field name) = found _ name
+child-below text t n place found (S.Position i) = cases (inBlock place i n t) (λ e. rw e (in-block place i n t e)) (λ e. rw e (found _ noName))
+child-below text t n place found (S.Variant number name) = found _ name
 
 -- ---- a child that is ensured, and children that are made
 
@@ -280,7 +275,7 @@ module _ (text t : List ℕ) (n place : ℕ) (step : Step) where
     pub ensured-child : Ready text t n place → (0 < child) × (child < m)
     ensured-child ready =
         let h : place < n = ready .here in
-        let b : sought < n = child-below text t n place step ready in
+        let b : sought < n = child-below text t n place (λ code name. find-below text t n code name (ready .sound) _ (first-below text t n place _ (ready .sound) h refl)) step in
         rw (← e, p) at (ensured-says (λ child m. (0 < child) × (child < m)) (λ z. (omega arith, b)) (omega arith, omega arith))
 
     -- the place that it was ensured for is still one

@@ -24,8 +24,8 @@ use Rattle.shapes.specs.Steps.{codeOf, noName, nameOf, unpackedName}
 use Rattle.places.specs.declared.Ensured.the-variants as E
 use Rattle.places.specs.declared.Made.the-variants as D
 use Rattle.places.specs.Layout.{kindWord, samplesWord, firstWord, lastWord, blockWord, nextWord, parentWord, stepWord, nameWord, heldWord, markWord, Sound}
-use Rattle.places.specs.Flat.{isAt, findTurn, findFrom, findIn, inBlock, childAt, linked, described, appended, Ensuring, ensuring, confirmed, ensuredBy, ensured, touched, sampled, Making, making, ofEnsuring, madeOne, thenMade, madeAll, appendedFrom, positionsMade, made}
-use Rattle.places.specs.Laws.{word-keeps, in-block}
+use Rattle.places.specs.Flat.{isAt, findTurn, findFrom, childAt, linked, described, appended, Ensuring, ensuring, confirmed, ensuredBy, ensured, touched, sampled, Making, making, ofEnsuring, madeOne, thenMade, madeAll, appendedFrom, positionsMade, made}
+use Rattle.places.specs.Laws.{word-keeps, child-below}
 
 -- Of a table with n places: links are places, and the words past those of all places are the given ones.
 pub record Tailed (tail t : List ℕ) (n : ℕ) : Type 0 where
@@ -105,21 +105,6 @@ find-place tail text t n code child name h b = holds (findTurn text code name t)
         let m : n ≤ 1024 = h .most in
         if-either (Says Ok Ok) (eqb c 0) (omega arith) (if-either (Says Ok Ok) (isAt text code name c t) g (h .next c (omega arith)))
 
-child-place : (tail text t : List ℕ) (n place : ℕ) (step : Step) → Tailed tail t n → place < n → childAt text place step n t < n
-unfolding childAt if_then_else_
-child-place tail text t n place step h b = go step
-  where
-    found : (code : ℕ) (name : Name) → findIn text place code name t < n
-    found code name = let m : n ≤ 1024 = h .most in find-place tail text t n code _ name h (h .first place (omega arith))
-
-    go : (step : Step) → childAt text place step n t < n
-    go S.Element = found _ noName
-    go S.Key = found _ noName
-    go S.Value = found _ noName
-    go (S.Field name) = found _ name
-    go (S.Position i) = cases (inBlock place i n t) (λ e. rw e (in-block place i n t e)) (λ e. rw e (found _ noName))
-    go (S.Variant number name) = found _ name
-
 -- ---- a child that is ensured, and children that are made: no place is lost, and a refusal too leaves the tail
 abbrev pub TailedEnsuring : List ℕ → ℕ → Ensuring → Type 0
 TailedEnsuring tail n (ensuring (E.Child child m) u) = Tailed tail u m × (n ≤ m) × (child < m)
@@ -134,7 +119,7 @@ module _ (tail text : List ℕ) (place : ℕ) where
   unfolding ensured ensuredBy confirmed if_then_else_
   ensured-tail step n t h b =
       let m : n ≤ 1024 = h .most in
-      let found : childAt text place step n t < n = child-place tail text t n place step h b in
+      let found : childAt text place step n t < n = child-below text t n place (λ code name. find-place tail text t n code _ name h (h .first place (omega arith))) step in
       let sought : ℕ = childAt text place step n t in
       if-either (TailedEnsuring tail n) (not (eqb sought 0))
       (if-either (λ r. TailedEnsuring tail n (ensuring r t)) (eqName (bytesOf text (unpackedName (word t sought nameWord))) (bytesOf text (nameOf step))) (h, le-refl n, found) (h .kept))
