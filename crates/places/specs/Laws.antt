@@ -181,23 +181,33 @@ module _ (text t : List ℕ) (n code : ℕ) (name : Name) (s : Sound text t n) w
   abbrev turn : ℕ → Turn ℕ ℕ
   turn = findTurn text code name t
 
-  -- each turn leaves a place, with fewer that may follow, or gives one
-  turn-keeps : (child : ℕ) → child < n → Keeps (λ c. c < n) (λ c. c < n) childrenLeft (childrenLeft child) (turn child)
+  -- what is known of the search's answer: it is a place, and stands at the step where it is a child
+  abbrev Found : ℕ → Type 0
+  Found c = (c < n) × ((c ≡ 0 → ⊥) → isAt text code name c t ≡ true)
+
+  -- each turn leaves a place, with fewer that may follow, or gives an answer
+  turn-keeps : (child : ℕ) → child < n → Keeps (λ c. c < n) Found childrenLeft (childrenLeft child) (turn child)
   unfolding findTurn if_then_else_
   turn-keeps child h =
       cases (eqb child 0)
-      (λ e. rw e (omega arith))
+      (λ e. rw e (omega arith, λ z. absurd (z refl)))
       (λ e. cases (isAt text code name child t)
-      (λ f. rw (e, f) h)
+      (λ f. rw (e, f) (h, λ z. f))
       (λ f. rw (e, f) (next-below text t n child _ s h refl, left-falls text t n child _ s h (eqb-false child 0 e) refl)))
 
   enough : (child : ℕ) → child < n → childrenLeft child < 1025
   enough child h = omega arith
 
-  -- a child found is a place
-  pub find-below : (child : ℕ) → child < n → findFrom text code name t child < n
+  find-known : (child : ℕ) → child < n → Found (findFrom text code name t child)
   unfolding findFrom
-  find-below child h = holds-within turn (λ c. 0) (λ c. c < n) (λ c. c < n) childrenLeft turn-keeps 1025 child h (enough child h)
+  find-known child h = holds-within turn (λ c. 0) (λ c. c < n) Found childrenLeft turn-keeps 1025 child h (enough child h)
+
+  -- a child found is a place, and stands at the step
+  pub find-below : (child : ℕ) → child < n → findFrom text code name t child < n
+  find-below child h = find-known child h .0
+
+  pub find-stands : (child : ℕ) → child < n → (findFrom text code name t child ≡ 0 → ⊥) → isAt text code name (findFrom text code name t child) t ≡ true
+  find-stands child h = find-known child h .1
 
   pub find-first : (place child : ℕ) → child ≡ word t place firstWord → findFrom text code name t child ≡ findIn text place code name t
   find-first place child e = ap (findFrom text code name t) e
@@ -205,7 +215,7 @@ module _ (text t : List ℕ) (n code : ℕ) (name : Name) (s : Sound text t n) w
   module _ (child r : ℕ) (h : child < n) (whole : findFrom text code name t child ≡ r) where
     ends-there : (c : ℕ) → turn child ≡ done c → c ≡ r
     unfolding findFrom
-    ends-there c e = sym (ends-within turn (λ c. 0) (λ c. c < n) (λ c. c < n) childrenLeft turn-keeps 1025 child c (enough child h) e) ∙ whole
+    ends-there c e = sym (ends-within turn (λ c. 0) (λ c. c < n) Found childrenLeft turn-keeps 1025 child c (enough child h) e) ∙ whole
 
     pub find-none : child ≡ 0 → 0 ≡ r
     unfolding findTurn if_then_else_
@@ -219,7 +229,7 @@ module _ (text t : List ℕ) (n code : ℕ) (name : Name) (s : Sound text t n) w
       pub find-next : (x : ℕ) → at ≡ false → x ≡ word t child nextWord → findFrom text code name t x ≡ r
       unfolding findFrom findTurn if_then_else_
       find-next x e d =
-          sym (goes-on-within turn (λ c. 0) (λ c. c < n) (λ c. c < n) childrenLeft turn-keeps 1025 child x h (enough child h) (rw (ne-eqb child 0 known, ← is-at, e, d))) ∙ whole
+          sym (goes-on-within turn (λ c. 0) (λ c. c < n) Found childrenLeft turn-keeps 1025 child x h (enough child h) (rw (ne-eqb child 0 known, ← is-at, e, d))) ∙ whole
 
 -- a position in the block is a place
 pub in-block : (place i n : ℕ) (t : List ℕ) → inBlock place i n t ≡ true → word t place firstWord + i < n

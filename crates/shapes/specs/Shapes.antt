@@ -2,17 +2,19 @@
 use mathlib.Core.Bool.{Bool, true, false, _&&_}
 use mathlib.Core.List.{List}
 use Prim.Native.Nat.{ℕ, _+_, _%_}
-use lib.Dec.{eqb, ltb}
-use lib.ListN.{getD}
+use lib.Dec.{eqb, leb, ltb}
+use lib.ListN.{length, getD}
 use Rattle.logic.specs.Test.{if_then_else_}
 use Rattle.datatype.specs.Codes.{null, boolean, int8, int16, int32, int64, uint8, uint16, uint32, uint64, float32, float64}
 use Rattle.options.specs.Word.{mapAsStruct, binaryType}
-use Rattle.text.specs.Name.{bytesOf}
+use Rattle.text.specs.Name.{inside, bytesOf}
+use Rattle.text.specs.Utf8.{isUtf8}
 use Rattle.chrono.specs.Text.{textType}
 use Rattle.commands.specs.declared.Command.{Command}
 use Rattle.commands.specs.declared.Command.the-variants as C
 use Rattle.commands.specs.declared.Read.{Read}
 use Rattle.commands.specs.declared.Read.the-variants as R
+use Rattle.commands.specs.declared.Due.{Due}
 use Rattle.commands.specs.declared.Due.the-variants as D
 use Rattle.commands.specs.Commands.{readCommand, nameAt, endByte}
 use Rattle.model.specs.Kinds.{sequenceKind, structKind, mapKind, tupleKind, mapModeKind}
@@ -76,3 +78,24 @@ partAt commands text kind positions i at =
     else if eqb kind mapKind then valuePart commands S.Value at (readCommand commands text at D.Value)
     else if ltb i positions then valuePart commands (S.Position i) at (readCommand commands text at D.Value)
     else P.Ended at
+
+-- ---- what the first bytes tell of a part, before its command is read
+-- a value with no operands stands there: unit, bool, a number or char
+abbrev pub charByte : ℕ
+charByte = 0x0C
+
+unfoldable pub plainAt : List ℕ → ℕ → Bool
+plainAt commands at = ltb at (length commands) && leb (getD commands at 0) charByte
+
+-- values can stand where that is due
+abbrev pub takesValue : Due → Bool
+takesValue D.Value = true
+takesValue D.ValueOrEnd = true
+takesValue D.FieldOrEnd = false
+takesValue D.KeyOrEnd = false
+
+-- the command with that byte stands there, and the name behind it is inside the text and UTF-8
+unfoldable pub namedAt : List ℕ → List ℕ → ℕ → ℕ → Bool
+namedAt commands text byte at =
+    leb (at + 5) (length commands) && eqb (getD commands at 0) byte
+    && inside text (nameAt commands (at + 1)) && isUtf8 (bytesOf text (nameAt commands (at + 1)))

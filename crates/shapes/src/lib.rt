@@ -1,17 +1,18 @@
 // What a command begins, the steps down from a place, and what stands before a part of a container. Nothing is traced
 // here: these read commands alone.
 ghost use mathlib.Core.Path.{_≡_};
-ghost use Prim.Native.Nat.{_+_, _<_, _≤_};
+ghost use Prim.Native.Nat.{_+_, _*_, _<_, _≤_};
 ghost use lib.ListN.{length};
 ghost use Rattle.text.specs.declared.Name.{Name};
 ghost use Rattle.text.specs.Name.{bytesOf};
 ghost use Rattle.chrono.specs.Text.{textType};
 ghost use Rattle.commands.specs.declared.Command.the-variants.{Text};
-ghost use Rattle.commands.specs.Commands.{readCommand};
+ghost use Rattle.commands.specs.Commands.{readCommand, nameAt};
 ghost use Rattle.commands.specs.declared.Due.the-variants.{FieldOrEnd, KeyOrEnd};
 ghost use Rattle.model.specs.Kinds.{mapKind};
 ghost use Rattle.shapes.specs.Steps.{codeOf, nameOf, packedName, unpackedName, Inside};
-ghost use Rattle.shapes.specs.Shapes.{mapKindOf, shapeAt, valuePart, fieldPart, partAt};
+ghost use Rattle.shapes.specs.Shapes.{mapKindOf, shapeAt, valuePart, fieldPart, partAt, plainAt, takesValue, namedAt};
+ghost use mathlib.Core.Bool.{true};
 use chrono::text_type;
 use commands::Command;
 use commands::Due;
@@ -130,6 +131,13 @@ pub enum Part {
     Refused(Refusal, usize),
 }
 
+// The last of the values with no operands that come first, and the commands that parts are told by.
+const CHAR: u8 = 0x0C;
+
+const TEXT: u8 = 0x0D;
+
+const FIELD_BYTE: u8 = 0x16;
+
 const END: u8 = 0x17;
 
 // The kind of a map.
@@ -192,10 +200,63 @@ pub fn shape_of(command: Command, text: &[u8], options: TracingOptions) -> Shape
     }
 }
 
-// A part that is a value, or the end where it is due.
+// Whether a value with no operands stands at an offset (00 to 0C).
+fn is_plain(commands: &[u8], at: usize) -> bool
+    ensures { λ r. ⌜ r ≡ plainAt (now (commands .entry)) at ⌝ }
+{
+    if commands.len() <= at {
+        return false;
+    }
+    commands[at] <= CHAR
+}
+
+// An operand from its two bytes.
+fn operand(low: u8, high: u8) -> u16
+    ensures { λ r. ⌜ r ≡ low + high * 256 ⌝ }
+{
+    low as u16 + high as u16 * 256
+}
+
+// The name behind a command's byte.
+fn name_behind(commands: &[u8], at: usize) -> Name
+    requires { ⌜ at + 5 ≤ length (now commands) ⌝ }
+    ensures { λ r. ⌜ r ≡ nameAt (now (commands .entry)) (at + 1) ⌝ }
+{
+    Name {
+        offset: operand(commands[at + 1], commands[at + 2]),
+        length: operand(commands[at + 3], commands[at + 4]),
+    }
+}
+
+// Whether the command with that byte stands at an offset, with a good name behind it.
+fn is_named(commands: &[u8], text: &[u8], byte: u8, at: usize) -> bool
+    ensures { λ r. ⌜ r ≡ namedAt (now (commands .entry)) (now (text .entry)) byte at ⌝ }
+{
+    if commands.len() <= at {
+        return false;
+    }
+    if commands.len() - at < 5 {
+        return false;
+    }
+    if commands[at] != byte {
+        return false;
+    }
+    let name = name_behind(commands, at);
+    if name.is_inside(text) {
+        name.is_utf8(text)
+    } else {
+        false
+    }
+}
+
+// A part that is a value, or the end where it is due. A value with no operands is there at once.
 fn value_part(commands: &[u8], text: &[u8], step: Step, due: Due, at: usize) -> Part
+    requires { ⌜ takesValue due ≡ true ⌝ }
     ensures { λ r. ⌜ r ≡ valuePart (now (commands .entry)) step at (readCommand (now (commands .entry)) (now (text .entry)) at due) ⌝ }
 {
+    if is_plain(commands, at) {
+        return Part::Step(step, at);
+    }
     let read = commands::read_command(commands, text, at, due);
     let Read::Command(_, next) = read else {
         return Part::Refused(read.refusal(), read.place());
@@ -207,10 +268,13 @@ fn value_part(commands: &[u8], text: &[u8], step: Step, due: Due, at: usize) -> 
     }
 }
 
-// A field (16), or the end.
+// A field (16), or the end. A field with a good name is there at once.
 fn field_part(commands: &[u8], text: &[u8], at: usize) -> Part
     ensures { λ r. ⌜ r ≡ fieldPart (now (commands .entry)) at (readCommand (now (commands .entry)) (now (text .entry)) at FieldOrEnd) ⌝ }
 {
+    if is_named(commands, text, FIELD_BYTE, at) {
+        return Part::Step(Step::Field(name_behind(commands, at)), at + 5);
+    }
     let read = commands::read_command(commands, text, at, Due::FieldOrEnd);
     let Read::Command(command, next) = read else {
         return Part::Refused(read.refusal(), read.place());
@@ -221,10 +285,13 @@ fn field_part(commands: &[u8], text: &[u8], at: usize) -> Part
     Part::Step(Step::Field(name), next)
 }
 
-// A key that is text (0D), or the end.
+// A key that is text (0D), or the end. A key with a good name is there at once.
 fn key_part(commands: &[u8], text: &[u8], at: usize) -> Part
     ensures { λ r. ⌜ r ≡ fieldPart (now (commands .entry)) at (readCommand (now (commands .entry)) (now (text .entry)) at KeyOrEnd) ⌝ }
 {
+    if is_named(commands, text, TEXT, at) {
+        return Part::Step(Step::Field(name_behind(commands, at)), at + 5);
+    }
     let read = commands::read_command(commands, text, at, Due::KeyOrEnd);
     let Read::Command(command, next) = read else {
         return Part::Refused(read.refusal(), read.place());

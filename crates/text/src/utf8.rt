@@ -1,7 +1,9 @@
 // UTF-8, by the Unicode standard's table of well-formed byte sequences.
 ghost use mathlib.Core.Path.{_≡_};
 ghost use Prim.Native.Nat.{_+_, _≤_, _<_};
+ghost use mathlib.Core.Bool.{_&&_};
 ghost use mathlib.Core.List.{_∷_};
+ghost use lib.Dec.{ltb};
 ghost use lib.ListN.{length, drop, replicate};
 ghost use Rattle.text.specs.Utf8.{_to_, table, dueIn, isUtf8};
 ghost use Rattle.text.specs.Due.{dueOf, trailing, begins};
@@ -13,11 +15,43 @@ enum Due {
     Nothing,
 }
 
+// Whether four bytes are below 80.
+fn are_ascii(a: u8, b: u8, c: u8, d: u8) -> bool
+    ensures { λ r. ⌜ r ≡ (ltb a 0x80 && ltb b 0x80 && ltb c 0x80 && ltb d 0x80) ⌝ }
+{
+    if 0x80 <= a {
+        return false;
+    }
+    if 0x80 <= b {
+        return false;
+    }
+    if 0x80 <= c {
+        return false;
+    }
+    d < 0x80
+}
+
+// An index before which all bytes are sequences of one byte. How far it goes is its own choice: by four bytes at a time,
+// which is quick.
+fn past_ascii(bytes: &[u8]) -> usize
+    ensures { λ r. ⌜ (r ≤ length (now (bytes .entry))) × (isUtf8 (drop r (now (bytes .entry))) ≡ isUtf8 (now (bytes .entry))) ⌝ }
+{
+    let mut i = 0;
+    while 4 <= bytes.len() - i {
+        if are_ascii(bytes[i], bytes[i + 1], bytes[i + 2], bytes[i + 3]) {
+            i += 4;
+        } else {
+            return i;
+        }
+    }
+    i
+}
+
 // Whether the bytes are sequences of the table, one after another. Most are of one byte.
 pub fn is_utf8(bytes: &[u8]) -> bool
     ensures { λ r. ⌜ r ≡ isUtf8 (now (bytes .entry)) ⌝ }
 {
-    let mut i = 0;
+    let mut i = past_ascii(bytes);
     while i < bytes.len() {
         let first = bytes[i];
         if first < 0x80 {

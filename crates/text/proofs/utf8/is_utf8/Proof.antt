@@ -5,16 +5,16 @@ use Prim.Native.Nat.{ℕ, suc, _+_, _-_, _≤_, _<_}
 use native.Mathlib.Omega.{arith}
 use mathlib.Core.Bool.{Bool, true, false, _&&_, and-assoc, false≢true}
 use mathlib.Core.List.{List, [], _∷_}
-use mathlib.Core.Option.{some}
 use lib.ListN.{length, getD, drop, drop-of-length-le, length-drop, replicate, length-replicate}
 use lib.Seq.{drop-drop}
 use Rattle.logic.specs.Test.{both}
 use Rattle.text.specs.declared.utf8.Due.{Due}
 use Rattle.text.specs.declared.utf8.Due.the-variants as D
 use Rattle.text.specs.Utf8.{Range, _to_, table, within, dueIn, reads, isUtf8}
-use Rattle.text.specs.Utf8Laws.{due-at, reads-first, reads-none}
+use Rattle.text.specs.Utf8Laws.{reads-none}
 use Rattle.text.specs.Due.{trailing, dueOf, begins}
 use Rattle.text.proofs.Steps.{drop-at}
+use Rattle.text.proofs.Ascii.{taken, ascii}
 use Rattle.text.proofs.utf8.is_utf8.Statement.{statement}
 use Rattle.text.proofs.utf8.is_utf8.Tie as tie
 
@@ -40,13 +40,6 @@ begins-length (range ∷ due) (b ∷ bytes) e =
     both (within range b) (begins due bytes) e λ p q. let h : length due ≤ length bytes = begins-length due bytes q in omega arith
 
 module _ (bytes : List ℕ) (i : ℕ) (inv : isUtf8 (drop i bytes) ≡ isUtf8 bytes) (h : i < length bytes) where
-  -- the first byte with what is due after it
-  taken : (due : List Range) → dueIn table (getD bytes i 0) ≡ some due → reads due (drop (i + 1) bytes) ≡ isUtf8 bytes
-  taken due e = sym (reads-first (getD bytes i 0) due (drop (i + 1) bytes) e) ∙ (rw (drop-at bytes i h) at inv)
-
-  ascii : getD bytes i 0 < 0x80 → isUtf8 (drop (i + 1) bytes) ≡ isUtf8 bytes
-  ascii g = taken [] (due-at 0 (getD bytes i 0) 0x00 0x7F [] refl (omega arith) (omega arith))
-
   nothing : (d : Due) → d ≡ D.Nothing → dueOf d ≡ dueIn table (getD bytes i 0) → false ≡ isUtf8 bytes
   nothing d e f =
       sym (reads-none (getD bytes i 0) (drop (i + 1) bytes) (sym f ∙ ap dueOf e)) ∙ (rw (drop-at bytes i h) at inv)
@@ -58,7 +51,7 @@ module _ (bytes : List ℕ) (i : ℕ) (inv : isUtf8 (drop i bytes) ≡ isUtf8 by
         let n : i + 1 + suc more ≡ i + (more + 2) = omega arith in
         let v : reads (low to high ∷ replicate more trailing) (drop (i + 1) bytes) ≡ (r && isUtf8 (drop (i + (more + 2)) bytes)) =
         reads-begins (low to high ∷ replicate more trailing) (drop (i + 1) bytes) ∙ rw (← g, length-replicate more trailing, drop-drop, n) in
-        sym v ∙ taken (low to high ∷ replicate more trailing) (sym f ∙ ap dueOf e)
+        sym v ∙ taken bytes i inv h (low to high ∷ replicate more trailing) (sym f ∙ ap dueOf e)
 
     wrong : r ≡ false → false ≡ isUtf8 bytes
     wrong p = rw p at whole
@@ -75,7 +68,7 @@ ended bytes i inv h = rw (drop-of-length-le bytes h) at inv
 
 -- a whole sequence stands there
 stands : (c : tie.Then2 Inv-loop μ-loop) →
-    c .before .before .before .before .before .before .before .before .before .loop .i + (c .before .before .before .due .given .0 .1 .1 .0 + 2) ≤ length (c .before .before .before .before .before .before .before .before .before .before .before .args .bytes .now)
+    c .before .before .before .before .before .before .before .before .before .loop .i + (c .before .before .before .due .given .0 .1 .1 .0 + 2) ≤ length (c .before .before .before .before .before .before .before .before .before .before .before .before .args .bytes .now)
 stands c = search (room, needs)
 
 pub is-utf8-spec : {M : Type 1} → statement M
@@ -84,6 +77,7 @@ is-utf8-spec =
     (tie.spec
     Inv-loop
     μ-loop
+    (λ c κs. search needs)
     (λ c. search needs)
     (λ c. search needs)
     (λ c. search needs)
