@@ -16,11 +16,11 @@ use Rattle.model.specs.Kinds.{unionKind, mapModeKind, Step, field, element, pos
 use Rattle.model.specs.Tracing.{placeLimit}
 use Rattle.model.specs.Emission.{nameOf}
 use Rattle.equality.specs.Base.{or-cases}
-use Rattle.places.specs.Layout.{kindWord, firstWord, orderedFirstWord, nextWord, parentWord, stepWord, nameWord, orderedNextWord}
+use Rattle.places.specs.Layout.{kindWord, firstWord, orderedFirstWord, blockWord, nextWord, parentWord, stepWord, nameWord, orderedNextWord}
 use Rattle.refine.specs.Spots.{Spot, spot, Spots, no-spots, child, num}
 use Rattle.refine.specs.Steps.{near, nameIn}
 use Rattle.refine.specs.Numbers.{firstOf, within, withinIn, Good, GoodIn, nearIn, both-false, or-right, not-both, un-true, bounded, self}
-use Rattle.refine.specs.Rep.{Cell, Rep, RepIn}
+use Rattle.refine.specs.Rep.{Cell, Rep, RepIn, same-block}
 use Rattle.order.specs.Flat.{variantAt, givenName, linkAt, isBefore, sortedChildren, sortedPlace, sortedPlaces}
 use Rattle.order.specs.Laws.{length-ordered, words-ordered}
 use Rattle.walk.specs.Order.{isOrdered, nextOrdered, nextChild}
@@ -445,7 +445,7 @@ module _ (text t : List ℕ) (n : ℕ) (most : n ≤ placeLimit) (room : 16384 �
 module _ (text t u : List ℕ) (same : (q f : ℕ) → f < 16 → (f ≡ orderedFirstWord → ⊥) → (f ≡ orderedNextWord → ⊥) → word u q f ≡ word t q f) where
   mutual
     still-says : (v : Spot) → Rep text t v → Rep text u v
-    still-says (spot p b k m ks) r = ((λ f l. same p (0 + f) (omega arith) (λ e. omega arith) (λ e. omega arith) ∙ r .0 f l), still-in p ks (r .1))
+    still-says (spot p b k m ks) r = ((λ f l. same p (0 + f) (omega arith) (λ e. omega arith) (λ e. omega arith) ∙ r .0 f l), still-in p ks (r .1), same-block t u p ks (same p blockWord (omega arith) (λ e. omega arith) (λ e. omega arith)) (r .2))
 
     still-in : (p : ℕ) (ks : Spots) → RepIn text t p ks → RepIn text u p ks
     still-in p no-spots r = tt

@@ -3,7 +3,7 @@ use mathlib.Core.Bool.{Bool, true, false, not, _&&_, _||_}
 use mathlib.Core.List.{List, [], _∷_}
 use mathlib.Core.Option.{Option, none, some}
 use Prim.Native.Nat.{ℕ, zero, suc, _+_, _%_, _^_, _<_}
-use lib.Dec.{eqb, leb}
+use lib.Dec.{eqb, leb, ltb}
 use Rattle.logic.specs.Test.{if_then_else_}
 use Rattle.logic.specs.Turns.{Turn, again, done, turns}
 use Rattle.refusal.specs.declared.Refusal.the-variants as F
@@ -16,14 +16,14 @@ use Rattle.model.specs.Tracing.{sameContainer, placeLimit}
 use Rattle.datatype.specs.Codes.{null}
 use Rattle.shapes.specs.declared.Step.{Step}
 use Rattle.shapes.specs.declared.Step.the-variants as S
-use Rattle.shapes.specs.Steps.{fieldCode, codeOf, nameOf, packedName, unpackedName}
+use Rattle.shapes.specs.Steps.{fieldCode, codeOf, noName, nameOf, packedName, unpackedName}
 use Rattle.places.specs.declared.Met.{Met}
 use Rattle.places.specs.declared.Met.the-variants as M
 use Rattle.places.specs.declared.Ensured.{Ensured}
 use Rattle.places.specs.declared.Ensured.the-variants as E
 use Rattle.places.specs.declared.Made.{Made}
 use Rattle.places.specs.declared.Made.the-variants as D
-use Rattle.places.specs.Layout.{kindWord, samplesWord, firstWord, lastWord, nextWord, parentWord, stepWord, nameWord, heldWord, markWord, Sound}
+use Rattle.places.specs.Layout.{kindWord, samplesWord, firstWord, lastWord, blockWord, nextWord, parentWord, stepWord, nameWord, heldWord, markWord, Sound}
 
 -- ---- kinds that meet, with so many levels left
 abbrev pub ofJoint : Option ℕ → Met
@@ -59,6 +59,18 @@ findFrom text code name t child = turns (findTurn text code name t) (λ c. 0) 10
 abbrev pub findIn : List ℕ → ℕ → ℕ → Name → List ℕ → ℕ
 findIn text place code name t = findFrom text code name t (word t place firstWord)
 
+-- a position in the place's block stands by its number; any other child is searched for
+unfoldable pub inBlock : ℕ → ℕ → ℕ → List ℕ → Bool
+inBlock place i n t = ltb i (word t place blockWord) && ltb (word t place firstWord + i) n
+
+unfoldable pub childAt : List ℕ → ℕ → Step → ℕ → List ℕ → ℕ
+childAt text place S.Element n t = findIn text place (codeOf S.Element) noName t
+childAt text place S.Key n t = findIn text place (codeOf S.Key) noName t
+childAt text place S.Value n t = findIn text place (codeOf S.Value) noName t
+childAt text place (S.Field name) n t = findIn text place fieldCode name t
+childAt text place (S.Position i) n t = if inBlock place i n t then word t place firstWord + i else findIn text place (codeOf (S.Position i)) noName t
+childAt text place (S.Variant number name) n t = findIn text place (codeOf (S.Variant number name)) name t
+
 -- ---- a new last child: linked from the place where it is the first, else from the last before it
 unfoldable pub linked : ℕ → ℕ → List ℕ → List ℕ
 linked place child t = if eqb (word t place firstWord) 0 then withWord t place firstWord child else withWord t (word t place lastWord) nextWord child
@@ -85,7 +97,7 @@ ensuredBy text place code name n t child =
     else ensuring (E.Child n (n + 1)) (appended place code name n t)
 
 unfoldable pub ensured : List ℕ → ℕ → Step → ℕ → List ℕ → Ensuring
-ensured text place step n t = ensuredBy text place (codeOf step) (nameOf step) n t (findIn text place (codeOf step) (nameOf step) t)
+ensured text place step n t = ensuredBy text place (codeOf step) (nameOf step) n t (childAt text place step n t)
 
 -- ---- counts of samples wrap at 32 bits, which no batch reaches
 abbrev pub onward : ℕ → ℕ
@@ -123,15 +135,27 @@ abbrev pub positionsFrom : ℕ → ℕ → List Step
 positionsFrom i zero = []
 positionsFrom i (suc n) = S.Position i ∷ positionsFrom (suc i) n
 
-unfoldable pub stepsMade : ℕ → ℕ → ℕ → List Step
-stepsMade kind positions before =
-    if eqb kind sequenceKind then S.Element ∷ []
-    else if eqb kind mapKind then S.Key ∷ S.Value ∷ []
-    else if eqb kind tupleKind && eqb before null then positionsFrom 0 positions
-    else []
+-- so many positions from i on, at a place that has none of them: appended with no search
+unfoldable pub appendedFrom : ℕ → ℕ → ℕ → ℕ → List ℕ → Making
+appendedFrom place i zero n t = making (D.Places n) t
+appendedFrom place i (suc left) n t =
+    if leb placeLimit n then making (D.Refused F.TooManyPlaces) t
+    else appendedFrom place (suc i) left (n + 1) (appended place (codeOf (S.Position i)) noName n t)
 
-abbrev pub made : List ℕ → ℕ → ℕ → ℕ → ℕ → ℕ → List ℕ → Making
-made text place kind positions before n t = madeAll text place (stepsMade kind positions before) n t
+-- all positions of a tuple: a block where they are the place's first children
+unfoldable pub positionsMade : List ℕ → ℕ → ℕ → ℕ → List ℕ → Making
+positionsMade text place positions n t =
+    if eqb (word t place firstWord) 0
+    then thenMade (appendedFrom place 0 positions n t) (λ m u. making (D.Places m) (withWord u place blockWord positions))
+    else madeAll text place (positionsFrom 0 positions) n t
+
+-- a sequence makes its element, a map its key and value, a tuple all its positions where the place was unknown
+unfoldable pub made : List ℕ → ℕ → ℕ → ℕ → ℕ → ℕ → List ℕ → Making
+made text place kind positions before n t =
+    if eqb kind sequenceKind then madeAll text place (S.Element ∷ []) n t
+    else if eqb kind mapKind then madeAll text place (S.Key ∷ S.Value ∷ []) n t
+    else if eqb kind tupleKind && eqb before null then positionsMade text place positions n t
+    else making (D.Places n) t
 
 -- ---- what is true of the table afterwards
 abbrev pub SoundEnsured : List ℕ → List ℕ → Ensured → Type 0

@@ -16,15 +16,18 @@ use Rattle.text.specs.declared.Name.{Name}
 use Rattle.words.specs.Word.{word, withWord, cleared}
 use Rattle.refusal.specs.declared.Refusal.{Refusal}
 use Rattle.text.specs.Name.{bytesOf, eqName}
+use Rattle.datatype.specs.Codes.{null}
+use Rattle.model.specs.Kinds.{sequenceKind, mapKind, tupleKind}
 use Rattle.model.specs.Tracing.{placeLimit}
 use Rattle.shapes.specs.declared.Step.{Step}
-use Rattle.shapes.specs.Steps.{codeOf, nameOf, packedName, unpackedName, Inside}
+use Rattle.shapes.specs.declared.Step.the-variants as S
+use Rattle.shapes.specs.Steps.{noName, nameOf, packedName, unpackedName, Inside}
 use Rattle.places.specs.declared.Ensured.{Ensured}
 use Rattle.places.specs.declared.Ensured.the-variants as E
 use Rattle.places.specs.declared.Made.{Made}
 use Rattle.places.specs.declared.Made.the-variants as D
-use Rattle.places.specs.Layout.{kindWord, samplesWord, firstWord, lastWord, nextWord, parentWord, stepWord, nameWord, heldWord, markWord, Sound, Ready}
-use Rattle.places.specs.Flat.{isAt, findTurn, findFrom, findIn, linked, described, appended, Ensuring, ensuring, confirmed, ensuredBy, ensured, onward, touched, sampled, Making, making, ofEnsuring, madeOne, thenMade, madeAll, SoundEnsured, SoundMade}
+use Rattle.places.specs.Layout.{kindWord, samplesWord, firstWord, lastWord, blockWord, nextWord, parentWord, stepWord, nameWord, heldWord, markWord, Sound, Ready}
+use Rattle.places.specs.Flat.{isAt, findTurn, findFrom, findIn, inBlock, childAt, linked, described, appended, Ensuring, ensuring, confirmed, ensuredBy, ensured, onward, touched, sampled, Making, making, ofEnsuring, madeOne, thenMade, madeAll, appendedFrom, positionsMade, made, SoundEnsured, SoundMade}
 
 -- ---- words after a store
 set-keeps : (P : ℕ → Type 0) (l : List ℕ) (i j v : ℕ) → (j ≡ i → P v) → P (getD l j 0) → P (getD (set l i v) j 0)
@@ -178,23 +181,33 @@ module _ (text t : List ℕ) (n code : ℕ) (name : Name) (s : Sound text t n) w
   abbrev turn : ℕ → Turn ℕ ℕ
   turn = findTurn text code name t
 
-  -- each turn leaves a place, with fewer that may follow, or gives one
-  turn-keeps : (child : ℕ) → child < n → Keeps (λ c. c < n) (λ c. c < n) childrenLeft (childrenLeft child) (turn child)
+  -- what is known of the search's answer: it is a place, and stands at the step where it is a child
+  abbrev Found : ℕ → Type 0
+  Found c = (c < n) × ((c ≡ 0 → ⊥) → isAt text code name c t ≡ true)
+
+  -- each turn leaves a place, with fewer that may follow, or gives an answer
+  turn-keeps : (child : ℕ) → child < n → Keeps (λ c. c < n) Found childrenLeft (childrenLeft child) (turn child)
   unfolding findTurn if_then_else_
   turn-keeps child h =
       cases (eqb child 0)
-      (λ e. rw e (omega arith))
+      (λ e. rw e (omega arith, λ z. absurd (z refl)))
       (λ e. cases (isAt text code name child t)
-      (λ f. rw (e, f) h)
+      (λ f. rw (e, f) (h, λ z. f))
       (λ f. rw (e, f) (next-below text t n child _ s h refl, left-falls text t n child _ s h (eqb-false child 0 e) refl)))
 
   enough : (child : ℕ) → child < n → childrenLeft child < 1025
   enough child h = omega arith
 
-  -- a child found is a place
-  pub find-below : (child : ℕ) → child < n → findFrom text code name t child < n
+  find-known : (child : ℕ) → child < n → Found (findFrom text code name t child)
   unfolding findFrom
-  find-below child h = holds-within turn (λ c. 0) (λ c. c < n) (λ c. c < n) childrenLeft turn-keeps 1025 child h (enough child h)
+  find-known child h = holds-within turn (λ c. 0) (λ c. c < n) Found childrenLeft turn-keeps 1025 child h (enough child h)
+
+  -- a child found is a place, and stands at the step
+  pub find-below : (child : ℕ) → child < n → findFrom text code name t child < n
+  find-below child h = find-known child h .0
+
+  pub find-stands : (child : ℕ) → child < n → (findFrom text code name t child ≡ 0 → ⊥) → isAt text code name (findFrom text code name t child) t ≡ true
+  find-stands child h = find-known child h .1
 
   pub find-first : (place child : ℕ) → child ≡ word t place firstWord → findFrom text code name t child ≡ findIn text place code name t
   find-first place child e = ap (findFrom text code name t) e
@@ -202,7 +215,7 @@ module _ (text t : List ℕ) (n code : ℕ) (name : Name) (s : Sound text t n) w
   module _ (child r : ℕ) (h : child < n) (whole : findFrom text code name t child ≡ r) where
     ends-there : (c : ℕ) → turn child ≡ done c → c ≡ r
     unfolding findFrom
-    ends-there c e = sym (ends-within turn (λ c. 0) (λ c. c < n) (λ c. c < n) childrenLeft turn-keeps 1025 child c (enough child h) e) ∙ whole
+    ends-there c e = sym (ends-within turn (λ c. 0) (λ c. c < n) Found childrenLeft turn-keeps 1025 child c (enough child h) e) ∙ whole
 
     pub find-none : child ≡ 0 → 0 ≡ r
     unfolding findTurn if_then_else_
@@ -216,7 +229,22 @@ module _ (text t : List ℕ) (n code : ℕ) (name : Name) (s : Sound text t n) w
       pub find-next : (x : ℕ) → at ≡ false → x ≡ word t child nextWord → findFrom text code name t x ≡ r
       unfolding findFrom findTurn if_then_else_
       find-next x e d =
-          sym (goes-on-within turn (λ c. 0) (λ c. c < n) (λ c. c < n) childrenLeft turn-keeps 1025 child x h (enough child h) (rw (ne-eqb child 0 known, ← is-at, e, d))) ∙ whole
+          sym (goes-on-within turn (λ c. 0) (λ c. c < n) Found childrenLeft turn-keeps 1025 child x h (enough child h) (rw (ne-eqb child 0 known, ← is-at, e, d))) ∙ whole
+
+-- a position in the block is a place
+pub in-block : (place i n : ℕ) (t : List ℕ) → inBlock place i n t ≡ true → word t place firstWord + i < n
+unfolding inBlock
+in-block place i n t e = both (ltb i (word t place blockWord)) _ e λ a b. ltb-true (word t place firstWord + i) n b
+
+-- and so is the child at any step, where what the search finds is one
+pub child-below : (text t : List ℕ) (n place : ℕ) → ((code : ℕ) (name : Name) → findIn text place code name t < n) → (step : Step) → childAt text place step n t < n
+unfolding childAt if_then_else_
+child-below text t n place found S.Element = found _ noName
+child-below text t n place found S.Key = found _ noName
+child-below text t n place found S.Value = found _ noName
+child-below text t n place found (S.Field name) = found _ name
+child-below text t n place found (S.Position i) = cases (inBlock place i n t) (λ e. rw e (in-block place i n t e)) (λ e. rw e (found _ noName))
+child-below text t n place found (S.Variant number name) = found _ name
 
 -- ---- a child that is ensured, and children that are made
 
@@ -235,7 +263,7 @@ child-ready text u r child m s p = let h : Sound text u m × (child < m) = rw p 
 
 module _ (text t : List ℕ) (n place : ℕ) (step : Step) where
   abbrev sought : ℕ
-  sought = findIn text place (codeOf step) (nameOf step) t
+  sought = childAt text place step n t
 
   -- it is the child found, or place n
   ensured-says : (P : ℕ → ℕ → Type 0) → ((sought ≡ 0 → ⊥) → P sought n) → P n (n + 1) → OnChild P (ensured text place step n t)
@@ -257,7 +285,7 @@ module _ (text t : List ℕ) (n place : ℕ) (step : Step) where
     pub ensured-child : Ready text t n place → (0 < child) × (child < m)
     ensured-child ready =
         let h : place < n = ready .here in
-        let b : sought < n = find-below text t n (codeOf step) (nameOf step) (ready .sound) _ (first-below text t n place _ (ready .sound) h refl) in
+        let b : sought < n = child-below text t n place (λ code name. find-below text t n code name (ready .sound) _ (first-below text t n place _ (ready .sound) h refl)) step in
         rw (← e, p) at (ensured-says (λ child m. (0 < child) × (child < m)) (λ z. (omega arith, b)) (omega arith, omega arith))
 
     -- the place that it was ensured for is still one
@@ -280,15 +308,42 @@ made-more text place (s ∷ ss) n t = go (λ k u. made-more text place ss k u) (
         up (making (D.Refused refusal) v) l = tt
     go ih (ensuring (E.Refused refusal) u) h = tt
 
-pub made-grows : (text t u : List ℕ) (n m place : ℕ) (steps : List Step) (r : Made) → making r u ≡ madeAll text place steps n t → r ≡ D.Places m → n ≤ m
-made-grows text t u n m place steps r e p = rw (← e, p) at (made-more text place steps n t)
+appended-more : (place i left n : ℕ) (t : List ℕ) → OnPlaces (λ m. n ≤ m) (appendedFrom place i left n t)
+unfolding appendedFrom
+appended-more place i zero n t = le-refl n
+appended-more place i (suc left) n t =
+    if-either (OnPlaces (λ m. n ≤ m)) (leb placeLimit n) tt (up (appendedFrom place (suc i) left (n + 1) _) (appended-more place (suc i) left (n + 1) _))
+  where
+    up : (x : Making) → OnPlaces (λ m. n + 1 ≤ m) x → OnPlaces (λ m. n ≤ m) x
+    up (making (D.Places m) u) l = omega arith
+    up (making (D.Refused refusal) u) l = tt
+
+all-more : (text t : List ℕ) (place kind positions before n : ℕ) → OnPlaces (λ m. n ≤ m) (made text place kind positions before n t)
+unfolding made positionsMade
+all-more text t place kind positions before n =
+    if-either More (eqb kind sequenceKind) (made-more text place _ n t) (
+    if-either More (eqb kind mapKind) (made-more text place _ n t) (
+    if-either More (eqb kind tupleKind && eqb before null) (
+    if-either More (eqb (word t place firstWord) 0) (stored (appendedFrom place 0 positions n t) (appended-more place 0 positions n t)) (made-more text place _ n t))
+    (le-refl n)))
+  where
+    More : Making → Type 0
+    More = OnPlaces (λ m. n ≤ m)
+
+    stored : (x : Making) → More x → More (thenMade x (λ m u. making (D.Places m) (withWord u place blockWord positions)))
+    stored (making (D.Places m) u) l = l
+    stored (making (D.Refused refusal) u) l = tt
 
 -- the place that children were made for is still one
-pub made-ready : (text t u : List ℕ) (n m place : ℕ) (steps : List Step) (r : Made) → Ready text t n place → making r u ≡ madeAll text place steps n t → SoundMade text u r → r ≡ D.Places m → Ready text u m place
-made-ready text t u n m place steps r ready e s p =
-    let h : place < n = ready .here in
-    let l : n ≤ m = made-grows text t u n m place steps r e p in
-    record { sound = rw p at s; here = omega arith }
+still-ready : (text t u : List ℕ) (n m place : ℕ) (r : Made) → Ready text t n place → n ≤ m → SoundMade text u r → r ≡ D.Places m → Ready text u m place
+still-ready text t u n m place r ready l s p = let h : place < n = ready .here in record { sound = rw p at s; here = omega arith }
+
+module _ (text t u : List ℕ) (n m place kind positions before : ℕ) (r : Made) where
+  pub made-grows : making r u ≡ made text place kind positions before n t → r ≡ D.Places m → n ≤ m
+  made-grows e p = rw (← e, p) at (all-more text t place kind positions before n)
+
+  pub made-ready : Ready text t n place → making r u ≡ made text place kind positions before n t → SoundMade text u r → r ≡ D.Places m → Ready text u m place
+  made-ready ready e s p = still-ready text t u n m place r ready (made-grows e p) s p
 
 pub made-single : (text t : List ℕ) (n place : ℕ) (step : Step) → madeAll text place (step ∷ []) n t ≡ madeOne text place step n t
 unfolding madeAll
@@ -301,7 +356,8 @@ made-single text t n place step = go (madeOne text place step n t)
 -- one child after another
 module _ (text t u : List ℕ) (n place : ℕ) (step : Step) (r : Made) (one : making r u ≡ madeOne text place step n t) where
   pub one-ready : (m : ℕ) → Ready text t n place → SoundMade text u r → r ≡ D.Places m → Ready text u m place
-  one-ready m ready s p = made-ready text t u n m place (step ∷ []) r ready (one ∙ sym (made-single text t n place step)) s p
+  unfolding madeAll
+  one-ready m ready s p = still-ready text t u n m place r ready (rw (made-single text t n place step, ← one, p) at (made-more text place (step ∷ []) n t)) s p
 
   pub made-first : (steps : List Step) (m : ℕ) → r ≡ D.Places m → madeAll text place (step ∷ steps) n t ≡ madeAll text place steps m u
   unfolding madeAll

@@ -26,6 +26,10 @@ lastWord = 4
 abbrev pub orderedFirstWord : ℕ
 orderedFirstWord = 5
 
+-- how many positions stand in a block: its first so many children are positions 0, 1, 2, .., each with the place number after the one before
+abbrev pub blockWord : ℕ
+blockWord = 6
+
 -- its words as a child: next child, parent, step, name, how many samples held it, the last of them
 abbrev pub nextWord : ℕ
 nextWord = 8

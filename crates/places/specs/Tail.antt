@@ -2,12 +2,12 @@
 use mathlib.Core.Path.{_≡_, refl, _∙_}
 use mathlib.Core.Bool.{Bool, true, false, not, _&&_, _||_, false≢true}
 use mathlib.Core.List.{List, [], _∷_}
-use Prim.Native.Nat.{ℕ, _+_, _<_, _≤_}
+use Prim.Native.Nat.{ℕ, zero, suc, _+_, _<_, _≤_}
 use native.Mathlib.Nat.{le-refl}
 use native.Mathlib.Omega.{arith}
 use borrow.Author.Tests.{ltb-true, leb-false}
 use lib.Dec.{eqb, ltb, leb}
-use Rattle.logic.specs.Test.{if_then_else_, both}
+use Rattle.logic.specs.Test.{if_then_else_, cases, both}
 use Rattle.logic.specs.Flag.{if-either}
 use Rattle.logic.specs.Turns.{Says, holds}
 use Rattle.refusal.specs.declared.Refusal.the-variants as F
@@ -15,14 +15,17 @@ use Rattle.text.specs.declared.Name.{Name}
 use Rattle.text.specs.Name.{bytesOf, eqName}
 use Rattle.words.specs.Word.{word, withWord, tailOf}
 use Rattle.words.specs.Laws.{tail-with}
+use Rattle.datatype.specs.Codes.{null}
+use Rattle.model.specs.Kinds.{sequenceKind, mapKind, tupleKind}
 use Rattle.model.specs.Tracing.{placeLimit}
 use Rattle.shapes.specs.declared.Step.{Step}
-use Rattle.shapes.specs.Steps.{codeOf, nameOf, unpackedName}
+use Rattle.shapes.specs.declared.Step.the-variants as S
+use Rattle.shapes.specs.Steps.{codeOf, noName, nameOf, unpackedName}
 use Rattle.places.specs.declared.Ensured.the-variants as E
 use Rattle.places.specs.declared.Made.the-variants as D
-use Rattle.places.specs.Layout.{kindWord, samplesWord, firstWord, lastWord, nextWord, parentWord, stepWord, nameWord, heldWord, markWord, Sound}
-use Rattle.places.specs.Flat.{isAt, findTurn, findFrom, findIn, linked, described, appended, Ensuring, ensuring, confirmed, ensuredBy, ensured, touched, sampled, Making, making, ofEnsuring, madeOne, thenMade, madeAll}
-use Rattle.places.specs.Laws.{word-keeps}
+use Rattle.places.specs.Layout.{kindWord, samplesWord, firstWord, lastWord, blockWord, nextWord, parentWord, stepWord, nameWord, heldWord, markWord, Sound}
+use Rattle.places.specs.Flat.{isAt, findTurn, findFrom, childAt, linked, described, appended, Ensuring, ensuring, confirmed, ensuredBy, ensured, touched, sampled, Making, making, ofEnsuring, madeOne, thenMade, madeAll, appendedFrom, positionsMade, made}
+use Rattle.places.specs.Laws.{word-keeps, child-below}
 
 -- Of a table with n places: links are places, and the words past those of all places are the given ones.
 pub record Tailed (tail t : List ℕ) (n : ℕ) : Type 0 where
@@ -116,8 +119,8 @@ module _ (tail text : List ℕ) (place : ℕ) where
   unfolding ensured ensuredBy confirmed if_then_else_
   ensured-tail step n t h b =
       let m : n ≤ 1024 = h .most in
-      let found : findIn text place (codeOf step) (nameOf step) t < n = find-place tail text t n (codeOf step) _ (nameOf step) h (h .first place (omega arith)) in
-      let sought : ℕ = findIn text place (codeOf step) (nameOf step) t in
+      let found : childAt text place step n t < n = child-below text t n place (λ code name. find-place tail text t n code _ name h (h .first place (omega arith))) step in
+      let sought : ℕ = childAt text place step n t in
       if-either (TailedEnsuring tail n) (not (eqb sought 0))
       (if-either (λ r. TailedEnsuring tail n (ensuring r t)) (eqName (bytesOf text (unpackedName (word t sought nameWord))) (bytesOf text (nameOf step))) (h, le-refl n, found) (h .kept))
       (new (leb placeLimit n) refl)
@@ -126,10 +129,10 @@ module _ (tail text : List ℕ) (place : ℕ) where
       new true e = h .kept
       new false e = let r : n < placeLimit = leb-false placeLimit n e in (tailed-appended tail t n place h b r (codeOf step) (nameOf step), omega arith, omega arith)
 
-  pub made-tail : (steps : List Step) (n : ℕ) (t : List ℕ) → Tailed tail t n → place < n → TailedMaking tail n (madeAll text place steps n t)
+  all-tail : (steps : List Step) (n : ℕ) (t : List ℕ) → Tailed tail t n → place < n → TailedMaking tail n (madeAll text place steps n t)
   unfolding madeAll madeOne
-  made-tail [] n t h b = (h, le-refl n)
-  made-tail (s ∷ ss) n t h b = go (λ k u. made-tail ss k u) (ensured text place s n t) (ensured-tail s n t h b)
+  all-tail [] n t h b = (h, le-refl n)
+  all-tail (s ∷ ss) n t h b = go (λ k u. all-tail ss k u) (ensured text place s n t) (ensured-tail s n t h b)
     where
       go : ((k : ℕ) (u : List ℕ) → Tailed tail u k → place < k → TailedMaking tail k (madeAll text place ss k u)) → (x : Ensuring) → TailedEnsuring tail n x → TailedMaking tail n (thenMade (ofEnsuring x) (madeAll text place ss))
       go ih (ensuring (E.Child child k) u) (g, l, i) = up (madeAll text place ss k u) (ih k u g (omega arith))
@@ -138,3 +141,30 @@ module _ (tail text : List ℕ) (place : ℕ) where
           up (making (D.Places m) v) (a, q) = (a, omega arith)
           up (making (D.Refused refusal) v) q = q
       go ih (ensuring (E.Refused refusal) u) g = g
+
+  -- positions that are appended, and the block they stand in
+  appended-tail : (i left n : ℕ) (t : List ℕ) → Tailed tail t n → place < n → TailedMaking tail n (appendedFrom place i left n t)
+  unfolding appendedFrom if_then_else_
+  appended-tail i zero n t h b = (h, le-refl n)
+  appended-tail i (suc left) n t h b =
+      cases (leb placeLimit n)
+      (λ e. rw e (h .kept))
+      (λ e. let r : n < placeLimit = leb-false placeLimit n e in
+      rw e (up (appendedFrom place (suc i) left (n + 1) _) (appended-tail (suc i) left (n + 1) _ (tailed-appended tail t n place h b r (codeOf (S.Position i)) noName) (omega arith))))
+    where
+      up : (y : Making) → TailedMaking tail (n + 1) y → TailedMaking tail n y
+      up (making (D.Places m) v) (a, q) = (a, omega arith)
+      up (making (D.Refused refusal) v) q = q
+
+  pub made-tail : (kind positions before n : ℕ) (t : List ℕ) → Tailed tail t n → place < n → TailedMaking tail n (made text place kind positions before n t)
+  unfolding made positionsMade
+  made-tail kind positions before n t h b =
+      if-either (TailedMaking tail n) (eqb kind sequenceKind) (all-tail _ n t h b) (
+      if-either (TailedMaking tail n) (eqb kind mapKind) (all-tail _ n t h b) (
+      if-either (TailedMaking tail n) (eqb kind tupleKind && eqb before null) (
+      if-either (TailedMaking tail n) (eqb (word t place firstWord) 0) (stored (appendedFrom place 0 positions n t) (appended-tail 0 positions n t h b)) (all-tail _ n t h b))
+      (h, le-refl n)))
+    where
+      stored : (x : Making) → TailedMaking tail n x → TailedMaking tail n (thenMade x (λ m u. making (D.Places m) (withWord u place blockWord positions)))
+      stored (making (D.Places m) u) (g, l) = (tailed-other tail u m place blockWord positions refl (let k : m ≤ 1024 = g .most in omega arith) g, l)
+      stored (making (D.Refused refusal) u) g = g

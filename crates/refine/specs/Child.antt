@@ -1,7 +1,7 @@
 -- A child is sought, and appended.
 use mathlib.Core.Path.{_≡_, refl, ap, sym, subst, _∙_}
 use mathlib.Core.List.{List, [], _∷_}
-use mathlib.Core.Bool.{Bool, true, false}
+use mathlib.Core.Bool.{Bool, true, false, false≢true}
 use Prim.Native.Nat.{ℕ, zero, suc, _+_, _*_, _<_, _≤_}
 use native.Mathlib.Omega.{arith}
 use lib.ListN.{length, getD, replicate, getD-replicate, length-replicate}
@@ -12,18 +12,18 @@ use Rattle.logic.specs.Turns.{turns, after}
 use Rattle.text.specs.declared.Name.{Name}
 use Rattle.text.specs.Name.{bytesOf, eqName}
 use Rattle.words.specs.Word.{word, withWord}
-use Rattle.model.specs.Kinds.{Step, same}
+use Rattle.model.specs.Kinds.{Step, position, same}
 use Rattle.model.specs.Answer.{tableWords}
 use Rattle.model.specs.Tracing.{one, placeLimit, has, clashes}
-use Rattle.equality.specs.Base.{same-true}
+use Rattle.equality.specs.Base.{same-true, or-cases}
 use Rattle.shapes.specs.declared.Step as Flat
 use Rattle.shapes.specs.Steps.{Inside, unpackedName, packedName, codeOf, nameOf}
-use Rattle.places.specs.Layout.{kindWord, firstWord, lastWord, nextWord, parentWord, stepWord, nameWord}
+use Rattle.places.specs.Layout.{kindWord, firstWord, lastWord, blockWord, nextWord, parentWord, stepWord, nameWord}
 use Rattle.places.specs.Flat.{isAt, findTurn, findFrom, findIn, linked, appended, described}
-use Rattle.refine.specs.Spots.{Spot, spot, Spots, no-spots, child, num, belowS, stepsS, spotAt, addS}
+use Rattle.refine.specs.Spots.{Spot, spot, Spots, no-spots, child, num, belowS, stepsS, newSpot, spotAt, addS}
 use Rattle.refine.specs.Steps.{near, near-name, near-renames, far-same, far-renames, same-renames, stepCodeOf, nameIn, test-is, Stands, unpacked}
 use Rattle.refine.specs.Numbers.{firstOf, lastFrom, within, withinIn, nearIn, GoodIn, both-false, or-right, not-both, bounded, boundedIn, self, has-add-old, add-good, not-below}
-use Rattle.refine.specs.Rep.{word-same, word-other, size-with, ownWords, cellWords, Row, Cell, RepIn, same-cell, row-set, or-left, has-num, has-below, frame, Fits, After, in-row}
+use Rattle.refine.specs.Rep.{word-same, word-other, size-with, ownWords, cellWords, Row, Cell, Block, no-block, Rep, RepIn, same-cell, same-block, row-set, or-left, has-num, has-below, frame, Fits, After, in-row}
 
 -- ---- the search
 -- no child that the search takes for it: none at the step, nor another name of a variant
@@ -104,11 +104,27 @@ unfolding addS
 last-add c s n no-spots = refl
 last-add c s n (child r h m u ks) = last-add (num u) s n ks
 
-module _ (text t t′ : List ℕ) (n p : ℕ) (s : Step) (cell : Cell text t′ n 0 p s 0 0) (own : Row t′ n kindWord (ownWords false 0 0 no-spots)) where
+-- a child that was there is there still
+pub still-has : (r s : Step) (n : ℕ) (ks : Spots) → has r (stepsS ks) ≡ true → has r (stepsS (addS s n ks)) ≡ true
+unfolding addS has stepsS
+still-has r s n no-spots e = absurd (false≢true e)
+still-has r s n (child q h m u ks) e = or-cases (same r q) (has r (stepsS ks)) e (λ a. or-left (same r q) _ a) (λ a. or-right (same r q) _ (still-has r s n ks a))
+
+pub still-at : (r s : Step) (n : ℕ) (ks : Spots) → has r (stepsS ks) ≡ true → spotAt r (addS s n ks) ≡ spotAt r ks
+unfolding addS has stepsS spotAt if_then_else_
+still-at r s n no-spots e = absurd (false≢true e)
+still-at r s n (child q h m u ks) e = cases (same r q) (λ d. rw d refl) (λ d. let e′ : has r (stepsS ks) ≡ true = rw d at e in rw d (still-at r s n ks e′))
+
+pub still-first : (r s : Step) (n : ℕ) (ks : Spots) → has r (stepsS ks) ≡ true → firstOf (addS s n ks) ≡ firstOf ks
+unfolding addS has stepsS
+still-first r s n no-spots e = absurd (false≢true e)
+still-first r s n (child q h m u ks) e = refl
+
+module _ (text t t′ : List ℕ) (n p : ℕ) (s : Step) (cell : Cell text t′ n 0 p s 0 0) (own : Rep text t′ (newSpot n)) where
   add-rep : (c d : ℕ) (ks : Spots) → GoodIn n d ks → RepIn text t p ks → ((firstOf ks ≡ 0 → ⊥) → word t′ (lastFrom c ks) nextWord ≡ n)
       → ((q f : ℕ) → f < 16 → withinIn q ks ≡ true → (q ≡ lastFrom c ks → f ≡ nextWord → ⊥) → word t′ q f ≡ word t q f) → RepIn text t′ p (addS s n ks)
   unfolding addS
-  add-rep c y no-spots g r x w = (cell, (own, tt), tt)
+  add-rep c y no-spots g r x w = (cell, own, tt)
   add-rep c y (child q h m u no-spots) g r x w = (
     record {
       name = r .0 .name;
@@ -120,7 +136,7 @@ module _ (text t t′ : List ℕ) (n p : ℕ) (s : Step) (cell : Cell text t′ 
     },
     frame text t t′ u (r .1) (λ f l. w (num u) f (omega arith) (has-num u no-spots) (λ _ a. omega arith))
         (λ a f l e. w a f l (or-left (within a u) false (has-below a u e)) (λ d _. not-both (withinIn a (belowS u)) e (rw d (not-below n u (g .1))))),
-    (cell, (own, tt), tt),
+    (cell, own, tt),
   )
     where
       other : (nm f : ℕ) → f < 6 → (f ≡ 0 → ⊥) → getD (cellWords 0 p (stepCodeOf q) nm h m) f 0 ≡ getD (cellWords n p (stepCodeOf q) nm h m) f 0
@@ -136,6 +152,10 @@ module _ (text t t′ : List ℕ) (n p : ℕ) (s : Step) (cell : Cell text t′ 
             (λ a f l e. w a f l (or-left (within a u) (withinIn a k) (has-below a u e)) (λ d _. off a (has-below a u e) d)),
         add-rep (num u) (num u) (child q′ h′ m′ u′ ks) (g .3) (r .2) (λ e. x (omega (arith, g .0))) (λ a f l e d. w a f l (or-right (within a u) (withinIn a k) e) d),
       )
+
+-- a block keeps its children
+block-add : (b : ℕ) (s : Step) (n : ℕ) (ks : Spots) → Block b ks → Block b (addS s n ks)
+block-add b s n ks β i l = let d = β i l in (still-has (position i) s n ks (d .0), ap num (still-at (position i) s n ks (d .0)) ∙ d .1 ∙ ap (λ (x : ℕ). x + i) (sym (still-first (position i) s n ks (d .0))))
 
 row-other : (t : List ℕ) (p base q f v : ℕ) (xs : List ℕ) → ((g : ℕ) → g < length xs → p * 16 + (base + g) ≡ q * 16 + f → ⊥) → Row t p base xs → Row (withWord t q f v) p base xs
 row-other t p base q f v xs n r g l = word-other t q f v p (base + g) (n g l) ∙ r g l
@@ -215,6 +235,8 @@ append-after text t n p x s b k m ks st far h i =
       inside = subst (λ (y : Name). Inside text y) (sym (unpacked (nameOf x) (st .short))) (st .inside);
       says = ap (bytesOf text) (unpacked (nameOf x) (st .short)) ∙ st .bytes;
     } in
+    let fresh : word t₄ n blockWord ≡ 0
+    = word-other t₃ n nameWord nm n blockWord (λ e. omega arith) ∙ word-other t₂ n stepWord c n blockWord (λ e. omega arith) ∙ word-other t₁ n parentWord p n blockWord (λ e. omega arith) ∙ zeros₀ blockWord (omega arith) in
     let own : Row t₄ n kindWord (ownWords false 0 0 no-spots)
     = row-other t₃ n 0 n 11 nm (ownWords false 0 0 no-spots) (λ g l e. omega arith) (row-other t₂ n 0 n 10 c (ownWords false 0 0 no-spots) (λ g l e. omega arith) (row-other t₁ n 0 n 9 p (ownWords false 0 0 no-spots) (λ g l e. omega arith) (zero-row t₁ n 0 5 (omega arith) zeros₀))) in
     let parent : Row t₄ p kindWord (ownWords b k m (addS s n ks))
@@ -223,11 +245,12 @@ append-after text t n p x s b k m ks st far h i =
       fits = record {
         rep = (
           parent,
-          add-rep text t t₄ n p s cell own 0 p ks (h .good .2) (h .rep .1)
+          add-rep text t t₄ n p s cell (own, tt, no-block (word t₄ n blockWord) no-spots fresh) 0 p ks (h .good .2) (h .rep .1)
               (λ e. let y = last-of 0 ks e in let y′ = last-below (lastFrom 0 ks) y in
               word-other t₃ n nameWord nm (lastFrom 0 ks) nextWord (λ a. omega arith) ∙ word-other t₂ n stepWord c (lastFrom 0 ks) nextWord (λ a. omega arith) ∙ word-other t₁ n parentWord p (lastFrom 0 ks) nextWord (λ a. omega arith) ∙ word-other t₀ p lastWord n (lastFrom 0 ks) nextWord (λ a. omega arith) ∙ k₀ .link e)
               (λ q f l e d. let y = last-below q e in
               all q f l (λ a _. omega arith) (λ a _. omega arith) (λ a _. omega arith) (λ a _. not-both (withinIn q ks) e (rw a (h .good .1))) (λ a _. not-both (withinIn q ks) e (rw a (h .good .1))) (λ _ a c. d a c)),
+          same-block t t₄ p (addS s n ks) (all p blockWord (omega arith) (λ a _. omega arith) (λ a _. omega arith) (λ a _. omega arith) (λ _ a. omega arith) (λ _ a. omega arith) (λ _ _ a. omega arith)) (block-add (word t p blockWord) s n ks (h .rep .2)),
         );
         good = (omega arith, has-add-old p s n ks pn ∙ h .good .1, add-good n p s ks pn far (h .good .2));
         room = omega arith;

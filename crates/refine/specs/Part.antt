@@ -7,22 +7,24 @@ use native.Mathlib.Omega.{arith}
 use lib.ListN.{length}
 use lib.Dec.{eqb, ltb}
 use borrow.Author.Tests.{eqb-true, eqb-false, ne-eqb, ltb-true, ltb-false, lt-leb, le-leb}
-use Rattle.logic.specs.Test.{if_then_else_, cases}
+use Rattle.logic.specs.Test.{if_then_else_, cases, both}
 use Rattle.refusal.specs.declared.Refusal.{Refusal}
 use Rattle.refusal.specs.Number.{numberOf}
 use Rattle.words.specs.Word.{word, withWord}
 use Rattle.model.specs.Result.{Result, refused}
-use Rattle.model.specs.Kinds.{Step, same}
-use Rattle.model.specs.Tracing.{one, has, placeLimit, Counted, counted}
+use Rattle.model.specs.Kinds.{Step, position, same}
+use Rattle.model.specs.Tracing.{one, has, clashes, placeLimit, Counted, counted}
 use Rattle.shapes.specs.declared.Step as Flat
-use Rattle.shapes.specs.Steps.{codeOf, nameOf}
+use Rattle.shapes.specs.declared.Step.the-variants as S
+use Rattle.shapes.specs.Steps.{codeOf, noName, nameOf}
 use Rattle.places.specs.declared.Ensured.the-variants as E
-use Rattle.places.specs.Flat.{findIn, Ensuring, ensuring, confirmed, ensuredBy, ensured, appended, onward, touched}
-use Rattle.places.specs.Layout.{kindWord, samplesWord, nextWord, heldWord, markWord}
+use Rattle.places.specs.Flat.{findIn, inBlock, childAt, Ensuring, ensuring, confirmed, ensuredBy, ensured, appended, onward, touched}
+use Rattle.places.specs.Layout.{kindWord, samplesWord, firstWord, blockWord, nextWord, heldWord, markWord}
 use Rattle.refine.specs.Spots.{Spot, spot, Spots, no-spots, child, num, belowS, stepsS, spotAt, putS, addS, makeS}
 use Rattle.refine.specs.Steps.{stepCodeOf, Stands}
 use Rattle.refine.specs.Numbers.{firstOf, lastFrom, within, withinIn, Good, GoodIn, both-false, or-right, not-both, un-true, bounded, boundedIn, self, found, child-good, put-has, put-good, add-among, add-found, not-below, has-is, has-same}
-use Rattle.refine.specs.Rep.{word-other, size-with, cellWords, Row, Cell, Rep, RepIn, same-cell, row-set, or-left, has-below, frame, frameIn, Fits, After, stays}
+use Rattle.refine.specs.Rep.{word-other, size-with, cellWords, Row, Cell, Block, Rep, RepIn, same-cell, same-block, row-set, or-left, has-below, frame, frameIn, Fits, After, stays}
+use Rattle.refine.specs.Commands.{position-stands}
 use Rattle.refine.specs.Child.{far-has, far-clashes, Sought, absent, present, another, sought, append-after}
 
 -- ---- a child for a step
@@ -48,10 +50,39 @@ ensure-by text t n p x s at b k m ks st h c (present z e f g) =
     rw (ne-eqb c 0 y, st .bytes, g, e, f, z) (there e (stays text t n (spot p b k m ks) h))
 ensure-by text t n p x s at b k m ks st h c (another z e f) = rw (ne-eqb c 0 z, st .bytes, f, e) no-place
 
+-- ---- a position in the block is the child that the search finds
+no-clash : (i : ℕ) (ks : Spots) → clashes (position i) (stepsS ks) ≡ false
+unfolding clashes stepsS
+no-clash i no-spots = refl
+no-clash i (child r h m u ks) = no-clash i ks
+
+module _ (text t : List ℕ) (n p : ℕ) (b : Bool) (k m : ℕ) (ks : Spots) (h : Fits text t n (spot p b k m ks)) where
+  in-block : (i : ℕ) → inBlock p i n t ≡ true → word t p firstWord + i ≡ findIn text p (codeOf (S.Position i)) noName t
+  unfolding inBlock
+  in-block i e =
+      let f : word t p firstWord ≡ firstOf ks = h .rep .0 3 (omega arith) in
+      both (ltb i (word t p blockWord)) _ e λ a _.
+      ap (λ (x : ℕ). x + i) f ∙ go (h .rep .2 i (ltb-true i (word t p blockWord) a)) (sought text t (S.Position i) (position i) (position-stands text i) n p b k m ks h)
+    where
+      go : {c : ℕ} → (has (position i) (stepsS ks) ≡ true) × (num (spotAt (position i) ks) ≡ firstOf ks + i) → Sought text t (position i) ks c → firstOf ks + i ≡ c
+      go d (absent z far) = absurd (not-both (has (position i) (stepsS ks)) (d .0) (far-has (position i) ks far))
+      go d (present z x y w) = sym (z ∙ d .1)
+      go d (another z x y) = absurd (not-both (clashes (position i) (stepsS ks)) x (no-clash i ks))
+
+  child-is : (x : Flat.Step) → childAt text p x n t ≡ findIn text p (codeOf x) (nameOf x) t
+  unfolding childAt if_then_else_
+  child-is S.Element = refl
+  child-is S.Key = refl
+  child-is S.Value = refl
+  child-is (S.Field name) = refl
+  child-is (S.Position i) = cases (inBlock p i n t) (λ e. rw e (in-block i e)) (λ e. rw e refl)
+  child-is (S.Variant number name) = refl
+
 pub ensure-is : (text t : List ℕ) (n p : ℕ) (x : Flat.Step) (s : Step) (at : ℕ) (b : Bool) (k m : ℕ) (ks : Spots) → Stands text x s → Fits text t n (spot p b k m ks)
     → Ensures text s p b k m ks t n at (makeS at s n ks) (ensured text p x n t)
 unfolding ensured
-ensure-is text t n p x s at b k m ks st h = ensure-by text t n p x s at b k m ks st h (findIn text p (codeOf x) (nameOf x) t) (sought text t x s st n p b k m ks h)
+ensure-is text t n p x s at b k m ks st h =
+    rw (child-is text t n p b k m ks h x) (ensure-by text t n p x s at b k m ks st h (findIn text p (codeOf x) (nameOf x) t) (sought text t x s st n p b k m ks h))
 
 -- ---- the child's cell is touched
 -- the mark and the count of the samples that held it, in the parent's sample N
@@ -102,6 +133,24 @@ module _ (s : Step) (N : ℕ) (v : Spot) where
       cases (same s q)
       (λ d. let w′ : num v ≡ num u = rw d at w in rw d (ap (λ (x : ℕ). lastFrom x ks) w′))
       (λ d. let e′ : has s (stepsS ks) ≡ true = rw d at e in let w′ : num v ≡ num (spotAt s ks) = rw d at w in rw d (put-last (num u) ks e′ w′))
+
+  put-at : (r : Step) (ks : Spots) → num v ≡ num (spotAt s ks) → num (spotAt r (putS s N v ks)) ≡ num (spotAt r ks)
+  unfolding spotAt putS if_then_else_
+  put-at r no-spots w = refl
+  put-at r (child q h m u ks) w =
+      cases (same s q)
+      (λ d. let w′ : num v ≡ num u = rw d at w in rw d (cases (same r q) (λ a. rw a w′) (λ a. rw a refl)))
+      (λ d. let w′ : num v ≡ num (spotAt s ks) = rw d at w in rw d (cases (same r q) (λ a. rw a refl) (λ a. rw a (put-at r ks w′))))
+
+  put-steps : (ks : Spots) → stepsS (putS s N v ks) ≡ stepsS ks
+  unfolding stepsS putS if_then_else_
+  put-steps no-spots = refl
+  put-steps (child q h m u ks) = cases (same s q) (λ d. rw d refl) (λ d. rw (d, put-steps ks) refl)
+
+  put-block : (b : ℕ) (ks : Spots) → has s (stepsS ks) ≡ true → num v ≡ num (spotAt s ks) → Block b ks → Block b (putS s N v ks)
+  put-block b ks e w β i l =
+      let d = β i l in
+      (ap (has (position i)) (put-steps ks) ∙ d .0, put-at (position i) ks w ∙ d .1 ∙ ap (λ (x : ℕ). x + i) (sym (put-first ks e w)))
 
   -- the children, one of them changed
   module _ (text t t′ : List ℕ) (n p : ℕ) (rv : Rep text t′ v) where
@@ -185,6 +234,7 @@ module _ (text t : List ℕ) (n p : ℕ) (s : Step) (b : Bool) (k m : ℕ) (ks :
                   says = c .says;
                 })
                 (λ q f l i d. out q f (boundedIn n p q ks (h .good .2) i) l d),
+            same-block t t′ p (putS s m v ks) (out p blockWord pn (omega arith) p-out) (put-block s m v (word t p blockWord) ks e w (h .rep .2)),
           );
           good = (omega arith, put-has n n′ s m v wider gv p ks e (same-has p pn) ∙ h .good .1, put-good n n′ s m v wider gv p ks (h .good .2) e w same-has);
           room = a .fits .room;

@@ -1,5 +1,5 @@
 -- The words of the table say the numbered tree; what changes one place, and what is kept.
-use mathlib.Core.Path.{_≡_, refl, sym, _∙_}
+use mathlib.Core.Path.{_≡_, refl, sym, subst, _∙_}
 use mathlib.Core.List.{List, [], _∷_}
 use mathlib.Core.Bool.{Bool, true, false, _||_}
 use Prim.Native.Nat.{ℕ, _+_, _*_, _<_, _≤_}
@@ -11,12 +11,12 @@ use borrow.Author.Tests.{eqb-true, eqb-false}
 use Rattle.logic.specs.Test.{cases}
 use Rattle.text.specs.Name.{bytesOf}
 use Rattle.words.specs.Word.{word, withWord}
-use Rattle.model.specs.Kinds.{Step}
+use Rattle.model.specs.Kinds.{Step, position}
 use Rattle.model.specs.Answer.{tableWords}
-use Rattle.model.specs.Tracing.{one, placeLimit}
+use Rattle.model.specs.Tracing.{one, placeLimit, has}
 use Rattle.shapes.specs.Steps.{Inside, unpackedName}
-use Rattle.places.specs.Layout.{kindWord, nullWord, samplesWord, nextWord}
-use Rattle.refine.specs.Spots.{Spot, spot, Spots, no-spots, child, num, belowS}
+use Rattle.places.specs.Layout.{kindWord, nullWord, samplesWord, blockWord, nextWord}
+use Rattle.refine.specs.Spots.{Spot, spot, Spots, no-spots, child, num, belowS, stepsS, spotAt}
 use Rattle.refine.specs.Steps.{stepCodeOf, nameIn}
 use Rattle.refine.specs.Numbers.{firstOf, lastFrom, within, withinIn, Good, or-right, not-both, self}
 
@@ -49,10 +49,17 @@ pub record Cell (text t : List ℕ) (q next p : ℕ) (s : Step) (h m : ℕ) : Ty
   pub inside : Inside text (unpackedName name)
   pub says : bytesOf text (unpackedName name) ≡ nameIn s
 
+-- so many positions stand in a block: they are children, with numbers from the first child's on
+abbrev pub Block : ℕ → Spots → Type 0
+Block b ks = (i : ℕ) → i < b → (has (position i) (stepsS ks) ≡ true) × (num (spotAt (position i) ks) ≡ firstOf ks + i)
+
+pub no-block : (b : ℕ) (ks : Spots) → b ≡ 0 → Block b ks
+no-block b ks e i l = absurd (omega arith)
+
 -- the words of the table say the tree
 abbrev mutual
   pub Rep : List ℕ → List ℕ → Spot → Type 0
-  Rep text t (spot p b k m ks) = Row t p kindWord (ownWords b k m ks) × RepIn text t p ks
+  Rep text t (spot p b k m ks) = Row t p kindWord (ownWords b k m ks) × RepIn text t p ks × Block (word t p blockWord) ks
 
   pub RepIn : List ℕ → List ℕ → ℕ → Spots → Type 0
   RepIn text t p no-spots = Unit {0}
@@ -61,6 +68,9 @@ abbrev mutual
 -- a cell whose words are kept
 pub same-cell : {text t t′ : List ℕ} {q x p : ℕ} {s : Step} {h m : ℕ} → Cell text t q x p s h m → ((f : ℕ) → f < 16 → word t′ q f ≡ word t q f) → Cell text t′ q x p s h m
 same-cell c w = record { name = c .name; row = λ f l. w (8 + f) (omega arith) ∙ c .row f l; inside = c .inside; says = c .says }
+
+pub same-block : (t t′ : List ℕ) (p : ℕ) (ks : Spots) → word t′ p blockWord ≡ word t p blockWord → Block (word t p blockWord) ks → Block (word t′ p blockWord) ks
+same-block t t′ p ks e r = subst (λ (b : ℕ). Block b ks) (sym e) r
 
 -- one word of a row is written
 pub row-set : (t : List ℕ) (p base f v : ℕ) (xs : List ℕ) → p * 16 + (base + f) < length t → f < length xs → Row t p base xs → Row (withWord t p (base + f) v) p base (set xs f v)
@@ -82,9 +92,9 @@ has-below q (spot p b k m ks) e = or-right (eqb q p) (withinIn q ks) e
 module _ (text : List ℕ) where
   -- words that are kept keep the tree
   mutual
-    pub frame : (t t′ : List ℕ) (u : Spot) → Rep text t u → ((f : ℕ) → f < 5 → word t′ (num u) f ≡ word t (num u) f)
+    pub frame : (t t′ : List ℕ) (u : Spot) → Rep text t u → ((f : ℕ) → f < 7 → word t′ (num u) f ≡ word t (num u) f)
         → ((q f : ℕ) → f < 16 → withinIn q (belowS u) ≡ true → word t′ q f ≡ word t q f) → Rep text t′ u
-    frame t t′ (spot p b k m ks) r o w = ((λ f l. o (0 + f) (omega arith) ∙ r .0 f l), frameIn t t′ p ks (r .1) w)
+    frame t t′ (spot p b k m ks) r o w = ((λ f l. o (0 + f) (omega arith) ∙ r .0 f l), frameIn t t′ p ks (r .1) w, same-block t t′ p ks (o blockWord (omega arith)) (r .2))
 
     pub frameIn : (t t′ : List ℕ) (p : ℕ) (ks : Spots) → RepIn text t p ks → ((q f : ℕ) → f < 16 → withinIn q ks ≡ true → word t′ q f ≡ word t q f) → RepIn text t′ p ks
     frameIn t t′ p no-spots r w = tt
@@ -106,7 +116,7 @@ pub record After (text t : List ℕ) (n : ℕ) (u : Spot) (t′ : List ℕ) (n�
   pub fits : Fits text t′ n′ u′
   pub grown : n ≤ n′
   pub same : num u′ ≡ num u
-  pub keeps : (q f : ℕ) → q < n → f < 16 → withinIn q (belowS u) ≡ false → (q ≡ num u → 5 ≤ f) → word t′ q f ≡ word t q f
+  pub keeps : (q f : ℕ) → q < n → f < 16 → withinIn q (belowS u) ≡ false → (q ≡ num u → 7 ≤ f) → word t′ q f ≡ word t q f
   pub kept : (q : ℕ) → q < n → withinIn q (belowS u′) ≡ withinIn q (belowS u)
 
 module _ (text : List ℕ) where
@@ -124,10 +134,10 @@ module _ (text : List ℕ) where
 
   -- ---- a word of the place's own
   pub own-with : (t t′ : List ℕ) (n p : ℕ) (b b′ : Bool) (k k′ m m′ : ℕ) (ks : Spots) → Fits text t n (spot p b k m ks) → tableWords ≤ length t′
-      → Row t′ p kindWord (ownWords b′ k′ m′ ks) → ((q f : ℕ) → f < 16 → (q ≡ p → 5 ≤ f) → word t′ q f ≡ word t q f) → After text t n (spot p b k m ks) t′ n (spot p b′ k′ m′ ks)
-  own-with t t′ n p b b′ k k′ m m′ ks h z o w = record {
+      → Row t′ p kindWord (ownWords b′ k′ m′ ks) → Block (word t′ p blockWord) ks → ((q f : ℕ) → f < 16 → (q ≡ p → 7 ≤ f) → word t′ q f ≡ word t q f) → After text t n (spot p b k m ks) t′ n (spot p b′ k′ m′ ks)
+  own-with t t′ n p b b′ k k′ m m′ ks h z o β w = record {
     fits = record {
-      rep = (o, frameIn text t t′ p ks (h .rep .1) (λ q f l a. w q f l (λ e. absurd (not-both (withinIn q ks) a (rw e (h .good .1))))));
+      rep = (o, frameIn text t t′ p ks (h .rep .1) (λ q f l a. w q f l (λ e. absurd (not-both (withinIn q ks) a (rw e (h .good .1))))), β);
       good = h .good;
       room = z;
       most = h .most;
@@ -143,14 +153,25 @@ module _ (text : List ℕ) where
     pub in-row : (f : ℕ) → f < 16 → p * 16 + f < length t
     in-row f l = omega (arith, h .good .0, h .room, h .most)
 
-    others : (f v : ℕ) → f < 5 → (q g : ℕ) → g < 16 → (q ≡ p → 5 ≤ g) → word (withWord t p f v) q g ≡ word t q g
+    others : (f v : ℕ) → f < 7 → (q g : ℕ) → g < 16 → (q ≡ p → 7 ≤ g) → word (withWord t p f v) q g ≡ word t q g
     others f v i q g j y = word-other t p f v q g (λ e. let d : q ≡ p = omega arith in let x = y d in omega arith)
 
+    block-kept : (f v : ℕ) → f < 5 → Block (word (withWord t p f v) p blockWord) ks
+    block-kept f v i = same-block t (withWord t p f v) p ks (word-other t p f v p blockWord (λ e. omega arith)) (h .rep .2)
+
     pub set-kind : (j : ℕ) → After text t n (spot p b k m ks) (withWord t p kindWord j) n (spot p b j m ks)
-    set-kind j = own-with t (withWord t p kindWord j) n p b b k j m m ks h (rw size-with (h .room)) (row-set t p 0 0 j (ownWords b k m ks) (in-row 0 (omega arith)) (omega arith) (h .rep .0)) (others 0 j (omega arith))
+    set-kind j = own-with t (withWord t p kindWord j) n p b b k j m m ks h (rw size-with (h .room)) (row-set t p 0 0 j (ownWords b k m ks) (in-row 0 (omega arith)) (omega arith) (h .rep .0)) (block-kept 0 j (omega arith)) (others 0 j (omega arith))
 
     pub set-null : After text t n (spot p b k m ks) (withWord t p nullWord 1) n (spot p true k m ks)
-    set-null = own-with t (withWord t p nullWord 1) n p b true k k m m ks h (rw size-with (h .room)) (row-set t p 0 1 1 (ownWords b k m ks) (in-row 1 (omega arith)) (omega arith) (h .rep .0)) (others 1 1 (omega arith))
+    set-null = own-with t (withWord t p nullWord 1) n p b true k k m m ks h (rw size-with (h .room)) (row-set t p 0 1 1 (ownWords b k m ks) (in-row 1 (omega arith)) (omega arith) (h .rep .0)) (block-kept 1 1 (omega arith)) (others 1 1 (omega arith))
 
     pub set-samples : (v : ℕ) → After text t n (spot p b k m ks) (withWord t p samplesWord v) n (spot p b k v ks)
-    set-samples v = own-with t (withWord t p samplesWord v) n p b b k k m v ks h (rw size-with (h .room)) (row-set t p 0 2 v (ownWords b k m ks) (in-row 2 (omega arith)) (omega arith) (h .rep .0)) (others 2 v (omega arith))
+    set-samples v = own-with t (withWord t p samplesWord v) n p b b k k m v ks h (rw size-with (h .room)) (row-set t p 0 2 v (ownWords b k m ks) (in-row 2 (omega arith)) (omega arith) (h .rep .0)) (block-kept 2 v (omega arith)) (others 2 v (omega arith))
+
+    -- the block
+    pub set-block : (v : ℕ) → Block v ks → After text t n (spot p b k m ks) (withWord t p blockWord v) n (spot p b k m ks)
+    set-block v β =
+        own-with t (withWord t p blockWord v) n p b b k k m m ks h (rw size-with (h .room))
+        (λ f l. word-other t p blockWord v p (0 + f) (λ e. omega arith) ∙ h .rep .0 f l)
+        (subst (λ (x : ℕ). Block x ks) (sym (word-same t p blockWord v (in-row blockWord (omega arith)))) β)
+        (others blockWord v (omega arith))

@@ -1,5 +1,5 @@
 -- The flat run on the words is the walk over the values of the batch, on the numbered tree: a whole value, and the records.
-use mathlib.Core.Path.{_≡_, refl, sym, _∙_}
+use mathlib.Core.Path.{_≡_, refl, sym, ap, _∙_}
 use mathlib.Core.List.{List, [], _∷_}
 use mathlib.Core.Option.{Option, none, some}
 use mathlib.Core.Bool.{Bool, or-true, or-false, true, false, not, _||_, _&&_}
@@ -9,7 +9,7 @@ use native.Mathlib.Numerals.{add-one}
 use native.Mathlib.Omega.{arith}
 use lib.ListN.{length, getD, replicate, drop, length-replicate, length-append, getD-replicate, List·getD-append}
 use lib.Dec.{eqb, ltb, leb}
-use borrow.Author.Tests.{eqb-true, eqb-false, eq-eqb, ne-eqb, ltb-true, ltb-false, leb-true, leb-false, le-leb, le-ltb}
+use borrow.Author.Tests.{eqb-true, eqb-false, eq-eqb, ne-eqb, ltb-true, ltb-false, leb-true, leb-false, le-leb, lt-leb, le-ltb}
 use Rattle.logic.specs.Test.{if_then_else_, cases, same-test}
 use Rattle.logic.specs.Turns.{turns, after}
 use Rattle.datatype.specs.Codes.{null}
@@ -24,14 +24,15 @@ use Rattle.commands.specs.declared.Due.the-variants as D
 use Rattle.commands.specs.Commands.{readCommand}
 use Rattle.commands.specs.Laws.{byteOf}
 use Rattle.model.specs.Result.{Result, accepted, refused, _>>=_, orRefused}
-use Rattle.model.specs.Kinds.{sequenceKind, structKind, mapKind, tupleKind, unionKind, isContainer, Step, variant}
+use Rattle.model.specs.Kinds.{sequenceKind, structKind, mapKind, tupleKind, unionKind, isContainer, Step, element, position, key, value, variant}
 use Rattle.model.specs.Reading.{Value, val, cut, no-parts, part, Shape, chosen, shapeOf, marked, rest, readValue, readShape, readParts, enough, recordsFrom, values}
 use Rattle.model.specs.Answer.{tableWords}
-use Rattle.model.specs.Tracing.{depthLimit, placeLimit, sameContainer, meet, made, positionsFrom, Counted, counted}
+use Rattle.model.specs.Tracing.{depthLimit, placeLimit, sameContainer, meet, has, made, positionsFrom, Counted, counted}
 use Rattle.equality.specs.ReadCommand.{reads-on, reads-inside}
 use Rattle.equality.specs.Reads.{read-cases, value-command, value-refused}
 use Rattle.shapes.specs.declared.Step as Flat
 use Rattle.shapes.specs.declared.Step.the-variants as S
+use Rattle.shapes.specs.Steps.{codeOf, noName}
 use Rattle.shapes.specs.declared.Contents.{Contents}
 use Rattle.shapes.specs.declared.Contents.the-variants as N
 use Rattle.shapes.specs.declared.Shape as FlatShape
@@ -39,15 +40,16 @@ use Rattle.places.specs.declared.Met.{Met}
 use Rattle.places.specs.declared.Met.the-variants as M
 use Rattle.places.specs.declared.Made.the-variants as L
 use Rattle.places.specs.Flat as Places
-use Rattle.places.specs.Flat.{ofJoint, meeting, Ensuring, Making, making, ofEnsuring, madeOne, thenMade, madeAll, stepsMade, onward, sampled}
+use Rattle.places.specs.Flat.{ofJoint, meeting, appended, Ensuring, Making, making, ofEnsuring, madeOne, thenMade, madeAll, appendedFrom, positionsMade, onward, sampled}
 use Rattle.samples.specs.declared.Traced.the-variants as T
 use Rattle.samples.specs.Flat as Samples
 use Rattle.samples.specs.Flat.{someByte, newtypeByte, chain, pastTurn, pastMarks, Out, out, onMet, onMade, stored, observed, Readers, State, state, afterPart, partsFrom, partsBy, opened, containerBy, variantBy, atShape, atRead, afterChain, valueBy, none-left, readers, levelLimit, recordTurn, recordStop, recordsAt, fromSamples}
-use Rattle.places.specs.Layout.{kindWord, nullWord, samplesWord}
-use Rattle.refine.specs.Spots.{Spot, spot, Spots, num, newSpot, makeAllS, walk, walkParts, walkAll}
-use Rattle.refine.specs.Steps.{Stands}
-use Rattle.refine.specs.Rep.{Fits, After, stays, and-then, set-kind, set-null, set-samples}
-use Rattle.refine.specs.Child.{zero-row}
+use Rattle.places.specs.Layout.{kindWord, nullWord, samplesWord, firstWord, blockWord}
+use Rattle.refine.specs.Spots.{Spot, spot, Spots, no-spots, child, num, stepsS, newSpot, spotAt, addS, makeS, makeAllS, walk, walkParts, walkAll}
+use Rattle.refine.specs.Steps.{near, Stands}
+use Rattle.refine.specs.Numbers.{firstOf, nearIn, near-add, add-among, add-found}
+use Rattle.refine.specs.Rep.{Block, no-block, Fits, After, stays, and-then, set-kind, set-null, set-samples, set-block}
+use Rattle.refine.specs.Child.{far-has, far-clashes, still-has, still-at, still-first, zero-row, append-after}
 use Rattle.refine.specs.Part.{Ensures, there, no-place, ensure-is}
 use Rattle.refine.specs.Commands.{Bytes, choices, command-name, element-stands, key-stands, value-stands, position-stands, shapeIn, Shapes, leaves, opens, chooses, nothing, shape-says, byte-is, starts, some-read, newtype-read}
 use Rattle.refine.specs.Sim.{Agrees, went, balked, agrees-after, wrap, readIn, Fuel, low, Reads, after-ensure, parts-sim}
@@ -94,13 +96,6 @@ positions-stand : (text : List ℕ) (i n : ℕ) → AllStand text (Places.positi
 positions-stand text i zero = tt
 positions-stand text i (suc n) = (position-stands text i, positions-stand text (suc i) n)
 
-made-stand : (text : List ℕ) (kind positions before : ℕ) → AllStand text (stepsMade kind positions before) (made kind positions before)
-unfolding stepsMade made
-made-stand text kind positions before =
-    choices (AllStand text) (eqb kind sequenceKind) (element-stands text, tt) (
-    choices (AllStand text) (eqb kind mapKind) (key-stands text, (value-stands text, tt)) (
-    choices (AllStand text) (eqb kind tupleKind && eqb before null) (positions-stand text 0 positions) tt))
-
 data EnsuresAll (text : List ℕ) (p : ℕ) (b : Bool) (k m : ℕ) (ks : Spots) (t : List ℕ) (n at : ℕ) : Result (Counted Spots) → Making → Type 0 where
   all-there : {n′ : ℕ} {ks′ : Spots} {t′ : List ℕ} → After text t n (spot p b k m ks) t′ n′ (spot p b k m ks′) → EnsuresAll text p b k m ks t n at (counted n′ ks′) (making (L.Places n′) t′)
   not-all : {x : Refusal} {t′ : List ℕ} → EnsuresAll text p b k m ks t n at (refused (numberOf x) at) (making (L.Refused x) t′)
@@ -122,6 +117,87 @@ module _ (text : List ℕ) (p : ℕ) (b : Bool) (k m at : ℕ) where
           → EnsuresAll text p b k m ks t n at (v >>= λ r. makeAllS at ss (r .places) (r .what)) (thenMade (ofEnsuring y) (madeAll text p xs))
       go ih (there {n′ = n′} {ks′ = ks′} {t′ = t′} e a) = all-after a (ih t′ n′ ks′ (a .fits))
       go ih no-place = not-all
+
+-- ---- a tuple's positions, appended to a place with no child
+-- so many of them are children, with numbers from c on, and no further one is
+record Appended (c i n : ℕ) (ks : Spots) : Type 0 where
+  next : n ≡ c + i
+  none : i ≡ 0 → ks ≡ no-spots
+  first : (i ≡ 0 → ⊥) → firstOf ks ≡ c
+  there : (j : ℕ) → j < i → (has (position j) (stepsS ks) ≡ true) × (num (spotAt (position j) ks) ≡ c + j)
+  free : (j : ℕ) → i ≤ j → nearIn (position j) ks ≡ false
+
+none-yet : (n : ℕ) → Appended n 0 n no-spots
+unfolding nearIn
+none-yet n = record { next = omega arith; none = λ z. refl; first = λ z. absurd (z refl); there = λ j l. absurd (omega arith); free = λ j l. refl }
+
+apart : (i j : ℕ) → i < j → near (position j) (position i) ≡ false
+unfolding near
+apart i j l = rw (ne-eqb (4 + 2 * j) (4 + 2 * i) (omega arith)) refl
+
+one-more : (c i n : ℕ) (ks : Spots) → Appended c i n ks → Appended c (suc i) (n + 1) (addS (position i) n ks)
+unfolding addS
+one-more c i n ks a = record {
+  next = let e : n ≡ c + i = a .next in omega arith;
+  none = λ z. absurd (omega arith);
+  first = λ _. cases (eqb i 0)
+      (λ e. let d : i ≡ 0 = eqb-true i 0 e in let f : n ≡ c + i = a .next in rw (a .none d) (omega arith))
+      (λ e. let d = eqb-false i 0 e in still-first (position 0) (position i) n ks (a .there 0 (omega arith) .0) ∙ a .first d);
+  there = λ j l. cases (eqb j i)
+      (λ e. let d : j ≡ i = eqb-true j i e in rw d (add-among (position i) n ks, ap num (add-found (position i) n ks (far-has (position i) ks (a .free i (le-refl i)))) ∙ a .next))
+      (λ e. let d = eqb-false j i e in let x = a .there j (omega arith) in (still-has (position j) (position i) n ks (x .0), ap num (still-at (position j) (position i) n ks (x .0)) ∙ x .1));
+  free = λ j l. near-add (position j) (position i) n ks ∙ rw (a .free j (omega arith), apart i j (omega arith)) refl;
+}
+
+-- they make a block
+in-a-block : (c positions n : ℕ) (ks : Spots) → Appended c positions n ks → Block positions ks
+in-a-block c positions n ks a i l = let d = a .there i l in (d .0, d .1 ∙ ap (λ (x : ℕ). x + i) (sym (a .first (λ z. omega arith))))
+
+module _ (text : List ℕ) (p : ℕ) (b : Bool) (k m at c last : ℕ) where
+  data Appends (t : List ℕ) (n : ℕ) (ks : Spots) : Result (Counted Spots) → Making → Type 0 where
+    appends : {n′ : ℕ} {ks′ : Spots} {t′ : List ℕ} → After text t n (spot p b k m ks) t′ n′ (spot p b k m ks′) → Appended c last n′ ks′ → Appends t n ks (counted n′ ks′) (making (L.Places n′) t′)
+    no-room : {t′ : List ℕ} → Appends t n ks (refused (numberOf F.TooManyPlaces) at) (making (L.Refused F.TooManyPlaces) t′)
+
+  appends-after : {t t₁ : List ℕ} {n n₁ : ℕ} {ks ks₁ : Spots} {x : Result (Counted Spots)} {y : Making} → After text t n (spot p b k m ks) t₁ n₁ (spot p b k m ks₁) → Appends t₁ n₁ ks₁ x y → Appends t n ks x y
+  appends-after {t = t} {t₁ = t₁} {n = n} {n₁ = n₁} {ks = ks} {ks₁ = ks₁} a (appends {n′ = n′} {ks′ = ks′} {t′ = t′} d e) = appends (and-then text t t₁ t′ n n₁ n′ (spot p b k m ks) (spot p b k m ks₁) (spot p b k m ks′) a d) e
+  appends-after a no-room = no-room
+
+  append-all : (left i : ℕ) (t : List ℕ) (n : ℕ) (ks : Spots) → i + left ≡ last → Fits text t n (spot p b k m ks) → Appended c i n ks → Appends t n ks (makeAllS at (positionsFrom i left) n ks) (appendedFrom p i left n t)
+  unfolding makeAllS makeS appendedFrom if_then_else_
+  append-all zero i t n ks e h a = let d : i ≡ last = omega arith in appends (stays text t n (spot p b k m ks) h) (rw d at a)
+  append-all (suc left) i t n ks e h a =
+      let far : nearIn (position i) ks ≡ false = a .free i (le-refl i) in
+      rw (far-clashes (position i) ks far, far-has (position i) ks far)
+      (cases (ltb n placeLimit)
+      (λ d.
+      let l : n < placeLimit = ltb-true n placeLimit d in
+      let A = append-after text t n p (S.Position i) (position i) b k m ks (position-stands text i) far h l in
+      rw (d, lt-leb placeLimit n l) (appends-after A (append-all left (suc i) (appended p (codeOf (S.Position i)) noName n t) (n + 1) (addS (position i) n ks) (omega arith) (A .fits) (one-more c i n ks a))))
+      (λ d. rw (d, le-leb placeLimit n (ltb-false n placeLimit d)) no-room))
+
+module _ (text t : List ℕ) (n p : ℕ) (b : Bool) (k m at : ℕ) where
+  block-all : (positions : ℕ) (ks : Spots) {x : Result (Counted Spots)} {y : Making} → Appends text p b k m at n positions t n ks x y
+      → EnsuresAll text p b k m ks t n at x (thenMade y (λ j u. making (L.Places j) (withWord u p blockWord positions)))
+  block-all positions ks (appends {n′ = n′} {ks′ = ks′} {t′ = t′} d e) =
+      all-there (and-then text t t′ (withWord t′ p blockWord positions) n n′ n′ (spot p b k m ks) (spot p b k m ks′) (spot p b k m ks′) d (set-block text t′ n′ p b k m ks′ (d .fits) positions (in-a-block n positions n′ ks′ e)))
+  block-all positions ks no-room = not-all
+
+  ensure-positions : (positions : ℕ) (ks : Spots) → Fits text t n (spot p b k m ks) → EnsuresAll text p b k m ks t n at (makeAllS at (positionsFrom 0 positions) n ks) (positionsMade text p positions n t)
+  unfolding positionsMade if_then_else_
+  ensure-positions positions no-spots h =
+      let e : word t p firstWord ≡ 0 = h .rep .0 3 (omega arith) in
+      rw e (block-all positions no-spots (append-all text p b k m at n positions positions 0 t n no-spots (omega arith) h (none-yet n)))
+  ensure-positions positions (child r x y u ks) h =
+      let e : word t p firstWord ≡ num u = h .rep .0 3 (omega arith) in
+      rw (e, ne-eqb (num u) 0 (omega (arith, h .good .2 .0))) (ensure-all text p b k m at (Places.positionsFrom 0 positions) (positionsFrom 0 positions) (positions-stand text 0 positions) t n (child r x y u ks) h)
+
+  ensure-made : (kind positions before : ℕ) (ks : Spots) → Fits text t n (spot p b k m ks) → EnsuresAll text p b k m ks t n at (makeAllS at (made kind positions before) n ks) (Places.made text p kind positions before n t)
+  unfolding made Places.made makeAllS
+  ensure-made kind positions before ks h =
+      let Same : List Step → Making → Type 0 = λ ss y. EnsuresAll text p b k m ks t n at (makeAllS at ss n ks) y in
+      choices Same (eqb kind sequenceKind) (ensure-all text p b k m at (S.Element ∷ []) (element ∷ []) (element-stands text, tt) t n ks h) (
+      choices Same (eqb kind mapKind) (ensure-all text p b k m at (S.Key ∷ S.Value ∷ []) (key ∷ value ∷ []) (key-stands text, (value-stands text, tt)) t n ks h) (
+      choices Same (eqb kind tupleKind && eqb before null) (ensure-positions positions ks h) (all-there (stays text t n (spot p b k m ks) h))))
 
 -- ---- one value
 walk-marked : (options depth n p : ℕ) (b : Bool) (k m : ℕ) (ks : Spots) (v : Value) → walk options depth (marked true v) n (spot p b k m ks) ≡ walk options depth v n (spot p true k m ks)
@@ -192,7 +268,7 @@ module _ (options : ℕ) (commands text : List ℕ) (bytes : Bytes commands) (de
       go (M.Kind j) e =
           let A = sample text t n p b j₀ m ks h j in
           agrees-after A (le-refl at)
-          (contents-sim (met-level options levels j₀ k j c e) k r f here at n p b j (onward m) (sampled p j t) ks y i (ensure-all text p b j (onward m) here (stepsMade k r j₀) (made k r j₀) (made-stand text k r j₀) (sampled p j t) n ks (A .fits)))
+          (contents-sim (met-level options levels j₀ k j c e) k r f here at n p b j (onward m) (sampled p j t) ks y i (ensure-made text (sampled p j t) n p b j (onward m) here k r j₀ ks (A .fits)))
 
   choice-sim : (c : Contents) (k : ℕ) (name : Name) (f here at n : ℕ) (t : List ℕ) (u : Spot) → Stands text (S.Variant k name) (variant k (bytesOf text name)) → at ≤ length commands → Fuel commands c f at → Fits text t n u
       → Agrees text commands t n u at (walk options depth (val here false unionKind 0 (part here (variant k (bytesOf text name)) (readIn f options commands text c here at .0) no-parts)) n u) (variantBy text options levels inner k name c here at (num u) n t) (readIn f options commands text c here at .1)
@@ -332,7 +408,7 @@ module _ (text t : List ℕ) (long : tableWords ≤ length t) where
   begins : Fits text (cleared t tableWords) 1 (newSpot 0)
   unfolding cleared
   begins = record {
-    rep = (zero-row (cleared t tableWords) 0 0 5 (omega arith) (λ f i. zero-word 0 f (omega arith) i), tt);
+    rep = (zero-row (cleared t tableWords) 0 0 5 (omega arith) (λ f i. zero-word 0 f (omega arith) i), tt, no-block (word (cleared t tableWords) 0 blockWord) no-spots (zero-word 0 blockWord (omega arith) (omega arith)));
     good = (omega arith, refl, tt);
     room = rw (length-append, length-replicate {A = ℕ} tableWords 0) (omega arith);
     most = omega arith;

@@ -22,7 +22,7 @@ use Rattle.places.specs.declared.Ensured.the-variants as E
 use Rattle.places.specs.declared.Made.{Made}
 use Rattle.places.specs.declared.Made.the-variants as D
 use Rattle.places.specs.Layout.{kindWord, nullWord, firstWord, Sound, Ready}
-use Rattle.places.specs.Flat.{meeting, ensuring, ensured, touched, sampled, making, madeAll, SoundEnsured, SoundMade}
+use Rattle.places.specs.Flat.{meeting, ensuring, ensured, touched, sampled, making, made, SoundEnsured, SoundMade}
 use Rattle.places.specs.Laws.{sound-plain, sound-sampled, sound-touched, ensured-grows}
 use Rattle.places.specs.Laws as L
 use Rattle.samples.specs.declared.Traced.{Traced}
@@ -41,8 +41,8 @@ module _ (text t : List ℕ) (n place : ℕ) (ready : Ready text t n place) wher
   sampled-ready u kind e = record { sound = sound-sampled text t u n place kind e (ready .sound); here = ready .here }
 
   -- the children that a container makes
-  pub made-ready : (steps : List Step) (kind m : ℕ) (u v : List ℕ) (did : Made) → u ≡ sampled place kind t → making did v ≡ madeAll text place steps n u → SoundMade text v did → did ≡ D.Places m → Ready text v m place
-  made-ready steps kind m u v did e d s p = L.made-ready text u v n m place steps did (sampled-ready u kind e) d s p
+  pub made-ready : (joint kind positions before m : ℕ) (u v : List ℕ) (did : Made) → u ≡ sampled place joint t → making did v ≡ made text place kind positions before n u → SoundMade text v did → did ≡ D.Places m → Ready text v m place
+  made-ready joint kind positions before m u v did e d s p = L.made-ready text u v n m place kind positions before did (sampled-ready u joint e) d s p
 
   -- past the marks before a value
   pub past-ready : (commands : List ℕ) (at here : ℕ) (u : List ℕ) → chain here u ≡ pastMarks commands at place t → Ready text u n place

@@ -31,7 +31,7 @@ use Rattle.places.specs.declared.Met.the-variants as M
 use Rattle.places.specs.declared.Ensured.the-variants as E
 use Rattle.places.specs.declared.Made.the-variants as L
 use Rattle.places.specs.Layout.{kindWord, nullWord, Sound}
-use Rattle.places.specs.Flat.{meeting, Ensuring, ensuring, ensured, Making, making, made, stepsMade, touched, sampled}
+use Rattle.places.specs.Flat.{meeting, Ensuring, ensuring, ensured, Making, making, made, touched, sampled}
 use Rattle.places.specs.Tail.{Tailed, tailed, tailed-other, tailed-sampled, tailed-touched, TailedEnsuring, ensured-tail, TailedMaking, made-tail}
 use Rattle.samples.specs.declared.Traced.{Traced}
 use Rattle.samples.specs.declared.Traced.the-variants as T
@@ -127,7 +127,7 @@ module _ (tail : List ℕ) where
     container-tail options levels kind positions here at place n t h b =
         tail-met n here t (λ joint. opened commands text inner kind positions (word t place kindWord) joint here at place n t) h
         (λ joint. made-parts kind positions place here at n b (made text place kind positions (word t place kindWord) n (sampled place joint t))
-        (made-tail tail text place (stepsMade kind positions (word t place kindWord)) n (sampled place joint t) (tailed-sampled tail t n place joint (is-place t n place h b) h) b))
+        (made-tail tail text place kind positions (word t place kindWord) n (sampled place joint t) (tailed-sampled tail t n place joint (is-place t n place h b) h) b))
         (meeting options levels (word t place kindWord) kind)
 
     variant-tail : (options levels number : ℕ) (name : Name) (contents : Contents) (here at place n : ℕ) (t : List ℕ) → Tailed tail t n → place < n → TailedOut tail n (variantBy text options levels inner number name contents here at place n t)

@@ -209,7 +209,7 @@ enter-sub-read-parts t c = search needs
 
 -- src/lib.rt:143:31
 enter-read-parts-requires : (t : ℕ) → enter-lts.Need-read-parts-requires (enter-claims t) (enter-at t) enter.Post
-enter-read-parts-requires t c κs = (search needs, made-ready _ _ _ _ (c .before .before .before .before .before .before .before .before .before .before .before .before .before .before .before .pre .1 .0) _ _ _ _ _ _ (c .before .before .before .before .before .before .before .before .before .before .sample .ensures) (c .before .before .before .before .before .before .make .ensures .0) (c .before .before .before .before .before .before .make .ensures .1) (c .before .before .more .given .1))
+enter-read-parts-requires t c κs = (search needs, made-ready _ _ _ _ (c .before .before .before .before .before .before .before .before .before .before .before .before .before .before .before .pre .1 .0) _ _ _ _ _ _ _ _ (c .before .before .before .before .before .before .before .before .before .before .sample .ensures) (c .before .before .before .before .before .before .make .ensures .0) (c .before .before .before .before .before .before .make .ensures .1) (c .before .before .more .given .1))
 
 -- src/lib.rt:144:23
 enter-enum-known-refusal : (t : ℕ) → enter-lts.Need-enum-known-refusal (enter-claims t) (enter-at t) enter.Post
