@@ -28,7 +28,7 @@ use Rattle.shapes.specs.Shapes.{partAt}
 use Rattle.places.specs.declared.Met.the-variants as M
 use Rattle.places.specs.declared.Ensured.the-variants as E
 use Rattle.places.specs.Layout.{kindWord, samplesWord, firstWord, stepWord, nameWord, markWord}
-use Rattle.places.specs.Flat.{meeting, isAt, findTurn, findFrom, confirmed, ensuring, ensuredBy, ensured, touched}
+use Rattle.places.specs.Flat.{meeting, isAt, findTurn, findFrom, confirmed, ensuring, ensuredBy, childAt, ensured, touched}
 use Rattle.samples.specs.declared.Traced.the-variants as T
 use Rattle.samples.specs.Flat.{Out, out, stored, observed, Readers, dotsIn, partRead, State, state, afterPart, onPart, partTurn, partStop, partsFrom, readers}
 use Rattle.samples.specs.Ways.{observe-kind, part-child}
@@ -198,7 +198,7 @@ module _ (place : ℕ) (t : List ℕ) (held : isHeld place (word t place firstWo
   held-confirmed text n = rw (held-known .2) refl
 
   held-ensured : (text : List ℕ) (n : ℕ) → ensuring (E.Child (word t place firstWord) n) t ≡ ensured text place S.Element n t
-  unfolding ensured ensuredBy if_then_else_ child
+  unfolding ensured ensuredBy childAt if_then_else_ child
   held-ensured text n = rw (held-found text, ne-eqb child 0 (held-known .0), held-confirmed text n) refl
 
 -- ---- a run of them
