@@ -154,6 +154,7 @@ in-a-block : (c positions n : ℕ) (ks : Spots) → Appended c positions n ks �
 in-a-block c positions n ks a i l = let d = a .there i l in (d .0, d .1 ∙ ap (λ (x : ℕ). x + i) (sym (a .first (λ z. omega arith))))
 
 module _ (text : List ℕ) (p : ℕ) (b : Bool) (k m at c last : ℕ) where
+  -- both append the positions up to the last, or both are refused (11)
   data Appends (t : List ℕ) (n : ℕ) (ks : Spots) : Result (Counted Spots) → Making → Type 0 where
     appends : {n′ : ℕ} {ks′ : Spots} {t′ : List ℕ} → After text t n (spot p b k m ks) t′ n′ (spot p b k m ks′) → Appended c last n′ ks′ → Appends t n ks (counted n′ ks′) (making (L.Places n′) t′)
     no-room : {t′ : List ℕ} → Appends t n ks (refused (numberOf F.TooManyPlaces) at) (making (L.Refused F.TooManyPlaces) t′)
