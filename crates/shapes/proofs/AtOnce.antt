@@ -1,6 +1,6 @@
 -- A part that its first bytes tell is the one that reading its command gives.
 use mathlib.Core.Path.{_≡_, refl, sym, _∙_}
-use mathlib.Core.Bool.{Bool, true, false, false≢true}
+use mathlib.Core.Bool.{Bool, true, false, not, false≢true}
 use mathlib.Core.List.{List}
 use Prim.Native.Nat.{ℕ, _+_, _<_, _≤_}
 use native.Mathlib.Omega.{arith}
@@ -16,11 +16,11 @@ use Rattle.commands.specs.declared.Command.{Command}
 use Rattle.commands.specs.declared.Due.{Due}
 use Rattle.commands.specs.declared.Due.the-variants as D
 use Rattle.commands.specs.declared.Read.the-variants as R
-use Rattle.commands.specs.Commands.{nameAt, Form, plain, counted, named, variant, countedVariant, forms, formOf, operands, made, nameIn, fieldByte, endByte, stands, badCommand, badName, badKey, readCommand}
+use Rattle.commands.specs.Commands.{nameAt, Form, plain, counted, named, variant, countedVariant, forms, formOf, operands, made, nameIn, textByte, fieldByte, endByte, stands, badCommand, badName, badKey, readCommand}
 use Rattle.shapes.specs.declared.Step.{Step}
 use Rattle.shapes.specs.declared.Step.the-variants as S
 use Rattle.shapes.specs.declared.Part.the-variants as P
-use Rattle.shapes.specs.Shapes.{valuePart, fieldPart, charByte, plainAt, takesValue, namedAt}
+use Rattle.shapes.specs.Shapes.{valuePart, fieldPart, tupleByte, structByte, plainByte, plainAt, takesValue, namedAt}
 
 -- ---- a value with no operands
 isPlain : Form → Bool
@@ -38,12 +38,21 @@ plain-form (named f) e k = absurd (false≢true e)
 plain-form (variant f) e k = absurd (false≢true e)
 plain-form (countedVariant f) e k = absurd (false≢true e)
 
-plain-byte : (byte : ℕ) → byte ≤ charByte → isPlain (formOf byte) ≡ true
-unfolding isPlain formOf allBelow
-plain-byte byte h = below-at 13 (λ b. isPlain (formOf b)) refl byte (omega arith)
+-- each byte that is told to be such a value is one
+plain-told : allBelow 22 (λ b. if plainByte b then isPlain (formOf b) else true) ≡ true
+unfolding isPlain formOf allBelow plainByte if_then_else_
+plain-told = refl
+
+plain-byte : {P : Type 0} (byte : ℕ) → plainByte byte ≡ true → (byte ≤ structByte → isPlain (formOf byte) ≡ true → P) → P
+unfolding plainByte if_then_else_
+plain-byte byte e k =
+    both _ (not (eqb byte tupleByte)) e λ d n.
+    both (leb byte structByte) (not (eqb byte textByte)) d λ l m.
+    let small : byte ≤ structByte = leb-true byte structByte l in
+    k small (rw e at (below-at 22 (λ b. if plainByte b then isPlain (formOf b) else true) plain-told byte (omega arith)))
 
 -- it can stand there, and is no key
-value-stands : (due : Due) (byte : ℕ) → takesValue due ≡ true → byte ≤ charByte → (stands due byte ≡ true) × (badKey due byte ≡ false)
+value-stands : (due : Due) (byte : ℕ) → takesValue due ≡ true → byte ≤ structByte → (stands due byte ≡ true) × (badKey due byte ≡ false)
 value-stands D.Value byte t h = (rw (ne-eqb byte fieldByte (omega arith), ne-eqb byte endByte (omega arith)), refl)
 value-stands D.ValueOrEnd byte t h = (rw (ne-eqb byte fieldByte (omega arith)), refl)
 value-stands D.FieldOrEnd byte t h = absurd (false≢true t)
@@ -54,11 +63,11 @@ pub value-at-once : (commands text : List ℕ) (at : ℕ) (due : Due) (step : St
 unfolding plainAt readCommand badCommand badName operands made nameIn if_then_else_
 value-at-once commands text at due step flag t f e =
     let byte : ℕ = getD commands at 0 in
-    both (ltb at (length commands)) (leb byte charByte) (sym f ∙ e) λ p q.
+    both (ltb at (length commands)) (plainByte byte) (sym f ∙ e) λ p q.
+    plain-byte byte q λ small is.
     let there : at < length commands = ltb-true at (length commands) p in
-    let small : byte ≤ charByte = leb-true byte charByte q in
     let due-there = value-stands due byte t small in
-    plain-form (formOf byte) (plain-byte byte small) λ command form.
+    plain-form (formOf byte) is λ command form.
     rw (form, lt-leb (length commands) at there, lt-leb (length forms) byte (omega arith), le-ltb (length commands) (at + 1) (omega arith), due-there .0, due-there .1, ne-eqb byte endByte (omega arith))
 
 -- ---- a command with a name

@@ -1,5 +1,5 @@
 -- What a command begins, and what stands before a part of a container (document 01, "Commands and texts"), with names by their operands.
-use mathlib.Core.Bool.{Bool, true, false, _&&_}
+use mathlib.Core.Bool.{Bool, true, false, not, _&&_}
 use mathlib.Core.List.{List}
 use Prim.Native.Nat.{ℕ, _+_, _%_}
 use lib.Dec.{eqb, leb, ltb}
@@ -16,7 +16,7 @@ use Rattle.commands.specs.declared.Read.{Read}
 use Rattle.commands.specs.declared.Read.the-variants as R
 use Rattle.commands.specs.declared.Due.{Due}
 use Rattle.commands.specs.declared.Due.the-variants as D
-use Rattle.commands.specs.Commands.{readCommand, nameAt, endByte}
+use Rattle.commands.specs.Commands.{readCommand, nameAt, textByte, endByte}
 use Rattle.model.specs.Kinds.{sequenceKind, structKind, mapKind, tupleKind, mapModeKind}
 use Rattle.shapes.specs.declared.Step.{Step}
 use Rattle.shapes.specs.declared.Step.the-variants as S
@@ -80,12 +80,19 @@ partAt commands text kind positions i at =
     else P.Ended at
 
 -- ---- what the first bytes tell of a part, before its command is read
--- a value with no operands stands there: unit, bool, a number or char
-abbrev pub charByte : ℕ
-charByte = 0x0C
+-- a value with no operands: of the commands up to struct, text and tuple have some
+abbrev pub tupleByte : ℕ
+tupleByte = 0x13
 
+abbrev pub structByte : ℕ
+structByte = 0x15
+
+unfoldable pub plainByte : ℕ → Bool
+plainByte byte = leb byte structByte && not (eqb byte textByte) && not (eqb byte tupleByte)
+
+-- one stands there
 unfoldable pub plainAt : List ℕ → ℕ → Bool
-plainAt commands at = ltb at (length commands) && leb (getD commands at 0) charByte
+plainAt commands at = ltb at (length commands) && plainByte (getD commands at 0)
 
 -- values can stand where that is due
 abbrev pub takesValue : Due → Bool

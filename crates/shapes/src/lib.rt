@@ -11,7 +11,7 @@ ghost use Rattle.commands.specs.Commands.{readCommand, nameAt};
 ghost use Rattle.commands.specs.declared.Due.the-variants.{FieldOrEnd, KeyOrEnd};
 ghost use Rattle.model.specs.Kinds.{mapKind};
 ghost use Rattle.shapes.specs.Steps.{codeOf, nameOf, packedName, unpackedName, Inside};
-ghost use Rattle.shapes.specs.Shapes.{mapKindOf, shapeAt, valuePart, fieldPart, partAt, plainAt, takesValue, namedAt};
+ghost use Rattle.shapes.specs.Shapes.{mapKindOf, shapeAt, valuePart, fieldPart, partAt, plainByte, plainAt, takesValue, namedAt};
 ghost use mathlib.Core.Bool.{true};
 use chrono::text_type;
 use commands::Command;
@@ -131,10 +131,12 @@ pub enum Part {
     Refused(Refusal, usize),
 }
 
-// The last of the values with no operands that come first, and the commands that parts are told by.
-const CHAR: u8 = 0x0C;
-
+// The commands that parts are told by: of those up to struct, text and tuple have operands.
 const TEXT: u8 = 0x0D;
+
+const TUPLE_BYTE: u8 = 0x13;
+
+const STRUCT_BYTE: u8 = 0x15;
 
 const FIELD_BYTE: u8 = 0x16;
 
@@ -200,14 +202,27 @@ pub fn shape_of(command: Command, text: &[u8], options: TracingOptions) -> Shape
     }
 }
 
-// Whether a value with no operands stands at an offset (00 to 0C).
+// Whether the command with that byte is a value with no operands.
+fn is_plain_byte(byte: u8) -> bool
+    ensures { λ r. ⌜ r ≡ plainByte byte ⌝ }
+{
+    if STRUCT_BYTE < byte {
+        return false;
+    }
+    if byte == TEXT {
+        return false;
+    }
+    byte != TUPLE_BYTE
+}
+
+// Whether one stands at an offset.
 fn is_plain(commands: &[u8], at: usize) -> bool
     ensures { λ r. ⌜ r ≡ plainAt (now (commands .entry)) at ⌝ }
 {
     if commands.len() <= at {
         return false;
     }
-    commands[at] <= CHAR
+    is_plain_byte(commands[at])
 }
 
 // An operand from its two bytes.
