@@ -9,22 +9,23 @@ use borrow.Author.Tests.{ltb-true, le-ltb, lt-leb, eqb-true, eqb-false, not-true
 use lib.Dec.{eqb, ltb}
 use lib.ListN.{length, getD}
 use Rattle.logic.specs.Test.{if_then_else_, cases, both}
+use Rattle.logic.specs.Flag.{if-either}
 use Rattle.logic.specs.Table.{allBelow, below-at}
 use Rattle.datatype.specs.Codes.{uint32}
 use Rattle.commands.specs.declared.Read.the-variants as R
 use Rattle.commands.specs.declared.Due.{Due}
 use Rattle.commands.specs.declared.Due.the-variants as D
 use Rattle.commands.specs.Commands.{formOf, operands, made, nameIn, textByte, stands, badCommand, badName, badKey, readCommand}
-use Rattle.shapes.specs.declared.Shape.the-variants as H
-use Rattle.shapes.specs.Shapes.{shapeAt}
-use Rattle.model.specs.Kinds.{isContainer}
+use Rattle.model.specs.Kinds.{sequenceKind}
 use Rattle.shapes.specs.declared.Step.{Step}
+use Rattle.shapes.specs.declared.Shape.the-variants as H
 use Rattle.shapes.specs.Steps.{nameOf}
+use Rattle.shapes.specs.Shapes.{shapeAt}
 use Rattle.places.specs.declared.Ensured.{Ensured}
 use Rattle.places.specs.declared.Ensured.the-variants as E
 use Rattle.places.specs.Flat.{meeting, ensuring, ensured, touched}
-use Rattle.samples.specs.Flat.{isMark, pastMarks, Out, observed, dotsIn, partRead, readers, valueAt}
-use Rattle.samples.specs.Ways.{value-leaf, part-child}
+use Rattle.samples.specs.Flat.{dotsIn, partRead, readers, isMark, pastMarks, Out, observed, valueAt}
+use Rattle.samples.specs.Ways.{part-child, value-leaf}
 use Rattle.samples.specs.Loops.{past-other}
 
 -- the commands before text (0D) are plain
@@ -103,23 +104,25 @@ module _ (commands : List ℕ) (at : ℕ) (is : isPlain commands at ≡ true) wh
       (readCommand commands text at D.Value) refl (made (formOf byte) commands (at + 1)) (at + 1) (read-plain text D.Value (value-stands byte small) refl)
       (shapeAt options text (made (formOf byte) commands (at + 1))) refl o (eqb byte 0) (plainKind byte) (leaf text commands (at + 1) options byte small) e
 
-  -- levels matter to containers alone
-  no-container : isContainer (plainKind (getD commands at 0)) ≡ false
-  unfolding plainKind if_then_else_ allBelow
-  no-container = not-true (isContainer (plainKind (getD commands at 0))) (below-at textByte (λ b. not (isContainer (plainKind b))) refl (getD commands at 0) plain-small)
-
-  pub observed-plain : (options levels other place n : ℕ) (t : List ℕ) →
-      observed options (eqb (getD commands at 0) 0) (plainKind (getD commands at 0)) levels at (at + 1) place n t ≡ observed options (eqb (getD commands at 0) 0) (plainKind (getD commands at 0)) other at (at + 1) place n t
-  unfolding observed meeting
-  observed-plain options levels other place n t = rw no-container refl
-
-  -- a part that is plain
-  pub part-plain : (text : List ℕ) (options levels : ℕ) (step : Step) (here place n : ℕ) (t u : List ℕ) (did : Ensured) → ensuring did u ≡ ensured text place step n t → (child m : ℕ) (v : List ℕ) (o : Out) → did ≡ E.Child child m → v ≡ touched place child u →
-      o ≡ observed options (eqb (getD commands at 0) 0) (plainKind (getD commands at 0)) levels at (at + 1) child m v → o ≡ partRead text (readers commands text options levels) step here at place n t
-  part-plain text options levels step here place n t u did d child m v o e h p =
-      part-child commands text options levels step here at place n t u did d child m (levels - dotsIn text (nameOf step)) (nameOf step) v o e h refl refl
-      (value-plain text options (levels - dotsIn text (nameOf step)) child m v o (p ∙ observed-plain options levels (levels - dotsIn text (nameOf step)) child m v))
-
 -- the kind being that of its byte
 pub seen-plain : (options : ℕ) (isNull : Bool) (byte kind levels here behind place n : ℕ) (t : List ℕ) (o : Out) → kind ≡ plainKind byte → o ≡ observed options isNull kind levels here behind place n t → o ≡ observed options isNull (plainKind byte) levels here behind place n t
 seen-plain options isNull byte kind levels here behind place n t o e p = rw e at p
+
+-- ---- at a child: no level is asked for, so that the dots of its name need not be counted
+kind-below : (byte : ℕ) → byte < textByte → plainKind byte < sequenceKind
+unfolding plainKind
+kind-below byte h = if-either (λ k. k < sequenceKind) (eqb byte charByte) (omega arith) (omega arith)
+
+any-level : (options : ℕ) (isNull : Bool) (byte levels lower here behind place n : ℕ) (t : List ℕ) → byte < textByte →
+    observed options isNull (plainKind byte) levels here behind place n t ≡ observed options isNull (plainKind byte) lower here behind place n t
+unfolding observed meeting if_then_else_
+any-level options isNull byte levels lower here behind place n t h = rw (lt-leb sequenceKind (plainKind byte) (kind-below byte h)) refl
+
+module _ (commands text : List ℕ) (options levels : ℕ) (step : Step) (here at place n : ℕ) (t u : List ℕ) (did : Ensured) (d : ensuring did u ≡ ensured text place step n t) where
+  pub part-plain : (child m : ℕ) (v : List ℕ) (o : Out) → did ≡ E.Child child m → v ≡ touched place child u → isPlain commands at ≡ true →
+      o ≡ observed options (eqb (getD commands at 0) 0) (plainKind (getD commands at 0)) levels at (at + 1) child m v → o ≡ partRead text (readers commands text options levels) step here at place n t
+  part-plain child m v o e h is p =
+      let lower : ℕ = levels - dotsIn text (nameOf step) in
+      let byte : ℕ = getD commands at 0 in
+      part-child commands text options levels step here at place n t u did d child m lower (nameOf step) v o e h refl refl
+      (value-plain commands at is text options lower child m v o (p ∙ any-level options (eqb byte 0) byte levels lower at (at + 1) child m v (plain-small commands at is)))

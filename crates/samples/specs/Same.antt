@@ -35,6 +35,10 @@ use Rattle.samples.specs.Ways.{observe-kind, part-child}
 use Rattle.samples.specs.Loops.{parts-more}
 use Rattle.samples.specs.Plain.{isPlain, charByte, plainKind, read-plain, value-plain}
 
+-- a value that is no null, of the type that is there
+unfoldable pub isKnown : Bool → ℕ → ℕ → Bool
+isKnown isNull before kind = not isNull && eqb before kind && ltb kind sequenceKind
+
 -- the child is an element that the place's present sample holds
 unfoldable pub isHeld : ℕ → ℕ → List ℕ → Bool
 isHeld place child t =
@@ -61,6 +65,41 @@ pastSame commands kind at place t =
     if eqb kind sequenceKind
     then (if isHeld place (word t place firstWord) t then pastHeld commands (word t (word t place firstWord) kindWord) at else at)
     else at
+
+-- ---- one test of a known type after the other
+module _ (isNull : Bool) (before kind : ℕ) where
+  pub known-null : isNull ≡ true → false ≡ isKnown isNull before kind
+  unfolding isKnown
+  known-null e = rw e refl
+
+  module _ (e : isNull ≡ false) where
+    pub known-other : (before ≡ kind → ⊥) → false ≡ isKnown isNull before kind
+    unfolding isKnown
+    known-other d = rw (e, ne-eqb before kind d) refl
+
+    pub known-same : before ≡ kind → ltb kind sequenceKind ≡ isKnown isNull before kind
+    unfolding isKnown
+    known-same d = rw (e, eq-eqb before kind d) refl
+
+-- a type meets itself, and is stored where it stood
+meets-itself : (options levels kind : ℕ) → kind < sequenceKind → M.Kind kind ≡ meeting options levels kind kind
+unfolding meeting if_then_else_
+meets-itself options levels kind h = rw (lt-leb sequenceKind kind h, joint-same options kind) refl
+
+observed-again : (options kind levels here behind place n : ℕ) (t : List ℕ) → word t place kindWord ≡ kind → kind < sequenceKind → out (T.Next behind n) t ≡ observed options false kind levels here behind place n t
+unfolding stored if_then_else_
+observed-again options kind levels here behind place n t e h =
+    observe-kind options levels kind kind place t (M.Kind kind) (sym e) (meets-itself options levels kind h) false here behind n kind t refl (sym (rw e at (set-getD t (place * 16 + kindWord) 0)))
+
+pub observe-known : (options : ℕ) (isNull : Bool) (before kind levels here behind place n : ℕ) (t : List ℕ) (known : Bool) → before ≡ word t place kindWord → known ≡ isKnown isNull before kind → known ≡ true →
+    out (T.Next behind n) t ≡ observed options isNull kind levels here behind place n t
+unfolding isKnown
+observe-known options isNull before kind levels here behind place n t known b k e =
+    both (not isNull && eqb before kind) (ltb kind sequenceKind) (sym k ∙ e) λ p small.
+    both (not isNull) (eqb before kind) p λ some same.
+    let is : word t place kindWord ≡ kind = sym b ∙ eqb-true before kind same in
+    let below : kind < sequenceKind = ltb-true kind sequenceKind small in
+    rw (not-true isNull some) (observed-again options kind levels here behind place n t is below)
 
 -- ---- one test of a held element after the other
 module _ (place child : ℕ) (t : List ℕ) where
@@ -128,6 +167,16 @@ pub own-fits : (kind : ℕ) (own : Bool) → own ≡ isOwnByte kind → own ≡ 
 unfolding isOwnByte
 own-fits kind own e p = both (not (eqb kind null)) (ltb kind charByte) (sym e ∙ p) λ some small. let h : kind < charByte = ltb-true kind charByte small in omega arith
 
+own-known : (kind : ℕ) → isOwnByte kind ≡ true → (kind ≡ null → ⊥) × (kind < charByte)
+unfolding isOwnByte
+own-known kind own = both (not (eqb kind null)) (ltb kind charByte) own λ p q. (eqb-false kind null (not-true (eqb kind null) p), ltb-true kind charByte q)
+
+own-observed : (options kind levels here behind place n : ℕ) (t : List ℕ) → isOwnByte kind ≡ true → word t place kindWord ≡ kind → out (T.Next behind n) t ≡ observed options (eqb kind 0) (plainKind kind) levels here behind place n t
+unfolding plainKind if_then_else_
+own-observed options kind levels here behind place n t own e =
+    let small : kind < charByte = own-known kind own .1 in
+    rw (ne-eqb kind charByte (λ q. omega arith), ne-eqb kind 0 (own-known kind own .0)) (observed-again options kind levels here behind place n t e (omega arith))
+
 -- ---- what was read before counts for nothing in a sequence
 module _ (commands text : List ℕ) (inner : Readers) (positions place : ℕ) where
   abbrev turn : State → Turn State Out
@@ -151,23 +200,6 @@ module _ (commands text : List ℕ) (inner : Readers) (positions place : ℕ) wh
       onward ih (P.Refused refusal offset) = refl
 
 -- ---- one such element
--- a type meets itself, and is stored where it stood
-module _ (kind : ℕ) (own : isOwnByte kind ≡ true) where
-  own-known : (kind ≡ null → ⊥) × (kind < charByte)
-  unfolding isOwnByte
-  own-known = both (not (eqb kind null)) (ltb kind charByte) own λ p q. (eqb-false kind null (not-true (eqb kind null) p), ltb-true kind charByte q)
-
-  meets-itself : (options levels : ℕ) → M.Kind kind ≡ meeting options levels kind kind
-  unfolding meeting if_then_else_
-  meets-itself options levels = let small : kind < charByte = own-known .1 in rw (lt-leb 22 kind (omega arith), joint-same options kind) refl
-
-  observed-again : (options levels at place n : ℕ) (t : List ℕ) → word t place kindWord ≡ kind → out (T.Next (at + 1) n) t ≡ observed options (eqb kind 0) (plainKind kind) levels at (at + 1) place n t
-  unfolding stored plainKind if_then_else_
-  observed-again options levels at place n t e =
-      let small : kind < charByte = own-known .1 in
-      rw (ne-eqb kind charByte (λ q. omega arith), ne-eqb kind 0 (own-known .0))
-      (observe-kind options levels kind kind place t (M.Kind kind) (sym e) (meets-itself options levels) false at (at + 1) n kind t refl (sym (rw e at (set-getD t (place * 16 + kindWord) 0))))
-
 -- the child is found, and is not counted again
 module _ (place : ℕ) (t : List ℕ) (held : isHeld place (word t place firstWord) t ≡ true) where
   child : ℕ
@@ -224,7 +256,7 @@ module _ (commands text : List ℕ) (options levels positions place n : ℕ) (t 
         part-child commands text options levels S.Element at at place n t t (E.Child (word t place firstWord) n) (held-ensured place t held text n)
         (word t place firstWord) n (levels - dotsIn text noName) noName t (out (T.Next (at + 1) n) t) refl (held-touched place t held) refl refl
         (value-plain commands at is-plain text options (levels - dotsIn text noName) (word t place firstWord) n t (out (T.Next (at + 1) n) t)
-        (rw byte (observed-again kind own options (levels - dotsIn text noName) at (word t place firstWord) n t has)))
+        (rw byte (own-observed options kind (levels - dotsIn text noName) at (at + 1) (word t place firstWord) n t own has)))
 
     goes : (i : ℕ) → rest (i + 1) (at + 1) ≡ rest i at
     goes i =

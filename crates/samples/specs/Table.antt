@@ -89,9 +89,6 @@ module _ (text t : List ℕ) (n place : ℕ) (ready : Ready text t n place) wher
     pub child-ready : (v : List ℕ) → v ≡ touched place child u → Ready text v m child
     child-ready v h = record { sound = sound-touched text u v m place child h (child-sound .0); here = child-sound .1 }
 
-    pub touched-room : (v : List ℕ) → v ≡ touched place child u → 16384 ≤ length v
-    touched-room v h = child-ready v h .sound .room
-
 -- ---- the root
 pub root-ready : (text t : List ℕ) → Sound text t 1 → Ready text t 1 0
 root-ready text t s = record { sound = s; here = omega arith }
@@ -127,12 +124,6 @@ module _ (text t : List ℕ) (n : ℕ) (r : Traced) (s : SoundTraced text t n r)
         let is : place < 1024 = is-place text t m place ready in
         let first : word t place firstWord < m = ready .sound .first place is in
         (is, ready .sound .room, omega arith)
-
--- a primitive at the child that a step leads to
-pub child-observed : (text t : List ℕ) (n place : ℕ) → Ready text t n place → (step : Step) (u : List ℕ) (did : Ensured) → ensuring did u ≡ ensured text place step n t → SoundEnsured text u did → (child m : ℕ) → did ≡ E.Child child m →
-    (v : List ℕ) → v ≡ touched place child u → (options : ℕ) (isNull : Bool) (kind levels here behind : ℕ) (r : Traced) (w : List ℕ) → out r w ≡ observed options isNull kind levels here behind child m v → SoundTraced text w n r
-child-observed text t n place ready step u did d s child m e v h options isNull kind levels here behind r w o =
-    traced-from text w m r (observed-sound text v m child (child-ready text t n place ready step u did d s child m e v h) options isNull kind levels here behind r w o) n (child-grows text t n place ready step u did d s child m e)
 
 -- the measure of the readers falls below a variant
 pub falls : (levels measure : ℕ) → 8 * levels + 2 ≡ measure → 0 < levels → 8 * (levels - 1) + 5 < measure

@@ -10,7 +10,7 @@ ghost use Rattle.words.specs.Word.{word};
 ghost use Rattle.places.specs.Layout.{firstWord, Ready, Sound};
 ghost use Rattle.samples.specs.Flat.{Chain, isMark, marked, pastMarks, Out, stored, observed, dotsIn, partRead, partsBy, opened, containerBy, chosen, variantBy, readers, innerOf, valueAt, fromSamples, SoundTraced};
 ghost use Rattle.samples.specs.Plain.{isPlain, plainKind};
-ghost use Rattle.samples.specs.Same.{isHeld, isOwnByte, behindRun, pastHeld, pastSame};
+ghost use Rattle.samples.specs.Same.{isKnown, isHeld, isOwnByte, behindRun, pastHeld, pastSame};
 use commands::Due;
 use commands::Read;
 use options::TracingOptions;
@@ -81,6 +81,19 @@ fn store(null: bool, kind: u32, place: usize, table: &mut [u32])
     }
 }
 
+// Whether a value that is no null is of the type that is there.
+fn is_known(null: bool, before: u32, kind: u32) -> bool
+    ensures { λ r. ⌜ r ≡ isKnown null before kind ⌝ }
+{
+    if null {
+        return false;
+    }
+    if before != kind {
+        return false;
+    }
+    kind < shapes::SEQUENCE
+}
+
 // A primitive at a place.
 fn observe(
     options: TracingOptions,
@@ -97,6 +110,9 @@ fn observe(
     ensures { λ r. ⌜ Out.out r (now (table .exit)) ≡ observed (options .word) null kind levels here next place count (now (table .entry)) ⌝ }
 {
     let before = words::get(table, place, places::KIND);
+    if is_known(null, before, kind) {
+        return Traced::Next(next, count);
+    }
     match places::meet(options, levels, before, kind) {
         Met::Kind(joint) => {
             store(null, joint, place, table);
@@ -180,11 +196,14 @@ fn is_held(place: usize, child: usize, table: &[u32]) -> bool
     words::get(table, child, places::MARK) == words::get(table, place, places::SAMPLES)
 }
 
+// Types below this code have the byte of their command as it. 0C is a char, which is a UInt32.
+const OWN_BYTES: u32 = 12;
+
 // Whether a type is not Null, and its code its command's byte.
 fn is_own_byte(kind: u32) -> bool
     ensures { λ r. ⌜ r ≡ isOwnByte kind ⌝ }
 {
-    kind != shapes::UNKNOWN && kind < 12
+    kind != shapes::UNKNOWN && kind < OWN_BYTES
 }
 
 // The offset behind a run of one byte.
@@ -421,32 +440,6 @@ fn read_parts(
     }
 }
 
-// A plain value of a part, at the child that its step leads to. Levels matter to containers alone, so no dots are counted.
-fn read_plain_part(
-    commands: &[u8],
-    text: &[u8],
-    options: TracingOptions,
-    step: Step,
-    here: usize,
-    at: usize,
-    levels: usize,
-    place: usize,
-    count: usize,
-    table: &mut [u32],
-) -> Traced
-    requires { ⌜ Ready (now text) (now table) count place ⌝ }
-    requires { ⌜ Inside (now text) (nameOf step) × (isPlain (now commands) at ≡ true) ⌝ }
-    ensures { λ r. ⌜ (Out.out r (now (table .exit)) ≡ partRead (now (text .entry)) (readers (now (commands .entry)) (now (text .entry)) (options .word) levels) step here at place count (now (table .entry))) × SoundTraced (now (text .entry)) (now (table .exit)) count r ⌝ }
-{
-    match places::ensure(text, place, step, count, table) {
-        Ensured::Child(child, more) => {
-            places::touch(place, child, table);
-            observe_plain(commands, options, levels, at, child, more, table)
-        }
-        Ensured::Refused(refusal) => Traced::Refused(refusal, here),
-    }
-}
-
 // The value of a part, at the child that its step leads to.
 fn read_part(
     commands: &[u8],
@@ -464,23 +457,12 @@ fn read_part(
     requires { ⌜ Inside (now text) (nameOf step) ⌝ }
     ensures { λ r. ⌜ (Out.out r (now (table .exit)) ≡ partRead (now (text .entry)) (readers (now (commands .entry)) (now (text .entry)) (options .word) levels) step here at place count (now (table .entry))) × SoundTraced (now (text .entry)) (now (table .exit)) count r ⌝ }
 {
-    if is_plain(commands, at) {
-        return read_plain_part(
-            commands,
-            text,
-            options,
-            step,
-            here,
-            at,
-            levels,
-            place,
-            count,
-            table,
-        );
-    }
     match places::ensure(text, place, step, count, table) {
         Ensured::Child(child, more) => {
             places::touch(place, child, table);
+            if is_plain(commands, at) {
+                return observe_plain(commands, options, levels, at, child, more, table);
+            }
             let below = lower(levels, step.name(), text);
             read_value(commands, text, options, at, below, child, more, table)
         }

@@ -9,7 +9,7 @@ use Rattle.places.specs.Laws.{made-grows}
 use Rattle.samples.specs.Flat.{partsFrom, partsBy, readers}
 use Rattle.samples.specs.Ways.{opened-parts, opened-refused, container-opened, container-refused, variant-chosen, variant-refused, part-child, part-refused, chosen-child, chosen-refused, contents-unit, contents-value, contents-positions, contents-fields, value-refused, value-none, value-leaf, value-parts, value-variant}
 use Rattle.logic.specs.Flag.{flagged}
-use Rattle.samples.specs.Plain.{value-plain}
+use Rattle.samples.specs.Plain.{value-plain, part-plain}
 use Rattle.samples.specs.Same.{parts-same, same-above}
 use Rattle.samples.specs.Loops.{parts-end, parts-refused, parts-stopped, parts-more, parts-less, parts-counted, count-fits}
 use Rattle.samples.specs.Table.{is-place, has-room, sampled-ready, made-ready, past-ready, observed-sound, child-grows, child-room, child-place, child-ready, traced-from, traced-grows, traced-ready, traced-first, falls as variant-falls, met-left}
@@ -51,7 +51,6 @@ use Rattle.places.proofs.touch.Reads as touch-reads
 use Rattle.samples.proofs.lower.Reads as lower-reads
 use Rattle.samples.proofs.observe.Reads as observe-reads
 use Rattle.samples.proofs.is_plain.Reads as is-plain-reads
-use Rattle.samples.proofs.read_plain_part.Reads as read-plain-part-reads
 use Rattle.samples.proofs.observe_plain.Reads as observe-plain-reads
 use Rattle.samples.proofs.past_marks.Reads as past-marks-reads
 use Rattle.samples.proofs.past_same.Reads as past-same-reads
@@ -180,7 +179,7 @@ abbrev read-contents-claims : ℕ → read-contents-lts.Claims
 read-contents-claims t = (observe-reads.Asked, observe-reads.Learnt, read-value-below t, read-value.Post, read-container-below t, read-container.Post)
 
 abbrev read-part-claims : ℕ → read-part-lts.Claims
-read-part-claims t = (is-plain-reads.Asked, is-plain-reads.Learnt, read-plain-part-reads.Asked, read-plain-part-reads.Learnt, ensure-reads.Asked, ensure-reads.Learnt, touch-reads.Asked, touch-reads.Learnt, name-reads.Asked, name-reads.Learnt, lower-reads.Asked, lower-reads.Learnt, read-value-below t, read-value.Post)
+read-part-claims t = (ensure-reads.Asked, ensure-reads.Learnt, touch-reads.Asked, touch-reads.Learnt, is-plain-reads.Asked, is-plain-reads.Learnt, observe-plain-reads.Asked, observe-plain-reads.Learnt, name-reads.Asked, name-reads.Learnt, lower-reads.Asked, lower-reads.Learnt, read-value-below t, read-value.Post)
 
 abbrev read-parts-claims : ℕ → read-parts-lts.Claims
 read-parts-claims t = (next-part-reads.Asked, next-part-reads.Learnt, read-part-below t, read-part.Post, past-same-reads.Asked, past-same-reads.Learnt)
@@ -379,22 +378,6 @@ read-contents-same-length-4 t c = search needs
 read-contents-returns-4 : (t : ℕ) → read-contents-lts.Need-returns-4 (read-contents-claims t) (read-contents-at t) read-contents.Post
 read-contents-returns-4 t c = (search (contents-fields, needs), search needs)
 
--- src/lib.rt:179:1
-read-part-is-plain-requires : (t : ℕ) → read-part-lts.Need-is-plain-requires (read-part-claims t) (read-part-at t) read-part.Post
-read-part-is-plain-requires t c κs = search needs
-
--- src/lib.rt:179:1
-read-part-read-plain-part-requires : (t : ℕ) → read-part-lts.Need-read-plain-part-requires (read-part-claims t) (read-part-at t) read-part.Post
-read-part-read-plain-part-requires t c κs = search (flagged, needs)
-
--- src/lib.rt:179:1
-read-part-same-length : (t : ℕ) → read-part-lts.Need-same-length (read-part-claims t) (read-part-at t) read-part.Post
-read-part-same-length t c = search needs
-
--- src/lib.rt:179:1
-read-part-returns : (t : ℕ) → read-part-lts.Need-returns (read-part-claims t) (read-part-at t) read-part.Post
-read-part-returns t c = search needs
-
 -- src/lib.rt:184:11
 read-part-ensure-requires : (t : ℕ) → read-part-lts.Need-ensure-requires (read-part-claims t) (read-part-at t) read-part.Post
 read-part-ensure-requires t c κs = search needs
@@ -406,6 +389,22 @@ read-part-enum-known-child t c = search needs
 -- src/lib.rt:186:13
 read-part-touch-requires : (t : ℕ) → read-part-lts.Need-touch-requires (read-part-claims t) (read-part-at t) read-part.Post
 read-part-touch-requires t c κs = search (is-place, child-place, child-room, needs)
+
+-- src/lib.rt:183:16
+read-part-is-plain-requires : (t : ℕ) → read-part-lts.Need-is-plain-requires (read-part-claims t) (read-part-at t) read-part.Post
+read-part-is-plain-requires t c κs = search needs
+
+-- src/lib.rt:184:24
+read-part-observe-plain-requires : (t : ℕ) → read-part-lts.Need-observe-plain-requires (read-part-claims t) (read-part-at t) read-part.Post
+read-part-observe-plain-requires t c κs = (flagged _ _ _ (c .before .before .is-plain .ensures) (c .before .if1 .taken), child-place _ _ _ _ (c .before .before .before .before .before .before .before .before .before .before .before .before .before .before .before .before .before .pre .1 .0) _ _ _ (c .before .before .before .before .before .before .before .before .before .before .before .before .ensure .ensures .0) (c .before .before .before .before .before .before .before .before .before .before .before .before .ensure .ensures .1) _ _ (c .before .before .before .before .before .before .before .before .child .given .1), child-ready _ _ _ _ (c .before .before .before .before .before .before .before .before .before .before .before .before .before .before .before .before .before .pre .1 .0) _ _ _ (c .before .before .before .before .before .before .before .before .before .before .before .before .ensure .ensures .0) (c .before .before .before .before .before .before .before .before .before .before .before .before .ensure .ensures .1) _ _ (c .before .before .before .before .before .before .before .before .child .given .1) _ (c .before .before .before .before .before .touch .ensures) .sound .room)
+
+-- src/lib.rt:184:17
+read-part-same-length : (t : ℕ) → read-part-lts.Need-same-length (read-part-claims t) (read-part-at t) read-part.Post
+read-part-same-length t c = search needs
+
+-- src/lib.rt:184:17
+read-part-returns : (t : ℕ) → read-part-lts.Need-returns (read-part-claims t) (read-part-at t) read-part.Post
+read-part-returns t c = (search (part-plain, flagged, needs), search (traced-from, observed-sound _ _ _ _ (child-ready _ _ _ _ (c .before .before .before .before .before .before .before .before .before .before .before .before .before .before .before .before .before .before .before .before .pre .1 .0) _ _ _ (c .before .before .before .before .before .before .before .before .before .before .before .before .before .before .before .ensure .ensures .0) (c .before .before .before .before .before .before .before .before .before .before .before .before .before .before .before .ensure .ensures .1) _ _ (c .before .before .before .before .before .before .before .before .before .before .before .child .given .1) _ (c .before .before .before .before .before .before .before .before .touch .ensures)) _ _ _ _ _ _ _ _ (c .before .before .observe-plain .ensures), child-grows _ _ _ _ (c .before .before .before .before .before .before .before .before .before .before .before .before .before .before .before .before .before .before .before .before .pre .1 .0) _ _ _ (c .before .before .before .before .before .before .before .before .before .before .before .before .before .before .before .ensure .ensures .0) (c .before .before .before .before .before .before .before .before .before .before .before .before .before .before .before .ensure .ensures .1) _ _ (c .before .before .before .before .before .before .before .before .before .before .before .child .given .1)))
 
 -- src/lib.rt:187:67
 read-part-name-requires : (t : ℕ) → read-part-lts.Need-name-requires (read-part-claims t) (read-part-at t) read-part.Post
@@ -429,7 +428,7 @@ read-part-same-length-2 t c = search needs
 
 -- src/lib.rt:179:1
 read-part-returns-2 : (t : ℕ) → read-part-lts.Need-returns-2 (read-part-claims t) (read-part-at t) read-part.Post
-read-part-returns-2 t c = (search (part-child, needs), search (traced-from, child-grows, c .before .before .read-value .ensures .1, c .before .before .before .before .before .before .before .before .before .before .before .before .before .before .before .ensure .ensures .0, c .before .before .before .before .before .before .before .before .before .before .before .before .before .before .before .ensure .ensures .1, c .before .before .before .before .before .before .before .before .before .before .before .child .given .1, c .before .before .before .before .before .before .before .before .before .before .before .before .before .before .before .before .before .before .before .before .before .before .pre .1 .0))
+read-part-returns-2 t c = (search (part-child, needs), search (traced-from, c .before .before .read-value .ensures .1, child-grows _ _ _ _ (c .before .before .before .before .before .before .before .before .before .before .before .before .before .before .before .before .before .before .before .before .before .before .pre .1 .0) _ _ _ (c .before .before .before .before .before .before .before .before .before .before .before .before .before .before .before .before .before .ensure .ensures .0) (c .before .before .before .before .before .before .before .before .before .before .before .before .before .before .before .before .before .ensure .ensures .1) _ _ (c .before .before .before .before .before .before .before .before .before .before .before .before .before .child .given .1)))
 
 -- src/lib.rt:179:1
 read-part-same-length-3 : (t : ℕ) → read-part-lts.Need-same-length-3 (read-part-claims t) (read-part-at t) read-part.Post
@@ -753,13 +752,13 @@ pub +enter+read-choice+read-container+read-contents+read-part+read-parts+read-va
     (λ t. read-part-lts.spec (read-part-claims t)
     (read-part-at t)
     read-part.Post
-    (read-part-is-plain-requires t)
-    (read-part-read-plain-part-requires t)
-    (read-part-same-length t)
-    (read-part-returns t)
     (read-part-ensure-requires t)
     (read-part-enum-known-child t)
     (read-part-touch-requires t)
+    (read-part-is-plain-requires t)
+    (read-part-observe-plain-requires t)
+    (read-part-same-length t)
+    (read-part-returns t)
     (read-part-name-requires t)
     (read-part-lower-requires t)
     (read-part-read-value-requires t)

@@ -1,6 +1,7 @@
--- `observe`: the kinds met, or they did not.
+-- `observe`: the type is there already, the kinds met, or they did not.
 use borrow.Author.Needs.{needs}
 use Rattle.samples.specs.Ways.{observe-kind, observe-refused}
+use Rattle.samples.specs.Same.{observe-known}
 use Rattle.samples.proofs.observe.Statement.{statement}
 use Rattle.samples.proofs.observe.Tie as tie
 
@@ -9,6 +10,9 @@ observe-spec =
     tie.close
     (tie.spec
     (λ c κs. search needs)
+    (λ c κs. search needs)
+    (λ c. search needs)
+    (λ c. search (observe-known, needs))
     (λ c κs. search needs)
     (λ c. search needs)
     (λ c κs. search needs)
