@@ -148,6 +148,9 @@ def each_option():
             yield options, commands, text
     for bit in range(10, 16):
         yield 30 | 1 << bit, cases[2], text
+    # document 01's sounding, over tables and buffers of several lengths
+    for _ in range(4):
+        yield 94, bytes.fromhex("15 16 00000600 0B 16 06000400 0D 06000400 17 15 16 00000600 08 17"), b"lengthname"
 
 
 def limits():
