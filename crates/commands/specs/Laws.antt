@@ -1,5 +1,6 @@
 -- What a command that was read is known to be: where it ends, that it can stand where it stood, that its name is good, and that it is the
 -- one with its byte.
+use Prim.{tt}
 use Prim.Native.Nat.{ℕ, zero, suc, _+_, _<_, _≤_}
 use native.Mathlib.Nat.{zero-add, le-of-suc-le-suc, not-suc-le-zero}
 use native.Mathlib.Omega.{arith}
@@ -7,14 +8,16 @@ use mathlib.Core.Path.{_≡_, refl, sym, _∙_}
 use mathlib.Core.Bool.{Bool, true, false, not, _&&_, _||_, true≢false, false≢true}
 use mathlib.Core.List.{List, [], _∷_}
 use mathlib.Core.Option.{Option, none, some}
-use borrow.Author.Tests.{leb-true, leb-false, ltb-false, eqb-true, not-false}
+use borrow.Author.Tests.{leb-true, leb-false, lt-leb, ltb-false, le-ltb, eqb-true, not-false}
 use lib.Dec.{eqb, leb, ltb}
 use lib.ListN.{length, getD, List·getD-map}
 use Rattle.logic.specs.Test.{if_then_else_, cases, both, neither}
+use Rattle.logic.specs.Flag.{if-either}
 use Rattle.text.specs.declared.Name.{Name}
 use Rattle.text.specs.Name.{inside, bytesOf}
 use Rattle.text.specs.Utf8.{isUtf8}
 use Rattle.refusal.specs.declared.Refusal.{Refusal}
+use Rattle.refusal.specs.declared.Refusal.the-variants as F
 use Rattle.commands.specs.declared.Command.{Command}
 use Rattle.commands.specs.declared.Command.the-variants as C
 use Rattle.commands.specs.declared.Due.{Due}
@@ -130,6 +133,7 @@ pub record Good (commands text : List ℕ) (at : ℕ) (due : Due) (command : Com
   pub name : badName text (nameOf command) ≡ false
   pub byte : byteOf command ≡ getD commands at 0
   pub form : command ≡ made (formOf (getD commands at 0)) commands (at + 1)
+  pub behind : next ≡ at + width (formOf (getD commands at 0))
 
 module _ (commands text : List ℕ) (at : ℕ) (due : Due) where
   good-made :
@@ -151,6 +155,7 @@ module _ (commands text : List ℕ) (at : ℕ) (due : Due) where
         name = rw made-name f;
         byte = made-byte byte commands (at + 1) small;
         form = refl;
+        behind = refl;
       }
 
   pub good : (command : Command) (next : ℕ) → readCommand commands text at due ≡ R.Command command next → Good commands text at due command next
@@ -162,6 +167,33 @@ module _ (commands text : List ℕ) (at : ℕ) (due : Due) where
       let c : made (formOf (getD commands at 0)) commands (at + 1) ≡ command = cc in
       let n : at + width (formOf (getD commands at 0)) ≡ next = cc in
       rw (← c, ← n) (good-made e f g)
+
+-- a refusal's place is the offset where something was due
+RefusedAt : ℕ → Read → Type 0
+RefusedAt at (R.Command command next) = Unit {0}
+RefusedAt at (R.Refused refusal place) = place ≡ at
+
+pub refused-place : (commands text : List ℕ) (at : ℕ) (due : Due) (refusal : Refusal) (place : ℕ) → readCommand commands text at due ≡ R.Refused refusal place → place ≡ at
+unfolding readCommand RefusedAt
+refused-place commands text at due refusal place e =
+    let P : Read → Type 0 = RefusedAt at in
+    let byte : ℕ = getD commands at 0 in
+    let known : RefusedAt at (readCommand commands text at due) = if-either P (badCommand commands at due) refl (if-either P (badName text (nameIn (formOf byte) commands (at + 1))) refl (if-either P (badKey due byte) refl tt)) in
+    rw e at known
+
+-- the converse of what is known: a command that is whole and can stand there is read, unless its name is bad
+module _ (commands text : List ℕ) (at : ℕ) (due : Due) (byte : ℕ) (is : getD commands at 0 ≡ byte) (small : byte < length forms) (fits : at + width (formOf byte) ≤ length commands) (s : stands due byte ≡ true) where
+  whole : badCommand commands at due ≡ false
+  unfolding badCommand
+  whole = rw (is, lt-leb (length commands) at (omega arith), lt-leb (length forms) byte small, le-ltb (length commands) (at + width (formOf byte)) fits, s)
+
+  pub read-made : badName text (nameIn (formOf byte) commands (at + 1)) ≡ false → badKey due byte ≡ false → readCommand commands text at due ≡ R.Command (made (formOf byte) commands (at + 1)) (at + width (formOf byte))
+  unfolding readCommand if_then_else_
+  read-made n k = rw (whole, is, n, k)
+
+  pub read-misnamed : badName text (nameIn (formOf byte) commands (at + 1)) ≡ true → readCommand commands text at due ≡ R.Refused F.BadName at
+  unfolding readCommand if_then_else_
+  read-misnamed n = rw (whole, is, n)
 
 -- where no end stands, a field that is due is one (16), and a key under map_as_struct is text (0D), with the name behind the byte
 module _ (commands text : List ℕ) (at : ℕ) (command : Command) (next : ℕ) (no-end : eqb (getD commands at 0) endByte ≡ false) where

@@ -65,44 +65,21 @@ const END: u8 = 0x17;
 // How many commands there are, from 00 on.
 const COMMANDS: u8 = 28;
 
-// How many operands each has, by its byte. A name counts as two.
-const OPERANDS: [u8; 28] = [
-    0,
-    0,
-    0,
-    0,
-    0,
-    0,
-    0,
-    0,
-    0,
-    0,
-    0,
-    0,
-    0,
-    2,
-    0,
-    0,
-    0,
-    0,
-    0,
-    1,
-    0,
-    0,
-    2,
-    0,
-    3,
-    3,
-    4,
-    3,
-];
-
-// How many operands the command with that byte has.
+// How many operands the command with that byte has. A name counts as two.
 fn operand_count(byte: u8) -> u8
     requires { ⌜ byte < length forms ⌝ }
     ensures { λ r. ⌜ r ≡ operands (formOf byte) ⌝ }
 {
-    OPERANDS[byte as usize]
+    match byte {
+        0x0D => 2,
+        0x13 => 1,
+        0x16 => 2,
+        0x18 => 3,
+        0x19 => 3,
+        0x1A => 4,
+        0x1B => 3,
+        _ => 0,
+    }
 }
 
 // A u16 from its two bytes.
@@ -168,7 +145,7 @@ impl<'a> Reader<'a> {
 }
 
 // What a reader made at an offset reads there; whoever calls these three holds no reader. First a command's byte.
-fn read_byte(commands: &[u8], at: usize) -> u8
+pub fn read_byte(commands: &[u8], at: usize) -> u8
     requires { ⌜ at < length (now commands) ⌝ }
     ensures { λ r. ⌜ r ≡ getD (now (commands .entry)) at 0 ⌝ }
 {
@@ -177,7 +154,7 @@ fn read_byte(commands: &[u8], at: usize) -> u8
 }
 
 // An operand.
-fn read_operand(commands: &[u8], at: usize) -> u16
+pub fn read_operand(commands: &[u8], at: usize) -> u16
     requires { ⌜ at + 2 ≤ length (now commands) ⌝ }
     ensures { λ r. ⌜ r ≡ operandAt (now (commands .entry)) at ⌝ }
 {
@@ -186,7 +163,7 @@ fn read_operand(commands: &[u8], at: usize) -> u16
 }
 
 // A name: its offset in the text, then its length.
-fn read_name(commands: &[u8], at: usize) -> Name
+pub fn read_name(commands: &[u8], at: usize) -> Name
     requires { ⌜ at + 4 ≤ length (now commands) ⌝ }
     ensures { λ r. ⌜ r ≡ nameAt (now (commands .entry)) at ⌝ }
 {

@@ -17,7 +17,7 @@ use Rattle.model.specs.Emission.{Field, mk, Fields, rootFields, toSchema, walk,
 use Rattle.model.specs.Answer as M
 use Rattle.model.specs.Answer.{inputLimit, tableWords, schemaOf, answerOf, isShort, turnedDown, zeroed, written, withSchema}
 use Rattle.model.specs.Demand3.{batch}
-use Rattle.places.specs.Layout.{Sound}
+use Rattle.places.specs.Layout.{Linked, Sound}
 use Rattle.places.specs.Laws.{sound-cleared}
 use Rattle.equality.specs.Count.{traced}
 use Rattle.samples.specs.declared.Traced.{Traced}
@@ -43,17 +43,18 @@ pub bytes-known : (xs : List ℕ) → ((i : ℕ) → getD xs i 0 < 256) → Byte
 bytes-known [] h = tt
 bytes-known (x ∷ xs) h = (h 0, bytes-known xs (λ i. h (suc i)))
 
--- a table with fewer places is sound with more
-pub sound-more : (text t : List ℕ) (n : ℕ) → Sound text t n → Sound text t 1024
+-- a sound table with fewer places is linked with more
+pub sound-more : (text t : List ℕ) (n : ℕ) → Sound text t n → Linked text t 1024
 sound-more text t n s =
+    let k = s .linked in
     record {
       most = omega arith;
-      room = s .room;
-      first = λ p h. (let m = s .most in let l = s .first p h in omega arith);
-      last = λ p h. (let m = s .most in let l = s .last p h in omega arith);
-      next = λ p h. (let m = s .most in let l = s .next p h in omega arith);
-      rises = s .rises;
-      names = s .names;
+      room = k .room;
+      first = λ p h. (let m = k .most in let l = k .first p h in omega arith);
+      last = λ p h. (let m = k .most in let l = k .last p h in omega arith);
+      next = λ p h. (let m = k .most in let l = k .next p h in omega arith);
+      rises = k .rises;
+      names = k .names;
     }
 
 -- ---- emission refuses at the commands' end

@@ -1,14 +1,15 @@
 -- What each function does to the words of the table.
+use mathlib.Core.Path.{_≡_}
 use mathlib.Core.Bool.{Bool, true, false, not, _&&_, _||_}
 use mathlib.Core.List.{List, [], _∷_}
 use mathlib.Core.Option.{Option, none, some}
-use Prim.Native.Nat.{ℕ, zero, suc, _+_, _%_, _^_, _<_}
+use Prim.Native.Nat.{ℕ, zero, suc, _+_, _%_, _^_, _<_, _≤_}
 use lib.Dec.{eqb, leb, ltb}
 use Rattle.logic.specs.Test.{if_then_else_}
 use Rattle.logic.specs.Turns.{Turn, again, done, turns}
 use Rattle.refusal.specs.declared.Refusal.the-variants as F
 use Rattle.text.specs.declared.Name.{Name}
-use Rattle.text.specs.Name.{bytesOf, eqName}
+use Rattle.text.specs.Name.{bytesOf, eqName, tagOf}
 use Rattle.words.specs.Word.{word, withWord}
 use Rattle.coerce.specs.Joint.{joint}
 use Rattle.model.specs.Kinds.{sequenceKind, mapKind, tupleKind, isContainer}
@@ -23,7 +24,7 @@ use Rattle.places.specs.declared.Ensured.{Ensured}
 use Rattle.places.specs.declared.Ensured.the-variants as E
 use Rattle.places.specs.declared.Made.{Made}
 use Rattle.places.specs.declared.Made.the-variants as D
-use Rattle.places.specs.Layout.{kindWord, samplesWord, firstWord, lastWord, blockWord, nextWord, parentWord, stepWord, nameWord, heldWord, markWord, Sound}
+use Rattle.places.specs.Layout.{kindWord, samplesWord, firstWord, lastWord, blockWord, nextWord, parentWord, stepWord, nameWord, heldWord, markWord, tagWord, Sound}
 
 -- ---- kinds that meet, with so many levels left
 abbrev pub ofJoint : Option ℕ → Met
@@ -59,6 +60,12 @@ findFrom text code name t child = turns (findTurn text code name t) (λ c. 0) 10
 abbrev pub findIn : List ℕ → ℕ → ℕ → Name → List ℕ → ℕ
 findIn text place code name t = findFrom text code name t (word t place firstWord)
 
+-- from a later child on the search for a field finds what it finds from an earlier one on, whatever the name with that tag
+pub record Past (tag child here : ℕ) (t : List ℕ) : Type 0 where
+  pub rises : child ≤ here
+  pub below : (text : List ℕ) (n : ℕ) → Sound text t n → child < n → here < n
+  pub same : (text : List ℕ) (n : ℕ) (name : Name) → Sound text t n → child < n → (child ≡ 0 → ⊥) → tag ≡ tagOf (bytesOf text name) → findFrom text fieldCode name t here ≡ findFrom text fieldCode name t child
+
 -- a position in the place's block stands by its number; any other child is searched for
 unfoldable pub inBlock : ℕ → ℕ → ℕ → List ℕ → Bool
 inBlock place i n t = ltb i (word t place blockWord) && ltb (word t place firstWord + i) n
@@ -82,6 +89,10 @@ described place code name child t = withWord (withWord (withWord t child parentW
 unfoldable pub appended : ℕ → ℕ → Name → ℕ → List ℕ → List ℕ
 appended place code name child t = described place code name child (withWord (linked place child t) place lastWord child)
 
+-- the tag of its name
+unfoldable pub tagged : List ℕ → Name → ℕ → List ℕ → List ℕ
+tagged text name child t = withWord t child tagWord (tagOf (bytesOf text name))
+
 -- ---- the child at a step, found or made: refusals 9 and 11
 pub data Ensuring : Type 0 where
   ensuring : Ensured → List ℕ → Ensuring
@@ -94,7 +105,7 @@ unfoldable pub ensuredBy : List ℕ → ℕ → ℕ → Name → ℕ → List �
 ensuredBy text place code name n t child =
     if not (eqb child 0) then ensuring (confirmed text name child n t) t
     else if leb placeLimit n then ensuring (E.Refused F.TooManyPlaces) t
-    else ensuring (E.Child n (n + 1)) (appended place code name n t)
+    else ensuring (E.Child n (n + 1)) (tagged text name n (appended place code name n t))
 
 unfoldable pub ensured : List ℕ → ℕ → Step → ℕ → List ℕ → Ensuring
 ensured text place step n t = ensuredBy text place (codeOf step) (nameOf step) n t (childAt text place step n t)
@@ -135,7 +146,7 @@ abbrev pub positionsFrom : ℕ → ℕ → List Step
 positionsFrom i zero = []
 positionsFrom i (suc n) = S.Position i ∷ positionsFrom (suc i) n
 
--- so many positions from i on, at a place that has none of them: appended with no search
+-- so many positions from i on, at a place that has none of them: appended with no search, and with no tag, for they are no fields
 unfoldable pub appendedFrom : ℕ → ℕ → ℕ → ℕ → List ℕ → Making
 appendedFrom place i zero n t = making (D.Places n) t
 appendedFrom place i (suc left) n t =

@@ -1,10 +1,13 @@
 -- How the tree of places stands in the work table, and what is always true of it.
 use mathlib.Core.Path.{_≡_}
+use mathlib.Core.Bool.{true}
 use mathlib.Core.List.{List}
 use Prim.Native.Nat.{ℕ, _<_, _≤_}
 use lib.ListN.{length}
+use Rattle.text.specs.Name.{bytesOf, tagOf}
+use Rattle.text.specs.Utf8.{isUtf8}
 use Rattle.words.specs.Word.{word}
-use Rattle.shapes.specs.Steps.{unpackedName, Inside}
+use Rattle.shapes.specs.Steps.{fieldCode, unpackedName, Inside}
 
 -- a place's own words: kind, whether null was seen, samples, first and last child
 abbrev pub kindWord : ℕ
@@ -53,8 +56,12 @@ markWord = 13
 abbrev pub orderedNextWord : ℕ
 orderedNextWord = 14
 
--- What is always true of a table with n places: links are places, a next child has a higher number, and names end inside the text.
-pub record Sound (text t : List ℕ) (n : ℕ) : Type 0 where
+-- the tag of its name, of which equal names have the same
+abbrev pub tagWord : ℕ
+tagWord = 15
+
+-- What is true of a table with n places: links are places, a next child has a higher number, and names end inside the text.
+pub record Linked (text t : List ℕ) (n : ℕ) : Type 0 where
   pub most : n ≤ 1024
   pub room : 16384 ≤ length t
   pub first : (p : ℕ) → p < 1024 → word t p firstWord < n
@@ -62,6 +69,16 @@ pub record Sound (text t : List ℕ) (n : ℕ) : Type 0 where
   pub next : (p : ℕ) → p < 1024 → word t p nextWord < n
   pub rises : (p : ℕ) → p < 1024 → (word t p nextWord ≡ 0 → ⊥) → p < word t p nextWord
   pub names : (p : ℕ) → p < 1024 → Inside text (unpackedName (word t p nameWord))
+
+-- the tag of a field is its name's
+abbrev pub Tagged : List ℕ → List ℕ → ℕ → Type 0
+Tagged text t p = word t p stepWord ≡ fieldCode → word t p tagWord ≡ tagOf (bytesOf text (unpackedName (word t p nameWord)))
+
+-- and while it is traced also: names are UTF-8, and fields have their tags
+pub record Sound (text t : List ℕ) (n : ℕ) : Type 0 where
+  pub linked : Linked text t n
+  pub utf8 : (p : ℕ) → p < n → isUtf8 (bytesOf text (unpackedName (word t p nameWord))) ≡ true
+  pub tags : (p : ℕ) → p < n → Tagged text t p
 
 -- and that place is one of them
 pub record Ready (text t : List ℕ) (n place : ℕ) : Type 0 where

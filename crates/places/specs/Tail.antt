@@ -23,8 +23,8 @@ use Rattle.shapes.specs.declared.Step.the-variants as S
 use Rattle.shapes.specs.Steps.{codeOf, noName, nameOf, unpackedName}
 use Rattle.places.specs.declared.Ensured.the-variants as E
 use Rattle.places.specs.declared.Made.the-variants as D
-use Rattle.places.specs.Layout.{kindWord, samplesWord, firstWord, lastWord, blockWord, nextWord, parentWord, stepWord, nameWord, heldWord, markWord, Sound}
-use Rattle.places.specs.Flat.{isAt, findTurn, findFrom, childAt, linked, described, appended, Ensuring, ensuring, confirmed, ensuredBy, ensured, touched, sampled, Making, making, ofEnsuring, madeOne, thenMade, madeAll, appendedFrom, positionsMade, made}
+use Rattle.places.specs.Layout.{kindWord, samplesWord, firstWord, lastWord, blockWord, nextWord, parentWord, stepWord, nameWord, heldWord, markWord, tagWord, Sound}
+use Rattle.places.specs.Flat.{isAt, findTurn, findFrom, childAt, linked, described, appended, tagged, Ensuring, ensuring, confirmed, ensuredBy, ensured, touched, sampled, Making, making, ofEnsuring, madeOne, thenMade, madeAll, appendedFrom, positionsMade, made}
 use Rattle.places.specs.Laws.{word-keeps, child-below}
 
 -- Of a table with n places: links are places, and the words past those of all places are the given ones.
@@ -37,7 +37,7 @@ pub record Tailed (tail t : List ℕ) (n : ℕ) : Type 0 where
 
 -- a sound table has its own
 pub tailed : (text t : List ℕ) (n : ℕ) → Sound text t n → Tailed (tailOf t) t n
-tailed text t n s = record { most = s .most; first = s .first; last = s .last; next = s .next; kept = refl }
+tailed text t n s = let l = s .linked in record { most = l .most; first = l .first; last = l .last; next = l .next; kept = refl }
 
 -- ---- stores
 module _ (tail t : List ℕ) (n : ℕ) (h : Tailed tail t n) where
@@ -116,7 +116,7 @@ TailedMaking tail n (making (D.Refused refusal) u) = tailOf u ≡ tail
 
 module _ (tail text : List ℕ) (place : ℕ) where
   pub ensured-tail : (step : Step) (n : ℕ) (t : List ℕ) → Tailed tail t n → place < n → TailedEnsuring tail n (ensured text place step n t)
-  unfolding ensured ensuredBy confirmed if_then_else_
+  unfolding ensured ensuredBy confirmed tagged if_then_else_
   ensured-tail step n t h b =
       let m : n ≤ 1024 = h .most in
       let found : childAt text place step n t < n = child-below text t n place (λ code name. find-place tail text t n code _ name h (h .first place (omega arith))) step in
@@ -125,9 +125,9 @@ module _ (tail text : List ℕ) (place : ℕ) where
       (if-either (λ r. TailedEnsuring tail n (ensuring r t)) (eqName (bytesOf text (unpackedName (word t sought nameWord))) (bytesOf text (nameOf step))) (h, le-refl n, found) (h .kept))
       (new (leb placeLimit n) refl)
     where
-      new : (full : Bool) → leb placeLimit n ≡ full → TailedEnsuring tail n (if full then ensuring (E.Refused F.TooManyPlaces) t else ensuring (E.Child n (n + 1)) (appended place (codeOf step) (nameOf step) n t))
+      new : (full : Bool) → leb placeLimit n ≡ full → TailedEnsuring tail n (if full then ensuring (E.Refused F.TooManyPlaces) t else ensuring (E.Child n (n + 1)) (tagged text (nameOf step) n (appended place (codeOf step) (nameOf step) n t)))
       new true e = h .kept
-      new false e = let r : n < placeLimit = leb-false placeLimit n e in (tailed-appended tail t n place h b r (codeOf step) (nameOf step), omega arith, omega arith)
+      new false e = let r : n < placeLimit = leb-false placeLimit n e in (tailed-other tail _ (n + 1) n tagWord _ refl r (tailed-appended tail t n place h b r (codeOf step) (nameOf step)), omega arith, omega arith)
 
   all-tail : (steps : List Step) (n : ℕ) (t : List ℕ) → Tailed tail t n → place < n → TailedMaking tail n (madeAll text place steps n t)
   unfolding madeAll madeOne

@@ -11,6 +11,7 @@ use Rattle.logic.specs.Test.{if_then_else_, cases}
 use Rattle.logic.specs.Turns.{turns, after}
 use Rattle.text.specs.declared.Name.{Name}
 use Rattle.text.specs.Name.{bytesOf, eqName}
+use Rattle.words.specs.Laws.{word-same, word-other}
 use Rattle.words.specs.Word.{word, withWord}
 use Rattle.model.specs.Kinds.{Step, position, same}
 use Rattle.model.specs.Answer.{tableWords}
@@ -23,7 +24,7 @@ use Rattle.places.specs.Flat.{isAt, findTurn, findFrom, findIn, linked, appende
 use Rattle.refine.specs.Spots.{Spot, spot, Spots, no-spots, child, num, belowS, stepsS, newSpot, spotAt, addS}
 use Rattle.refine.specs.Steps.{near, near-name, near-renames, far-same, far-renames, same-renames, stepCodeOf, nameIn, test-is, Stands, unpacked}
 use Rattle.refine.specs.Numbers.{firstOf, lastFrom, within, withinIn, nearIn, GoodIn, both-false, or-right, not-both, bounded, boundedIn, self, has-add-old, add-good, not-below}
-use Rattle.refine.specs.Rep.{word-same, word-other, size-with, ownWords, cellWords, Row, Cell, Block, no-block, Rep, RepIn, same-cell, same-block, row-set, or-left, has-num, has-below, frame, Fits, After, in-row}
+use Rattle.refine.specs.Rep.{size-with, ownWords, cellWords, Row, Cell, Block, no-block, Rep, RepIn, same-cell, same-block, row-set, or-left, has-num, has-below, frame, Fits, After, in-row}
 
 -- ---- the search
 -- no child that the search takes for it: none at the step, nor another name of a variant
@@ -135,7 +136,7 @@ module _ (text t t′ : List ℕ) (n p : ℕ) (s : Step) (cell : Cell text t′ 
       says = r .0 .says;
     },
     frame text t t′ u (r .1) (λ f l. w (num u) f (omega arith) (has-num u no-spots) (λ _ a. omega arith))
-        (λ a f l e. w a f l (or-left (within a u) false (has-below a u e)) (λ d _. not-both (withinIn a (belowS u)) e (rw d (not-below n u (g .1))))),
+        (λ a f l e. w a f (omega arith) (or-left (within a u) false (has-below a u e)) (λ d _. not-both (withinIn a (belowS u)) e (rw d (not-below n u (g .1))))),
     (cell, own, tt),
   )
     where
@@ -147,9 +148,9 @@ module _ (text t t′ : List ℕ) (n p : ℕ) (s : Step) (cell : Cell text t′ 
       let L : ℕ = lastFrom (num u) k in
       let there : withinIn L k ≡ true = last-in (num u) q′ h′ m′ u′ ks in
       let off : (a : ℕ) → within a u ≡ true → a ≡ L → ⊥ = λ a e d. not-both (withinIn L k) there (g .2 L (rw d at e)) in (
-        same-cell (r .0) (λ f l. w (num u) f l (has-num u k) (λ d _. off (num u) (self u) d)),
+        same-cell (r .0) (λ f l. w (num u) f (omega arith) (has-num u k) (λ d _. off (num u) (self u) d)),
         frame text t t′ u (r .1) (λ f l. w (num u) f (omega arith) (has-num u k) (λ d _. off (num u) (self u) d))
-            (λ a f l e. w a f l (or-left (within a u) (withinIn a k) (has-below a u e)) (λ d _. off a (has-below a u e) d)),
+            (λ a f l e. w a f (omega arith) (or-left (within a u) (withinIn a k) (has-below a u e)) (λ d _. off a (has-below a u e) d)),
         add-rep (num u) (num u) (child q′ h′ m′ u′ ks) (g .3) (r .2) (λ e. x (omega (arith, g .0))) (λ a f l e d. w a f l (or-right (within a u) (withinIn a k) e) d),
       )
 

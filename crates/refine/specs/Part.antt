@@ -6,10 +6,12 @@ use Prim.Native.Nat.{ℕ, _+_, _*_, _<_, _≤_}
 use native.Mathlib.Omega.{arith}
 use lib.ListN.{length}
 use lib.Dec.{eqb, ltb}
-use borrow.Author.Tests.{eqb-true, eqb-false, ne-eqb, ltb-true, ltb-false, lt-leb, le-leb}
+use borrow.Author.Tests.{eqb-true, eqb-false, eq-eqb, ne-eqb, ltb-true, ltb-false, lt-leb, le-leb}
 use Rattle.logic.specs.Test.{if_then_else_, cases, both}
 use Rattle.refusal.specs.declared.Refusal.{Refusal}
 use Rattle.refusal.specs.Number.{numberOf}
+use Rattle.text.specs.Name.{bytesOf, tagOf}
+use Rattle.words.specs.Laws.{word-other}
 use Rattle.words.specs.Word.{word, withWord}
 use Rattle.model.specs.Result.{Result, refused}
 use Rattle.model.specs.Kinds.{Step, position, same}
@@ -18,12 +20,12 @@ use Rattle.shapes.specs.declared.Step as Flat
 use Rattle.shapes.specs.declared.Step.the-variants as S
 use Rattle.shapes.specs.Steps.{codeOf, noName, nameOf}
 use Rattle.places.specs.declared.Ensured.the-variants as E
-use Rattle.places.specs.Flat.{findIn, inBlock, childAt, Ensuring, ensuring, confirmed, ensuredBy, ensured, appended, onward, touched}
-use Rattle.places.specs.Layout.{kindWord, samplesWord, firstWord, blockWord, nextWord, heldWord, markWord}
+use Rattle.places.specs.Flat.{findIn, inBlock, childAt, Ensuring, ensuring, confirmed, ensuredBy, ensured, appended, tagged, onward, touched}
+use Rattle.places.specs.Layout.{kindWord, samplesWord, firstWord, blockWord, nextWord, heldWord, markWord, tagWord}
 use Rattle.refine.specs.Spots.{Spot, spot, Spots, no-spots, child, num, belowS, stepsS, spotAt, putS, addS, makeS}
 use Rattle.refine.specs.Steps.{stepCodeOf, Stands}
-use Rattle.refine.specs.Numbers.{firstOf, lastFrom, within, withinIn, Good, GoodIn, both-false, or-right, not-both, un-true, bounded, boundedIn, self, found, child-good, put-has, put-good, add-among, add-found, not-below, has-is, has-same}
-use Rattle.refine.specs.Rep.{word-other, size-with, cellWords, Row, Cell, Block, Rep, RepIn, same-cell, same-block, row-set, or-left, has-below, frame, frameIn, Fits, After, stays}
+use Rattle.refine.specs.Numbers.{firstOf, lastFrom, within, withinIn, nearIn, Good, GoodIn, both-false, or-right, not-both, un-true, bounded, boundedIn, self, found, child-good, put-has, put-good, has-add, add-among, add-found, not-below, has-is, has-same}
+use Rattle.refine.specs.Rep.{size-with, cellWords, Row, Cell, Block, Rep, RepIn, same-cell, same-block, row-set, or-left, has-below, frame, frameIn, Fits, After, stays, and-then, set-tag}
 use Rattle.refine.specs.Commands.{position-stands}
 use Rattle.refine.specs.Child.{far-has, far-clashes, Sought, absent, present, another, sought, append-after}
 
@@ -33,16 +35,27 @@ pub data Ensures (text : List ℕ) (s : Step) (p : ℕ) (b : Bool) (k m : ℕ) (
       → Ensures text s p b k m ks t n at (counted n′ ks′) (ensuring (E.Child (num (spotAt s ks′)) n′) t′)
   no-place : {x : Refusal} {t′ : List ℕ} → Ensures text s p b k m ks t n at (refused (numberOf x) at) (ensuring (E.Refused x) t′)
 
+-- a new child has its tag, of which the tree says nothing
+tag-after : (text t : List ℕ) (n p : ℕ) (x : Flat.Step) (s : Step) (b : Bool) (k m : ℕ) (ks : Spots) → Stands text x s → nearIn s ks ≡ false → Fits text t n (spot p b k m ks) → n < placeLimit
+    → After text t n (spot p b k m ks) (tagged text (nameOf x) n (appended p (codeOf x) (nameOf x) n t)) (n + 1) (spot p b k m (addS s n ks))
+unfolding tagged
+tag-after text t n p x s b k m ks st far h l =
+    let u : List ℕ = appended p (codeOf x) (nameOf x) n t in
+    let a = append-after text t n p x s b k m ks st far h l in
+    let tag : ℕ = tagOf (bytesOf text (nameOf x)) in
+    and-then text t u (withWord u n tagWord tag) n (n + 1) (n + 1) (spot p b k m ks) (spot p b k m (addS s n ks)) (spot p b k m (addS s n ks)) a
+    (set-tag text u (n + 1) p b k m (addS s n ks) (a .fits) n tag (has-add n s n ks ∙ or-right (withinIn n ks) (eqb n n) (eq-eqb n n refl)))
+
 ensure-by : (text t : List ℕ) (n p : ℕ) (x : Flat.Step) (s : Step) (at : ℕ) (b : Bool) (k m : ℕ) (ks : Spots) → Stands text x s → Fits text t n (spot p b k m ks)
     → (c : ℕ) → Sought text t s ks c → Ensures text s p b k m ks t n at (makeS at s n ks) (ensuredBy text p (codeOf x) (nameOf x) n t c)
-unfolding ensuredBy confirmed makeS if_then_else_
+unfolding ensuredBy tagged confirmed makeS if_then_else_
 ensure-by text t n p x s at b k m ks st h c (absent z far) =
     rw (z, far-clashes s ks far, far-has s ks far)
     (cases (ltb n placeLimit)
     (λ i. let l : n < placeLimit = ltb-true n placeLimit i in
     rw (i, lt-leb placeLimit n l)
-    (subst (λ (c : ℕ). Ensures text s p b k m ks t n at (counted (n + 1) (addS s n ks)) (ensuring (E.Child c (n + 1)) (appended p (codeOf x) (nameOf x) n t))) (ap num (add-found s n ks (far-has s ks far)))
-    (there (add-among s n ks) (append-after text t n p x s b k m ks st far h l))))
+    (subst (λ (c : ℕ). Ensures text s p b k m ks t n at (counted (n + 1) (addS s n ks)) (ensuring (E.Child c (n + 1)) (tagged text (nameOf x) n (appended p (codeOf x) (nameOf x) n t)))) (ap num (add-found s n ks (far-has s ks far)))
+    (there (add-among s n ks) (tag-after text t n p x s b k m ks st far h l))))
     (λ i. rw (i, le-leb placeLimit n (ltb-false n placeLimit i)) no-place))
 ensure-by text t n p x s at b k m ks st h c (present z e f g) =
     let d = child-good n p s ks (h .good .2) e in
@@ -168,7 +181,7 @@ module _ (s : Step) (N : ℕ) (v : Spot) where
         rw d (
           rw w′ (cell′ (firstOf ks) q h m (r .0)),
           rv,
-          frameIn text t t′ p ks (r .2) (λ a f l i. o′ a f l (or-right (within a u) (withinIn a ks) i) (un-true (within a u) (λ j. not-both (withinIn a ks) i (g .2 a j)))),
+          frameIn text t t′ p ks (r .2) (λ a f l i. o′ a f (omega arith) (or-right (within a u) (withinIn a ks) i) (un-true (within a u) (λ j. not-both (withinIn a ks) i (g .2 a j)))),
         ))
         (λ d.
         let e′ : has s (stepsS ks) ≡ true = rw d at e in
@@ -178,8 +191,8 @@ module _ (s : Step) (N : ℕ) (v : Spot) where
         let off : (a : ℕ) → within a u ≡ true → within a (spotAt s ks) ≡ false = λ a j. un-true (within a (spotAt s ks)) (λ i. not-both (withinIn a ks) (found a s ks e′ i) (g .2 a j)) in
         let in-u : (a f : ℕ) → f < 16 → within a u ≡ true → word t′ a f ≡ word t a f = λ a f l j. o′ a f l (or-left (within a u) (withinIn a ks) j) (off a j) in
         rw d (
-          subst (λ (y : ℕ). Cell text t′ (num u) y p q h m) (sym (put-first ks e′ w′)) (same-cell (r .0) (λ f l. in-u (num u) f l (self u))),
-          frame text t t′ u (r .1) (λ f l. in-u (num u) f (omega arith) (self u)) (λ a f l i. in-u a f l (has-below a u i)),
+          subst (λ (y : ℕ). Cell text t′ (num u) y p q h m) (sym (put-first ks e′ w′)) (same-cell (r .0) (λ f l. in-u (num u) f (omega arith) (self u))),
+          frame text t t′ u (r .1) (λ f l. in-u (num u) f (omega arith) (self u)) (λ a f l i. in-u a f (omega arith) (has-below a u i)),
           put-rep (num u) ks (g .3) (r .2) e′ w′ cell′ (λ a f l i j. o′ a f l (or-right (within a u) (withinIn a ks) i) j),
         ))
 
@@ -199,7 +212,7 @@ module _ (text t : List ℕ) (n p : ℕ) (s : Step) (b : Bool) (k m : ℕ) (ks :
       record {
         rep = frame text t (touch (num u) m t) u (child-rep text t p s ks (h .rep .1) e)
             (λ f l. touch-other t (num u) m (num u) f (omega arith) (λ _. omega arith))
-            (λ q f l a. touch-other t (num u) m q f l (λ d. absurd (not-both (withinIn q (belowS u)) a (rw d (not-below n u g)))));
+            (λ q f l a. touch-other t (num u) m q f (omega arith) (λ d. absurd (not-both (withinIn q (belowS u)) a (rw d (not-below n u g)))));
         good = g;
         room = rw touch-size (h .room);
         most = h .most;

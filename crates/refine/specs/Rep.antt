@@ -11,22 +11,17 @@ use borrow.Author.Tests.{eqb-true, eqb-false}
 use Rattle.logic.specs.Test.{cases}
 use Rattle.text.specs.Name.{bytesOf}
 use Rattle.words.specs.Word.{word, withWord}
+use Rattle.words.specs.Laws.{word-same, word-other}
 use Rattle.model.specs.Kinds.{Step, position}
 use Rattle.model.specs.Answer.{tableWords}
 use Rattle.model.specs.Tracing.{one, placeLimit, has}
 use Rattle.shapes.specs.Steps.{Inside, unpackedName}
-use Rattle.places.specs.Layout.{kindWord, nullWord, samplesWord, blockWord, nextWord}
+use Rattle.places.specs.Layout.{kindWord, nullWord, samplesWord, blockWord, nextWord, tagWord}
 use Rattle.refine.specs.Spots.{Spot, spot, Spots, no-spots, child, num, belowS, stepsS, spotAt}
 use Rattle.refine.specs.Steps.{stepCodeOf, nameIn}
-use Rattle.refine.specs.Numbers.{firstOf, lastFrom, within, withinIn, Good, or-right, not-both, self}
+use Rattle.refine.specs.Numbers.{firstOf, lastFrom, within, withinIn, Good, or-right, not-both, boundedIn, self}
 
 -- ---- one word
-pub word-same : (t : List ℕ) (p f v : ℕ) → p * 16 + f < length t → word (withWord t p f v) p f ≡ v
-word-same t p f v l = getD-set-same t (p * 16 + f) v 0 l
-
-pub word-other : (t : List ℕ) (p f v q g : ℕ) → (q * 16 + g ≡ p * 16 + f → ⊥) → word (withWord t p f v) q g ≡ word t q g
-word-other t p f v q g n = getD-set-other t (p * 16 + f) (q * 16 + g) v 0 n
-
 pub size-with : (t : List ℕ) (p f v : ℕ) → length (withWord t p f v) ≡ length t
 size-with t p f v = length-set t (p * 16 + f) v
 
@@ -65,8 +60,8 @@ abbrev mutual
   RepIn text t p no-spots = Unit {0}
   RepIn text t p (child s h m u ks) = Cell text t (num u) (firstOf ks) p s h m × Rep text t u × RepIn text t p ks
 
--- a cell whose words are kept
-pub same-cell : {text t t′ : List ℕ} {q x p : ℕ} {s : Step} {h m : ℕ} → Cell text t q x p s h m → ((f : ℕ) → f < 16 → word t′ q f ≡ word t q f) → Cell text t′ q x p s h m
+-- a cell whose words are kept. The tag is none of the tree's: it is told by the name.
+pub same-cell : {text t t′ : List ℕ} {q x p : ℕ} {s : Step} {h m : ℕ} → Cell text t q x p s h m → ((f : ℕ) → f < tagWord → word t′ q f ≡ word t q f) → Cell text t′ q x p s h m
 same-cell c w = record { name = c .name; row = λ f l. w (8 + f) (omega arith) ∙ c .row f l; inside = c .inside; says = c .says }
 
 pub same-block : (t t′ : List ℕ) (p : ℕ) (ks : Spots) → word t′ p blockWord ≡ word t p blockWord → Block (word t p blockWord) ks → Block (word t′ p blockWord) ks
@@ -93,10 +88,10 @@ module _ (text : List ℕ) where
   -- words that are kept keep the tree
   mutual
     pub frame : (t t′ : List ℕ) (u : Spot) → Rep text t u → ((f : ℕ) → f < 7 → word t′ (num u) f ≡ word t (num u) f)
-        → ((q f : ℕ) → f < 16 → withinIn q (belowS u) ≡ true → word t′ q f ≡ word t q f) → Rep text t′ u
+        → ((q f : ℕ) → f < tagWord → withinIn q (belowS u) ≡ true → word t′ q f ≡ word t q f) → Rep text t′ u
     frame t t′ (spot p b k m ks) r o w = ((λ f l. o (0 + f) (omega arith) ∙ r .0 f l), frameIn t t′ p ks (r .1) w, same-block t t′ p ks (o blockWord (omega arith)) (r .2))
 
-    pub frameIn : (t t′ : List ℕ) (p : ℕ) (ks : Spots) → RepIn text t p ks → ((q f : ℕ) → f < 16 → withinIn q ks ≡ true → word t′ q f ≡ word t q f) → RepIn text t′ p ks
+    pub frameIn : (t t′ : List ℕ) (p : ℕ) (ks : Spots) → RepIn text t p ks → ((q f : ℕ) → f < tagWord → withinIn q ks ≡ true → word t′ q f ≡ word t q f) → RepIn text t′ p ks
     frameIn t t′ p no-spots r w = tt
     frameIn t t′ p (child s h m u ks) r w = (
       same-cell (r .0) (λ f l. w (num u) f l (has-num u ks)),
@@ -137,7 +132,7 @@ module _ (text : List ℕ) where
       → Row t′ p kindWord (ownWords b′ k′ m′ ks) → Block (word t′ p blockWord) ks → ((q f : ℕ) → f < 16 → (q ≡ p → 7 ≤ f) → word t′ q f ≡ word t q f) → After text t n (spot p b k m ks) t′ n (spot p b′ k′ m′ ks)
   own-with t t′ n p b b′ k k′ m m′ ks h z o β w = record {
     fits = record {
-      rep = (o, frameIn text t t′ p ks (h .rep .1) (λ q f l a. w q f l (λ e. absurd (not-both (withinIn q ks) a (rw e (h .good .1))))), β);
+      rep = (o, frameIn text t t′ p ks (h .rep .1) (λ q f l a. w q f (omega arith) (λ e. absurd (not-both (withinIn q ks) a (rw e (h .good .1))))), β);
       good = h .good;
       room = z;
       most = h .most;
@@ -175,3 +170,20 @@ module _ (text : List ℕ) where
         (λ f l. word-other t p blockWord v p (0 + f) (λ e. omega arith) ∙ h .rep .0 f l)
         (subst (λ (x : ℕ). Block x ks) (sym (word-same t p blockWord v (in-row blockWord (omega arith)))) β)
         (others blockWord v (omega arith))
+
+    -- the tag of a child
+    pub set-tag : (c v : ℕ) → withinIn c ks ≡ true → After text t n (spot p b k m ks) (withWord t c tagWord v) n (spot p b k m ks)
+    set-tag c v i =
+        let l : c < n = boundedIn n p c ks (h .good .2) i in record {
+          fits = record {
+            rep = frame text t (withWord t c tagWord v) (spot p b k m ks) (h .rep) (λ f j. word-other t c tagWord v p f (λ e. omega arith)) (λ q f j a. word-other t c tagWord v q f (λ e. omega arith));
+            good = h .good;
+            room = rw size-with (h .room);
+            most = h .most;
+            zeros = λ q f y z j. word-other t c tagWord v q f (λ e. omega arith) ∙ h .zeros q f y z j;
+          };
+          grown = omega arith;
+          same = refl;
+          keeps = λ q f y j a z. word-other t c tagWord v q f (λ e. let d : c ≡ q = omega arith in not-both (withinIn c ks) i (rw d a));
+          kept = λ q y. refl;
+        }

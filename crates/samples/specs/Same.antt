@@ -2,7 +2,7 @@
 use mathlib.Core.Path.{_≡_, refl, sym, ap, _∙_}
 use mathlib.Core.Bool.{Bool, true, false, not, _&&_}
 use mathlib.Core.List.{List, [], _∷_}
-use Prim.Native.Nat.{_-_, ℕ, zero, suc, _+_, _*_, _<_, _≤_}
+use Prim.Native.Nat.{ℕ, suc, _+_, _*_, _<_, _≤_}
 use native.Mathlib.Omega.{arith}
 use borrow.Author.Tests.{eqb-true, eqb-false, eq-eqb, ne-eqb, lt-ltb, lt-leb, ltb-true, not-true}
 use lib.Dec.{eqb, ltb}
@@ -12,7 +12,7 @@ use native.Mathlib.Numerals.{add-one}
 use native.Mathlib.Nat.{add-zero, le-refl}
 use Rattle.logic.specs.Test.{if_then_else_, cases, both}
 use Rattle.logic.specs.Flag.{if-either}
-use Rattle.logic.specs.Turns.{Turn, done, after, turns}
+use Rattle.logic.specs.Turns.{done, after, turns}
 use Rattle.datatype.specs.Codes.{null}
 use Rattle.text.specs.Name.{eqName}
 use Rattle.words.specs.Word.{word}
@@ -21,7 +21,6 @@ use Rattle.commands.specs.declared.Due.the-variants as D
 use Rattle.commands.specs.Commands.{textByte, fieldByte, endByte, stands}
 use Rattle.model.specs.Kinds.{sequenceKind}
 use Rattle.shapes.specs.declared.Step.the-variants as S
-use Rattle.shapes.specs.declared.Part.{Part}
 use Rattle.shapes.specs.declared.Part.the-variants as P
 use Rattle.shapes.specs.Steps.{codeOf, noName, packedName}
 use Rattle.shapes.specs.Shapes.{partAt}
@@ -30,10 +29,11 @@ use Rattle.places.specs.declared.Ensured.the-variants as E
 use Rattle.places.specs.Layout.{kindWord, samplesWord, firstWord, stepWord, nameWord, markWord}
 use Rattle.places.specs.Flat.{meeting, isAt, findTurn, findFrom, confirmed, ensuring, ensuredBy, childAt, ensured, touched}
 use Rattle.samples.specs.declared.Traced.the-variants as T
-use Rattle.samples.specs.Flat.{Out, out, stored, observed, Readers, dotsIn, partRead, State, state, afterPart, onPart, partTurn, partStop, partsFrom, readers}
-use Rattle.samples.specs.Ways.{observe-kind, part-child}
-use Rattle.samples.specs.Loops.{parts-more}
-use Rattle.samples.specs.Plain.{isPlain, charByte, plainKind, read-plain, value-plain}
+use Rattle.samples.specs.Flat.{Out, out, stored, observed, partRead, partsFrom, readers}
+use Rattle.samples.specs.Ways.{observe-kind, held-child, part-child}
+use Rattle.samples.specs.Loops.{elements-more}
+use Rattle.shapes.specs.Leaf.{charByte, plainKind, plain-read}
+use Rattle.samples.specs.Plain.{value-plain}
 
 -- a value that is no null, of the type that is there
 unfoldable pub isKnown : Bool → ℕ → ℕ → Bool
@@ -60,11 +60,8 @@ behindRun commands byte at = at + runOf byte (drop at commands)
 unfoldable pub pastHeld : List ℕ → ℕ → ℕ → ℕ
 pastHeld commands kind at = if isOwnByte kind then behindRun commands kind at else at
 
-unfoldable pub pastSame : List ℕ → ℕ → ℕ → ℕ → List ℕ → ℕ
-pastSame commands kind at place t =
-    if eqb kind sequenceKind
-    then (if isHeld place (word t place firstWord) t then pastHeld commands (word t (word t place firstWord) kindWord) at else at)
-    else at
+unfoldable pub pastSame : List ℕ → ℕ → ℕ → List ℕ → ℕ
+pastSame commands at place t = if isHeld place (word t place firstWord) t then pastHeld commands (word t (word t place firstWord) kindWord) at else at
 
 -- ---- one test of a known type after the other
 module _ (isNull : Bool) (before kind : ℕ) where
@@ -131,19 +128,14 @@ module _ (commands : List ℕ) (kind at : ℕ) (own : Bool) (is : own ≡ isOwnB
   unfolding pastHeld if_then_else_
   held-none e = rw (← is, e) refl
 
-module _ (commands : List ℕ) (kind at place : ℕ) (t : List ℕ) where
-  pub no-sequence : (kind ≡ sequenceKind → ⊥) → at ≡ pastSame commands kind at place t
+module _ (commands : List ℕ) (at place : ℕ) (t : List ℕ) (child : ℕ) (c : child ≡ word t place firstWord) (held : Bool) (h : held ≡ isHeld place child t) where
+  pub none-held : held ≡ false → at ≡ pastSame commands at place t
   unfolding pastSame if_then_else_
-  no-sequence d = rw (ne-eqb kind sequenceKind d) refl
+  none-held e = rw (← c, ← h, e) refl
 
-  module _ (sequence : kind ≡ sequenceKind) (child : ℕ) (c : child ≡ word t place firstWord) (held : Bool) (h : held ≡ isHeld place child t) where
-    pub none-held : held ≡ false → at ≡ pastSame commands kind at place t
-    unfolding pastSame if_then_else_
-    none-held e = rw (eq-eqb kind sequenceKind sequence, ← c, ← h, e) refl
-
-    pub one-held : (type r : ℕ) → held ≡ true → type ≡ word t child kindWord → r ≡ pastHeld commands type at → r ≡ pastSame commands kind at place t
-    unfolding pastSame if_then_else_
-    one-held type r e k p = rw (eq-eqb kind sequenceKind sequence, ← c, ← h, e, ← k) p
+  pub one-held : (type r : ℕ) → held ≡ true → type ≡ word t child kindWord → r ≡ pastHeld commands type at → r ≡ pastSame commands at place t
+  unfolding pastSame if_then_else_
+  one-held type r e k p = rw (← c, ← h, e, ← k) p
 
 -- ---- the loop over a run: what is left of it gives the same as the whole
 module _ (commands : List ℕ) (byte here r : ℕ) (whole : behindRun commands byte here ≡ r) where
@@ -176,28 +168,6 @@ unfolding plainKind if_then_else_
 own-observed options kind levels here behind place n t own e =
     let small : kind < charByte = own-known kind own .1 in
     rw (ne-eqb kind charByte (λ q. omega arith), ne-eqb kind 0 (own-known kind own .0)) (observed-again options kind levels here behind place n t e (omega arith))
-
--- ---- what was read before counts for nothing in a sequence
-module _ (commands text : List ℕ) (inner : Readers) (positions place : ℕ) where
-  abbrev turn : State → Turn State Out
-  turn = partTurn commands text inner sequenceKind positions place
-
-  any-count : (f i j at n : ℕ) (t : List ℕ) → turns turn partStop f (state i at n t) ≡ turns turn partStop f (state j at n t)
-  unfolding turns after partTurn partAt if_then_else_
-  any-count zero i j at n t = refl
-  any-count (suc f) i j at n t = onward (λ i j at n t. any-count f i j at n t) (partAt commands text sequenceKind positions 0 at)
-    where
-      Ih : Type 0
-      Ih = (i j at n : ℕ) (t : List ℕ) → turns turn partStop f (state i at n t) ≡ turns turn partStop f (state j at n t)
-
-      read : Ih → (o : Out) → after (λ s. turns turn partStop f s) (afterPart (i + 1) o) ≡ after (λ s. turns turn partStop f s) (afterPart (j + 1) o)
-      read ih (out (T.Next behind m) u) = ih (i + 1) (j + 1) behind m u
-      read ih (out (T.Refused refusal offset) u) = refl
-
-      onward : Ih → (part : Part) → after (λ s. turns turn partStop f s) (onPart text inner place i at n t part) ≡ after (λ s. turns turn partStop f s) (onPart text inner place j at n t part)
-      onward ih (P.Ended behind) = refl
-      onward ih (P.Step step value) = read ih (partRead text inner step at value place n t)
-      onward ih (P.Refused refusal offset) = refl
 
 -- ---- one such element
 -- the child is found, and is not counted again
@@ -234,73 +204,69 @@ module _ (place : ℕ) (t : List ℕ) (held : isHeld place (word t place firstWo
   held-ensured text n = rw (held-found text, ne-eqb child 0 (held-known .0), held-confirmed text n) refl
 
 -- ---- a run of them
-module _ (commands text : List ℕ) (options levels positions place n : ℕ) (t : List ℕ) (kind : ℕ)
+module _ (commands text : List ℕ) (options levels place n : ℕ) (t : List ℕ) (kind : ℕ)
     (held : isHeld place (word t place firstWord) t ≡ true) (own : isOwnByte kind ≡ true) (has : word t (word t place firstWord) kindWord ≡ kind) where
-  abbrev rest : ℕ → ℕ → Out
-  rest i at = partsFrom commands text (readers commands text options levels) sequenceKind positions place i at n t
+  abbrev rest : ℕ → Out
+  rest at = partsFrom commands text (readers commands text options levels) sequenceKind 0 place 0 at n t
 
   module _ (at : ℕ) (inside : at < length commands) (byte : getD commands at 0 ≡ kind) where
-    is-plain : isPlain commands at ≡ true
-    unfolding isPlain
-    is-plain = let small : kind < charByte = own-known kind own .1 in rw (lt-ltb at (length commands) inside, byte, lt-ltb kind textByte (omega arith)) refl
+    small : kind < charByte
+    small = own-known kind own .1
 
-    element-stands : stands D.ValueOrEnd (getD commands at 0) ≡ true
-    element-stands = let small : kind < charByte = own-known kind own .1 in rw (byte, ne-eqb kind fieldByte (λ q. omega arith)) refl
+    element-stands : stands D.ValueOrEnd kind ≡ true
+    element-stands = let h : kind < charByte = small in rw (ne-eqb kind fieldByte (λ q. omega arith)) refl
 
-    is-step : (i : ℕ) → P.Step S.Element at ≡ partAt commands text sequenceKind positions i at
+    is-step : P.Step S.Element at ≡ partAt commands text sequenceKind 0 0 at
     unfolding partAt if_then_else_
-    is-step i = let small : kind < charByte = own-known kind own .1 in rw (read-plain commands at is-plain text D.ValueOrEnd element-stands refl, byte, ne-eqb kind endByte (λ q. omega arith)) refl
+    is-step = let h : kind < charByte = small in rw (plain-read commands text at kind D.ValueOrEnd byte inside (omega arith) element-stands refl, byte, ne-eqb kind endByte (λ q. omega arith)) refl
 
     element : out (T.Next (at + 1) n) t ≡ partRead text (readers commands text options levels) S.Element at at place n t
     element =
-        part-child commands text options levels S.Element at at place n t t (E.Child (word t place firstWord) n) (held-ensured place t held text n)
-        (word t place firstWord) n (levels - dotsIn text noName) noName t (out (T.Next (at + 1) n) t) refl (held-touched place t held) refl refl
-        (value-plain commands at is-plain text options (levels - dotsIn text noName) (word t place firstWord) n t (out (T.Next (at + 1) n) t)
-        (rw byte (own-observed options kind (levels - dotsIn text noName) at (at + 1) (word t place firstWord) n t own has)))
+        part-child commands text options levels S.Element at at place n t t (E.Child (word t place firstWord) n)
+        (held-child text t t n place S.Element (E.Child (word t place firstWord) n) (held-ensured place t held text n) (word t place firstWord) n t refl (held-touched place t held))
+        (word t place firstWord) n (out (T.Next (at + 1) n) t) refl refl
+        (let h : kind < charByte = small in
+        value-plain commands text at kind options levels (word t place firstWord) n t (out (T.Next (at + 1) n) t) byte inside (omega arith)
+        (own-observed options kind levels at (at + 1) (word t place firstWord) n t own has))
 
-    goes : (i : ℕ) → rest (i + 1) (at + 1) ≡ rest i at
-    goes i =
-        parts-more commands text options levels sequenceKind positions place i at n t (rest i at) refl (P.Step S.Element at) (is-step i) S.Element at refl
+    goes : rest (at + 1) ≡ rest at
+    goes =
+        elements-more commands text options levels place at n t (rest at) refl (P.Step S.Element at) is-step S.Element at refl
         (T.Next (at + 1) n) t element (at + 1) n refl
 
-  any-from : (i j at : ℕ) → rest i at ≡ rest j at
-  unfolding partsFrom
-  any-from i j at = any-count commands text (readers commands text options levels) positions place (length commands + 1) i j at n t
-
-  same-run : (xs : List ℕ) (i at : ℕ) → drop at commands ≡ xs → rest i (at + runOf kind xs) ≡ rest i at
+  same-run : (xs : List ℕ) (at : ℕ) → drop at commands ≡ xs → rest (at + runOf kind xs) ≡ rest at
   unfolding runOf if_then_else_
-  same-run [] i at e = rw add-zero refl
-  same-run (b ∷ bs) i at e =
+  same-run [] at e = rw add-zero refl
+  same-run (b ∷ bs) at e =
       let inside : at < length commands = omega (arith, length-drop at commands, ap length e) in
       let front : drop at commands ≡ getD commands at 0 ∷ drop (at + 1) commands = rw add-one (drop-cons commands at 0 inside) in
       let is : getD commands at 0 ≡ b = cc in
       let others : drop (at + 1) commands ≡ bs = cc in
       cases (eqb b kind)
-      (λ q. let shift : at + suc (runOf kind bs) ≡ at + 1 + runOf kind bs = omega arith in rw (q, shift) (same-run bs i (at + 1) others ∙ any-from i (i + 1) (at + 1) ∙ goes at inside (is ∙ eqb-true b kind q) i))
+      (λ q. let shift : at + suc (runOf kind bs) ≡ at + 1 + runOf kind bs = omega arith in rw (q, shift) (same-run bs (at + 1) others ∙ goes at inside (is ∙ eqb-true b kind q)))
       (λ q. rw (q, add-zero) refl)
 
 -- what is left behind them is what was left
-module _ (commands text : List ℕ) (options levels kind positions place i at n : ℕ) (t : List ℕ) where
-  past-rest : partsFrom commands text (readers commands text options levels) kind positions place i (pastSame commands kind at place t) n t ≡ partsFrom commands text (readers commands text options levels) kind positions place i at n t
+module _ (commands text : List ℕ) (options levels place at n : ℕ) (t : List ℕ) where
+  abbrev left : ℕ → Out
+  left a = partsFrom commands text (readers commands text options levels) sequenceKind 0 place 0 a n t
+
+  past-rest : left (pastSame commands at place t) ≡ left at
   unfolding pastSame pastHeld behindRun if_then_else_
   past-rest =
-      cases (eqb kind sequenceKind)
-      (λ e. cases (isHeld place (word t place firstWord) t)
+      cases (isHeld place (word t place firstWord) t)
       (λ held. cases (isOwnByte (word t (word t place firstWord) kindWord))
-      (λ own. rw (eqb-true kind sequenceKind e, held, own) (same-run commands text options levels positions place n t (word t (word t place firstWord) kindWord) held own refl (drop at commands) i at refl))
-      (λ other. rw (e, held, other) refl))
-      (λ other. rw (e, other) refl))
-      (λ e. rw e refl)
+      (λ own. rw (held, own) (same-run commands text options levels place n t (word t (word t place firstWord) kindWord) held own refl (drop at commands) at refl))
+      (λ other. rw (held, other) refl))
+      (λ other. rw other refl)
 
-  pub parts-same : (behind : ℕ) (r : Out) → behind ≡ pastSame commands kind at place t → partsFrom commands text (readers commands text options levels) kind positions place i at n t ≡ r → partsFrom commands text (readers commands text options levels) kind positions place i behind n t ≡ r
-  parts-same behind r e whole = rw e (past-rest ∙ whole)
+  pub elements-same : (behind : ℕ) (r : Out) → behind ≡ pastSame commands at place t → left at ≡ r → left behind ≡ r
+  elements-same behind r e whole = rw e (past-rest ∙ whole)
 
-pub same-above : (commands : List ℕ) (kind at place : ℕ) (t : List ℕ) (behind : ℕ) → behind ≡ pastSame commands kind at place t → at ≤ behind
+pub same-above : (commands : List ℕ) (at place : ℕ) (t : List ℕ) (behind : ℕ) → behind ≡ pastSame commands at place t → at ≤ behind
 unfolding pastSame pastHeld behindRun
-same-above commands kind at place t behind e =
+same-above commands at place t behind e =
     rw e
-    (if-either (λ x. at ≤ x) (eqb kind sequenceKind)
     (if-either (λ x. at ≤ x) (isHeld place (word t place firstWord) t)
     (if-either (λ x. at ≤ x) (isOwnByte (word t (word t place firstWord) kindWord)) (omega arith) (le-refl at))
-    (le-refl at))
     (le-refl at))

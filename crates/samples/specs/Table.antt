@@ -1,20 +1,24 @@
 -- The table stays sound while values are read, and its places stay places.
-use Rattle.logic.specs.Test.{if_then_else_}
 use Prim.{tt}
 use mathlib.Core.Path.{_≡_, refl, sym, _∙_}
-use mathlib.Core.Bool.{Bool}
+use mathlib.Core.Bool.{Bool, true, false, _||_, false≢true}
 use mathlib.Core.List.{List}
 use Prim.Native.Nat.{_-_, ℕ, zero, suc, _+_, _*_, _<_, _≤_}
 use native.Mathlib.Nat.{le-refl}
 use native.Mathlib.Omega.{arith}
-use borrow.Author.Tests.{le-leb}
+use borrow.Author.Tests.{ne-eqb, leb-false}
 use lib.Dec.{eqb, ltb}
 use lib.ListN.{length, getD}
+use Rattle.logic.specs.Test.{if_then_else_, cases}
 use Rattle.logic.specs.Flag.{if-either}
 use Rattle.logic.specs.Turns.{Says, holds}
 use Rattle.refusal.specs.declared.Refusal.{Refusal}
+use Rattle.refusal.specs.declared.Refusal.the-variants as F
+use Rattle.text.specs.declared.Name.{Name}
 use Rattle.words.specs.Word.{word}
+use Rattle.model.specs.Kinds.{sequenceKind, structKind, mapKind, tupleKind, unionKind, mapModeKind, isContainer, isStruct}
 use Rattle.shapes.specs.declared.Step.{Step}
+use Rattle.shapes.specs.declared.Step.the-variants as S
 use Rattle.places.specs.declared.Met.{Met}
 use Rattle.places.specs.declared.Met.the-variants as M
 use Rattle.places.specs.declared.Ensured.{Ensured}
@@ -22,27 +26,30 @@ use Rattle.places.specs.declared.Ensured.the-variants as E
 use Rattle.places.specs.declared.Made.{Made}
 use Rattle.places.specs.declared.Made.the-variants as D
 use Rattle.places.specs.Layout.{kindWord, nullWord, firstWord, Sound, Ready}
-use Rattle.places.specs.Flat.{meeting, ensuring, ensured, touched, sampled, making, made, SoundEnsured, SoundMade}
+use Rattle.shapes.specs.Steps.{fieldCode}
+use Rattle.places.specs.Flat.{meeting, findIn, Ensuring, ensuring, ensuredBy, ensured, touched, sampled, Making, making, made, SoundEnsured, SoundMade}
 use Rattle.places.specs.Laws.{sound-plain, sound-sampled, sound-touched, ensured-grows}
 use Rattle.places.specs.Laws as L
+use Rattle.samples.specs.declared.Opened.{Opened}
+use Rattle.samples.specs.declared.Opened.the-variants as O
 use Rattle.samples.specs.declared.Traced.{Traced}
 use Rattle.samples.specs.declared.Traced.the-variants as T
-use Rattle.samples.specs.Flat.{Chain, chain, someByte, isMark, marked, pastTurn, pastMarks, Out, out, onMet, stored, observed, SoundTraced}
+use Rattle.samples.specs.Flat.{Chain, chain, someByte, isMark, marked, pastTurn, pastMarks, Out, out, onMet, stored, observed, isParted, holding, held, madeWhere, containerMade, heldWhere, variantHeld, SoundTraced, SoundOpened}
+use Rattle.samples.specs.Ways.{field-new}
+
+sub-le : (a b : ℕ) → a - b ≤ a
+sub-le a b = omega arith
 
 -- a place that is ready is one of the table
 module _ (text t : List ℕ) (n place : ℕ) (ready : Ready text t n place) where
   pub is-place : place < 1024
-  is-place = let m : n ≤ 1024 = ready .sound .most in let h : place < n = ready .here in omega arith
+  is-place = let m : n ≤ 1024 = ready .sound .linked .most in let h : place < n = ready .here in omega arith
 
   pub has-room : 16384 ≤ length t
-  has-room = ready .sound .room
+  has-room = ready .sound .linked .room
 
   pub sampled-ready : (u : List ℕ) (kind : ℕ) → u ≡ sampled place kind t → Ready text u n place
   sampled-ready u kind e = record { sound = sound-sampled text t u n place kind e (ready .sound); here = ready .here }
-
-  -- the children that a container makes
-  pub made-ready : (joint kind positions before m : ℕ) (u v : List ℕ) (did : Made) → u ≡ sampled place joint t → making did v ≡ made text place kind positions before n u → SoundMade text v did → did ≡ D.Places m → Ready text v m place
-  made-ready joint kind positions before m u v did e d s p = L.made-ready text u v n m place kind positions before did (sampled-ready u joint e) d s p
 
   -- past the marks before a value
   pub past-ready : (commands : List ℕ) (at here : ℕ) (u : List ℕ) → chain here u ≡ pastMarks commands at place t → Ready text u n place
@@ -72,22 +79,32 @@ module _ (text t : List ℕ) (n place : ℕ) (ready : Ready text t n place) wher
           (if-either (λ x. Sound text x n) isNull (sound-plain text _ n place nullWord 1 refl (sound-plain text t n place kindWord joint refl (ready .sound))) (sound-plain text t n place kindWord joint refl (ready .sound)), le-refl n)
       go (M.Refused refusal) = tt
 
-  -- the child at a step
-  module _ (step : Step) (u : List ℕ) (did : Ensured) (d : ensuring did u ≡ ensured text place step n t) (s : SoundEnsured text u did) (child m : ℕ) (e : did ≡ E.Child child m) where
-    pub child-grows : n ≤ m
-    child-grows = ensured-grows text t n place step did u child m d e
+-- ---- a child, before and after it is held
+module _ (text u : List ℕ) (did : Ensured) (s : SoundEnsured text u did) (child m : ℕ) (e : did ≡ E.Child child m) where
+  child-sound : Sound text u m × (child < m)
+  child-sound = rw e at s
 
-    child-sound : Sound text u m × (child < m)
-    child-sound = rw e at s
+  pub child-room : 16384 ≤ length u
+  child-room = child-sound .0 .linked .room
 
-    pub child-room : 16384 ≤ length u
-    child-room = child-sound .0 .room
+  pub child-place : child < 1024
+  child-place = let b : m ≤ 1024 = child-sound .0 .linked .most in let h : child < m = child-sound .1 in omega arith
 
-    pub child-place : child < 1024
-    child-place = let b : m ≤ 1024 = child-sound .0 .most in let h : child < m = child-sound .1 in omega arith
+  pub child-held : (place : ℕ) (v : List ℕ) → v ≡ touched place child u → SoundEnsured text v (E.Child child m)
+  child-held place v h = (sound-touched text u v m place child h (child-sound .0), child-sound .1)
 
-    pub child-ready : (v : List ℕ) → v ≡ touched place child u → Ready text v m child
-    child-ready v h = record { sound = sound-touched text u v m place child h (child-sound .0); here = child-sound .1 }
+  pub held-ready : Ready text u m child
+  held-ready = L.child-ready text u did child m s e
+
+  -- a field that is new
+  pub new-opened : (place n : ℕ) (name : Name) (t v : List ℕ) → findIn text place fieldCode name t ≡ 0 → ensuring did u ≡ ensuredBy text place fieldCode name n t 0 → v ≡ touched place child u → SoundOpened text v n (O.Child child m)
+  new-opened place n name t v absent d h =
+      let g : Sound text v m × (child < m) = child-held place v h in
+      (record { sound = g .0; here = g .1 }, ensured-grows text t n place (S.Field name) did u child m (d ∙ field-new text t n place name absent) e)
+
+-- a field that was seen
+pub known-opened : (text t v : List ℕ) (n place child : ℕ) → Ready text t n place → child < n → v ≡ touched place child t → SoundOpened text v n (O.Child child n)
+known-opened text t v n place child ready l h = (record { sound = sound-touched text t v n place child h (ready .sound); here = l }, le-refl n)
 
 -- ---- the root
 pub root-ready : (text t : List ℕ) → Sound text t 1 → Ready text t 1 0
@@ -120,20 +137,130 @@ module _ (text t : List ℕ) (n : ℕ) (r : Traced) (s : SoundTraced text t n r)
     pub traced-first : (place : ℕ) → place < n → (place < 1024) × (16384 ≤ length t) × (word t place firstWord < 1024)
     traced-first place h =
         let ready : Ready text t m place = traced-ready place h in
-        let most : m ≤ 1024 = ready .sound .most in
+        let most : m ≤ 1024 = ready .sound .linked .most in
         let is : place < 1024 = is-place text t m place ready in
-        let first : word t place firstWord < m = ready .sound .first place is in
-        (is, ready .sound .room, omega arith)
+        let first : word t place firstWord < m = ready .sound .linked .first place is in
+        (is, ready .sound .linked .room, omega arith)
 
--- the measure of the readers falls below a variant
-pub falls : (levels measure : ℕ) → 8 * levels + 2 ≡ measure → 0 < levels → 8 * (levels - 1) + 5 < measure
-falls levels measure e h = omega arith
+-- ---- what was opened: no place is lost, and there was a level left
+module _ (n : ℕ) where
+  abbrev GrowsChild : Ensuring → Type 0
+  GrowsChild (ensuring (E.Child c k) v) = n ≤ k
+  GrowsChild (ensuring (E.Refused refusal) v) = Unit {0}
 
--- a container met a kind: there was a level left
-pub met-left : (options levels before kind joint : ℕ) (met : Met) → met ≡ meeting options levels before kind → met ≡ M.Kind joint → 22 ≤ kind → 0 < levels
+  abbrev GrowsMade : Making → Type 0
+  GrowsMade (making (D.Places k) v) = n ≤ k
+  GrowsMade (making (D.Refused refusal) v) = Unit {0}
+
+  all-held : (text : List ℕ) (place : ℕ) (step : Step) (t : List ℕ) → GrowsChild (held text place step n t)
+  unfolding held
+  all-held text place step t = go (ensured text place step n t) (λ r v c k q p. ensured-grows text t n place step r v c k q p)
+    where
+      go : (x : Ensuring) → ((r : Ensured) (v : List ℕ) (c k : ℕ) → ensuring r v ≡ x → r ≡ E.Child c k → n ≤ k) → GrowsChild (holding place x)
+      go (ensuring (E.Child c k) v) h = h (E.Child c k) v c k refl refl
+      go (ensuring (E.Refused refusal) v) h = tt
+
+  all-made : (text : List ℕ) (place kind positions before : ℕ) (t : List ℕ) → GrowsMade (made text place kind positions before n t)
+  all-made text place kind positions before t = go (made text place kind positions before n t) (λ r v k q p. L.made-grows text t v n k place kind positions before r q p)
+    where
+      go : (x : Making) → ((r : Made) (v : List ℕ) (k : ℕ) → making r v ≡ x → r ≡ D.Places k → n ≤ k) → GrowsMade x
+      go (making (D.Places k) v) h = h (D.Places k) v k refl refl
+      go (making (D.Refused refusal) v) h = tt
+
+-- a container where no level is left
+too-deep : (options kind other : ℕ) → isContainer other ≡ true → meeting options 0 kind other ≡ M.Refused F.TooDeep
 unfolding meeting if_then_else_
-met-left options zero before kind joint met d e h = absurd (no (rw (le-leb 22 kind h) at (sym d ∙ e)))
-  where
-    no : {refusal : Refusal} → M.Refused refusal ≡ M.Kind joint → ⊥
-    no q = let z : _≡_ {A = ℕ} 0 1 = cc in omega arith
-met-left options (suc levels) before kind joint met d e h = omega arith
+too-deep options kind other e = rw e refl
+
+parted-container : (kind : ℕ) → isParted kind ≡ true → isContainer kind ≡ true
+unfolding isParted
+parted-container kind is =
+    cases (isContainer kind) (λ e. e) (λ e.
+    let small : kind < 22 = leb-false 22 kind e in
+    absurd (false≢true (rw (ne-eqb kind structKind (λ q. omega arith), ne-eqb kind mapModeKind (λ q. omega arith), ne-eqb kind sequenceKind (λ q. omega arith), ne-eqb kind mapKind (λ q. omega arith), ne-eqb kind tupleKind (λ q. omega arith)) at is)))
+
+module _ (text t u : List ℕ) (options levels kind positions place n : ℕ) (did : Made) (d : making did u ≡ containerMade text options levels kind positions place n t) (m : ℕ) (e : did ≡ D.Places m) where
+  opened-grows : n ≤ m
+  unfolding containerMade
+  opened-grows = rw (← d, e) at (go (meeting options levels (word t place kindWord) kind))
+    where
+      go : (met : Met) → GrowsMade n (madeWhere t (λ joint. made text place kind positions (word t place kindWord) n (sampled place joint t)) met)
+      go (M.Kind joint) = all-made n text place kind positions (word t place kindWord) (sampled place joint t)
+      go (M.Refused refusal) = tt
+
+  pub opened-from : (r : Traced) (v : List ℕ) → SoundTraced text v m r → SoundTraced text v n r
+  opened-from r v s = traced-from text v m r s n opened-grows
+
+  pub opened-ready : Ready text t n place → SoundMade text u did → Ready text u m place
+  opened-ready ready s = let g : n ≤ m = opened-grows in let h : place < n = ready .here in record { sound = rw e at s; here = omega arith }
+
+  pub opened-left : isParted kind ≡ true → 0 < levels
+  unfolding containerMade
+  opened-left is = go levels d
+    where
+      differ : {refusal : Refusal} → making (D.Places m) u ≡ making (D.Refused refusal) t → ⊥
+      differ q = let z : _≡_ {A = ℕ} 0 1 = cc in omega arith
+
+      go : (l : ℕ) → making did u ≡ madeWhere t (λ joint. made text place kind positions (word t place kindWord) n (sampled place joint t)) (meeting options l (word t place kindWord) kind) → 0 < l
+      go zero q = absurd (differ (rw (e, too-deep options (word t place kindWord) kind (parted-container kind is)) at q))
+      go (suc l) q = omega arith
+
+module _ (text t u : List ℕ) (options levels number : ℕ) (name : Name) (place n : ℕ) (did : Ensured) (d : ensuring did u ≡ variantHeld text options levels number name place n t) (child m : ℕ) (e : did ≡ E.Child child m) where
+  chosen-grows : n ≤ m
+  unfolding variantHeld
+  chosen-grows = rw (← d, e) at (go (meeting options levels (word t place kindWord) unionKind))
+    where
+      go : (met : Met) → GrowsChild n (heldWhere t (λ joint. held text place (S.Variant number name) n (sampled place joint t)) met)
+      go (M.Kind joint) = all-held n text place (S.Variant number name) (sampled place joint t)
+      go (M.Refused refusal) = tt
+
+  pub chosen-from : (r : Traced) (v : List ℕ) → SoundTraced text v m r → SoundTraced text v n r
+  chosen-from r v s = traced-from text v m r s n chosen-grows
+
+  pub chosen-left : 0 < levels
+  unfolding variantHeld
+  chosen-left = go levels d
+    where
+      differ : {refusal : Refusal} → ensuring (E.Child child m) u ≡ ensuring (E.Refused refusal) t → ⊥
+      differ q = let z : _≡_ {A = ℕ} 0 1 = cc in omega arith
+
+      go : (l : ℕ) → ensuring did u ≡ heldWhere t (λ joint. held text place (S.Variant number name) n (sampled place joint t)) (meeting options l (word t place kindWord) unionKind) → 0 < l
+      go zero q = absurd (differ (rw (e, too-deep options (word t place kindWord) unionKind refl) at q))
+      go (suc l) q = omega arith
+
+module _ (text t u : List ℕ) (place n : ℕ) (step : Step) (did : Ensured) (d : ensuring did u ≡ held text place step n t) (child m : ℕ) (e : did ≡ E.Child child m) where
+  pub held-from : (r : Traced) (v : List ℕ) → SoundTraced text v m r → SoundTraced text v n r
+  held-from r v s = traced-from text v m r s n (rw (← d, e) at (all-held n text place step t))
+
+-- the child of a field is ready
+module _ (text u : List ℕ) (n : ℕ) (did : Opened) (s : SoundOpened text u n did) where
+  pub field-ready : (child m : ℕ) → did ≡ O.Child child m → Ready text u m child
+  field-ready child m e = (rw e at s) .0
+
+  pub field-grows : (child m : ℕ) → did ≡ O.Child child m → n ≤ m
+  field-grows child m e = (rw e at s) .1
+
+  pub field-still : (child m place : ℕ) → did ≡ O.Child child m → place < n → place < m
+  field-still child m place e h = let g : n ≤ m = field-grows child m e in omega arith
+
+  pub field-ends : (at : ℕ) → did ≡ O.Ended → SoundTraced text u n (T.Next at n)
+  field-ends at e = (rw e at s, le-refl n)
+
+-- ---- the measure of the readers falls: a container's parts have one level less, and names take one for each dot
+pub falls-parts : (levels measure : ℕ) → 8 * levels + 1 ≡ measure → 0 < levels → 8 * (levels - 1) + 7 < measure
+falls-parts levels measure e h = omega arith
+
+pub falls-contents : (levels lower dots measure : ℕ) → 8 * levels + 1 ≡ measure → 0 < levels → lower ≡ levels - 1 - dots → 8 * lower + 4 < measure
+falls-contents levels lower dots measure e h l = let m : lower ≤ levels - 1 = rw l (sub-le (levels - 1) dots) in omega arith
+
+pub falls-named : (levels lower dots measure : ℕ) → 8 * levels + 3 ≡ measure → lower ≡ levels - dots → 8 * lower + 2 < measure
+falls-named levels lower dots measure e l = let m : lower ≤ levels = rw l (sub-le levels dots) in omega arith
+
+-- ---- the kinds that commands open
+pub struct-parted : isParted structKind ≡ true
+unfolding isParted
+struct-parted = refl
+
+pub tuple-parted : isParted tupleKind ≡ true
+unfolding isParted
+tuple-parted = refl

@@ -1,39 +1,58 @@
 -- The ways through the readers: what each answers where its callees answered so.
-use Prim.{Unit}
+use Prim.{tt}
 use mathlib.Core.Path.{_≡_, refl, sym, ap, _∙_}
-use mathlib.Core.Bool.{Bool, true}
+use mathlib.Core.Bool.{Bool, true, false, false≢true}
 use mathlib.Core.List.{List}
-use Prim.Native.Nat.{_-_, ℕ, zero, suc, _<_}
+use Prim.Native.Nat.{_-_, ℕ, zero, suc, _+_, _<_}
 use native.Mathlib.Omega.{arith}
+use borrow.Author.Tests.{ne-eqb, lt-leb}
+use lib.Dec.{eqb}
+use lib.ListN.{length}
+use Rattle.logic.specs.Test.{if_then_else_, cases}
+use Rattle.logic.specs.Flag.{if-either}
 use Rattle.datatype.specs.Codes.{null}
+use Rattle.options.specs.Word.{mapAsStruct}
 use Rattle.refusal.specs.declared.Refusal.{Refusal}
 use Rattle.refusal.specs.declared.Refusal.the-variants as F
 use Rattle.text.specs.declared.Name.{Name}
+use Rattle.text.specs.Name.{bytesOf, dots}
+use Rattle.text.specs.Utf8.{isUtf8}
 use Rattle.words.specs.Word.{word}
 use Rattle.commands.specs.declared.Command.{Command}
+use Rattle.commands.specs.declared.Command.the-variants as C
 use Rattle.commands.specs.declared.Read.{Read}
 use Rattle.commands.specs.declared.Read.the-variants as R
 use Rattle.commands.specs.declared.Due.the-variants as D
 use Rattle.commands.specs.Commands.{readCommand, refusalOf, placeOf}
-use Rattle.model.specs.Kinds.{structKind, tupleKind, unionKind}
+use Rattle.model.specs.Kinds.{sequenceKind, structKind, tupleKind, unionKind}
 use Rattle.shapes.specs.declared.Step.{Step}
 use Rattle.shapes.specs.declared.Step.the-variants as S
 use Rattle.shapes.specs.declared.Contents.{Contents}
 use Rattle.shapes.specs.declared.Contents.the-variants as N
 use Rattle.shapes.specs.declared.Shape.{Shape}
 use Rattle.shapes.specs.declared.Shape.the-variants as H
-use Rattle.shapes.specs.Steps.{nameOf}
-use Rattle.shapes.specs.Shapes.{shapeAt}
+use Rattle.shapes.specs.Steps.{fieldCode, noName, nameOf, Inside, Good}
+use Rattle.shapes.specs.Laws.{no-name-good}
+use Rattle.shapes.specs.Shapes.{shapeAt, structAt}
+use Rattle.shapes.specs.Told.{struct-read, struct-inside}
 use Rattle.places.specs.declared.Met.{Met}
 use Rattle.places.specs.declared.Met.the-variants as M
 use Rattle.places.specs.declared.Ensured.{Ensured}
 use Rattle.places.specs.declared.Ensured.the-variants as E
 use Rattle.places.specs.declared.Made.{Made}
 use Rattle.places.specs.declared.Made.the-variants as L
-use Rattle.places.specs.Layout.{kindWord}
-use Rattle.places.specs.Flat.{meeting, ensuring, ensured, making, made, touched, sampled}
+use Rattle.places.specs.Layout.{kindWord, stepWord, Ready}
+use Rattle.places.specs.Flat.{meeting, isAt, findIn, childAt, Ensuring, ensuring, confirmed, ensuredBy, ensured, making, made, touched, sampled}
+use Rattle.places.specs.Laws.{first-below, find-stands, found-utf8}
+use Rattle.samples.specs.declared.Opened.the-variants as O
 use Rattle.samples.specs.declared.Traced.the-variants as T
-use Rattle.samples.specs.Flat.{chain, pastMarks, Out, out, onMet, stored, observed, Readers, dotsIn, partRead, partsBy, opened, containerBy, chosen, variantBy, atShape, atRead, valueBy, readers, innerOf, valueAt}
+use Rattle.shapes.specs.declared.Leaf.{Leaf}
+use Rattle.shapes.specs.declared.Leaf.the-variants as Y
+use Rattle.shapes.specs.declared.Field.{Field}
+use Rattle.shapes.specs.declared.Field.the-variants as X
+use Rattle.shapes.specs.Leaf.{leafAt, LeafThere, leaf-there}
+use Rattle.shapes.specs.Field.{fieldAt}
+use Rattle.samples.specs.Flat.{chain, pastMarks, Out, out, onMet, onMade, stored, observed, Readers, atChild, dotsIn, partRead, partsBy, opened, containerBy, chosen, variantBy, atShape, valueBy, readers, innerOf, valueAt, parted, isParted, holding, held, madeWhere, containerMade, heldWhere, variantHeld, Opening, opening, fieldHeld, fieldOpened}
 use Rattle.samples.specs.Onward.{less}
 
 -- ---- kinds that met
@@ -52,46 +71,141 @@ module _ (options levels before kind place : ℕ) (t : List ℕ) (met : Met) (b 
   unfolding observed
   observe-refused isNull here behind n refusal e = on-refused here refusal (λ j. out (T.Next behind n) (stored isNull j place t)) e
 
-  module _ (commands text : List ℕ) (inner : Readers) (positions here at n : ℕ) where
-    pub container-opened : (o : Out) (joint : ℕ) → met ≡ M.Kind joint → o ≡ opened commands text inner kind positions before joint here at place n t → o ≡ containerBy commands text options levels inner kind positions here at place n t
-    unfolding containerBy
-    container-opened o joint e s = (rw b at s) ∙ on-kind here joint (λ j. opened commands text inner kind positions (word t place kindWord) j here at place n t) e
+  -- a container is opened
+  module _ (text : List ℕ) (positions n : ℕ) where
+    pub opens-met : (joint : ℕ) (u v : List ℕ) (did : Made) → met ≡ M.Kind joint → u ≡ sampled place joint t → making did v ≡ made text place kind positions before n u → making did v ≡ containerMade text options levels kind positions place n t
+    unfolding containerMade
+    opens-met joint u v did e s d = rw (← b, ← m, e, ← s) d
 
-    pub container-refused : (refusal : Refusal) → met ≡ M.Refused refusal → out (T.Refused refusal here) t ≡ containerBy commands text options levels inner kind positions here at place n t
-    unfolding containerBy
-    container-refused refusal e = on-refused here refusal (λ j. opened commands text inner kind positions (word t place kindWord) j here at place n t) e
+    pub opens-unmet : (refusal : Refusal) → met ≡ M.Refused refusal → making (L.Refused refusal) t ≡ containerMade text options levels kind positions place n t
+    unfolding containerMade
+    opens-unmet refusal e = rw (← b, ← m, e) refl
+
+-- a variant is opened
+module _ (text : List ℕ) (options levels before number : ℕ) (name : Name) (place n : ℕ) (t : List ℕ) (met : Met) (b : before ≡ word t place kindWord) (m : met ≡ meeting options levels before unionKind) where
+  pub holds-met : (joint : ℕ) (u v : List ℕ) (did : Ensured) → met ≡ M.Kind joint → u ≡ sampled place joint t → ensuring did v ≡ held text place (S.Variant number name) n u → ensuring did v ≡ variantHeld text options levels number name place n t
+  unfolding variantHeld
+  holds-met joint u v did e s d = rw (← b, ← m, e, ← s) d
+
+  pub holds-unmet : (refusal : Refusal) → met ≡ M.Refused refusal → ensuring (E.Refused refusal) t ≡ variantHeld text options levels number name place n t
+  unfolding variantHeld
+  holds-unmet refusal e = rw (← b, ← m, e) refl
+
+-- ---- a child held
+module _ (text t u : List ℕ) (n place : ℕ) (step : Step) (did : Ensured) (d : ensuring did u ≡ ensured text place step n t) where
+  pub held-child : (child m : ℕ) (v : List ℕ) → did ≡ E.Child child m → v ≡ touched place child u → ensuring (E.Child child m) v ≡ held text place step n t
+  unfolding held
+  held-child child m v e h = rw (← d, e, h) refl
+
+  pub held-refused : (refusal : Refusal) → did ≡ E.Refused refusal → ensuring (E.Refused refusal) u ≡ held text place step n t
+  unfolding held
+  held-refused refusal e = rw (← d, e) refl
+
+-- ---- a field held
+module _ (text t : List ℕ) (n place : ℕ) (name : Name) where
+  pub field-bad : (good : Bool) → good ≡ isUtf8 (bytesOf text name) → good ≡ false → opening (O.Refused F.BadName) t ≡ fieldHeld text place name n t
+  unfolding fieldHeld if_then_else_
+  field-bad good g e = rw (← g, e) refl
+
+  module _ (good : isUtf8 (bytesOf text name) ≡ true) (u : List ℕ) (did : Ensured) (d : ensuring did u ≡ ensured text place (S.Field name) n t) where
+    pub field-child : (child m : ℕ) (v : List ℕ) → did ≡ E.Child child m → v ≡ touched place child u → opening (O.Child child m) v ≡ fieldHeld text place name n t
+    unfolding fieldHeld held if_then_else_
+    field-child child m v e h = rw (good, ← d, e, h) refl
+
+    pub field-full : (refusal : Refusal) → did ≡ E.Refused refusal → opening (O.Refused refusal) u ≡ fieldHeld text place name n t
+    unfolding fieldHeld held if_then_else_
+    field-full refusal e = rw (good, ← d, e) refl
+
+  -- a new one
+  pub field-new : findIn text place fieldCode name t ≡ 0 → ensuredBy text place fieldCode name n t 0 ≡ ensured text place (S.Field name) n t
+  unfolding ensured childAt
+  field-new e = rw e refl
+
+  module _ (absent : findIn text place fieldCode name t ≡ 0) (good : Bool) (g : good ≡ isUtf8 (bytesOf text name)) (is : good ≡ true) (u : List ℕ) (did : Ensured) (d : ensuring did u ≡ ensuredBy text place fieldCode name n t 0) where
+    pub new-child : (child m : ℕ) (v : List ℕ) → did ≡ E.Child child m → v ≡ touched place child u → opening (O.Child child m) v ≡ fieldHeld text place name n t
+    new-child child m v e h = field-child (sym g ∙ is) u did (d ∙ field-new absent) child m v e h
+
+    pub new-full : (refusal : Refusal) → did ≡ E.Refused refusal → opening (O.Refused refusal) u ≡ fieldHeld text place name n t
+    new-full refusal e = field-full (sym g ∙ is) u did (d ∙ field-new absent) refusal e
+
+  -- one that was found has the name given, and so is UTF-8
+  module _ (ready : Ready text t n place) (child : ℕ) (f : child ≡ findIn text place fieldCode name t) (z : child ≡ 0 → ⊥) where
+    stands-there : isAt text fieldCode name child t ≡ true
+    stands-there = rw f (find-stands text t n fieldCode name (ready .sound) _ (first-below text t n place _ (ready .sound) (ready .here) refl) (rw f at z))
+
+    field-found : ensuring (E.Child child n) t ≡ ensured text place (S.Field name) n t
+    unfolding ensured ensuredBy confirmed childAt isAt if_then_else_
+    field-found =
+        cases (eqb (word t child stepWord) fieldCode)
+        (λ e. let same = rw e at stands-there in rw (← f, ne-eqb child 0 z, same) refl)
+        (λ e. absurd (false≢true (rw e at stands-there)))
+
+    pub known-child : (v : List ℕ) → v ≡ touched place child t → opening (O.Child child n) v ≡ fieldHeld text place name n t
+    known-child v h = field-child (found-utf8 text t n place name (ready .sound) (ready .here) (rw f at z)) t (E.Child child n) field-found child n v refl h
+
+-- ---- the field that stands there
+module _ (commands text : List ℕ) (kind at place n : ℕ) (t : List ℕ) (field : Field) (f : field ≡ fieldAt commands text kind at) where
+  pub opened-named : (name : Name) (o : Opening) → field ≡ X.Named name → o ≡ fieldHeld text place name n t → o ≡ fieldOpened text place n t (fieldAt commands text kind at)
+  opened-named name o e p = rw (← f, e) p
+
+  pub opened-ended : field ≡ X.Ended → opening O.Ended t ≡ fieldOpened text place n t (fieldAt commands text kind at)
+  opened-ended e = rw (← f, e) refl
+
+  pub opened-refused : (refusal : Refusal) → field ≡ X.Refused refusal → opening (O.Refused refusal) t ≡ fieldOpened text place n t (fieldAt commands text kind at)
+  opened-refused refusal e = rw (← f, e) refl
 
 -- with a level left
 inner-is : (commands text : List ℕ) (options levels : ℕ) → 0 < levels → innerOf commands text options levels ≡ readers commands text options (levels - 1)
 inner-is commands text options zero h = absurd (omega arith)
 inner-is commands text options (suc levels) h = let e : levels ≡ suc levels - 1 = omega arith in ap (readers commands text options) e
 
-module _ (commands text : List ℕ) (options levels : ℕ) (left : 0 < levels) where
-  pub opened-parts : (kind positions before joint here at place n m : ℕ) (t u v : List ℕ) (did : Made) (o : Out) →
-      u ≡ sampled place joint t → making did v ≡ made text place kind positions before n u → did ≡ L.Places m →
-      o ≡ partsBy commands text (readers commands text options (levels - 1)) kind positions place at m v →
-      o ≡ opened commands text (innerOf commands text options levels) kind positions before joint here at place n t
-  unfolding opened
-  opened-parts kind positions before joint here at place n m t u v did o s d e p = rw (inner-is commands text options levels left, ← s, ← d, e) p
+-- a container is its parts, where it is opened
+container-is : (commands text : List ℕ) (options levels : ℕ) (inner : Readers) (kind positions here at place n : ℕ) (t : List ℕ) →
+    containerBy commands text options levels inner kind positions here at place n t ≡ onMade here (partsBy commands text inner kind positions place at) (containerMade text options levels kind positions place n t)
+unfolding containerBy containerMade opened
+container-is commands text options levels inner kind positions here at place n t = go (meeting options levels (word t place kindWord) kind)
+  where
+    go : (met : Met) → onMet here t (λ joint. onMade here (partsBy commands text inner kind positions place at) (made text place kind positions (word t place kindWord) n (sampled place joint t))) met
+        ≡ onMade here (partsBy commands text inner kind positions place at) (madeWhere t (λ joint. made text place kind positions (word t place kindWord) n (sampled place joint t)) met)
+    go (M.Kind joint) = refl
+    go (M.Refused refusal) = refl
 
-  pub opened-refused : (kind positions before joint here at place n : ℕ) (t u v : List ℕ) (did : Made) (refusal : Refusal) →
-      u ≡ sampled place joint t → making did v ≡ made text place kind positions before n u → did ≡ L.Refused refusal →
-      out (T.Refused refusal here) v ≡ opened commands text (innerOf commands text options levels) kind positions before joint here at place n t
-  unfolding opened
-  opened-refused kind positions before joint here at place n t u v did refusal s d e = rw (← s, ← d, e) refl
+-- and so is a variant its contents
+abbrev onHeld : ℕ → (ℕ → ℕ → List ℕ → Out) → Ensuring → Out
+onHeld here k (ensuring (E.Child child n) t) = k child n t
+onHeld here k (ensuring (E.Refused refusal) t) = out (T.Refused refusal here) t
 
-  pub variant-chosen : (before place number : ℕ) (name : Name) (contents : Contents) (here at n joint : ℕ) (t u : List ℕ) (met : Met) (o : Out) →
-      before ≡ word t place kindWord → met ≡ meeting options levels before unionKind → met ≡ M.Kind joint → u ≡ sampled place joint t →
-      o ≡ chosen text (readers commands text options (levels - 1)) number name contents here at place n u →
-      o ≡ variantBy text options levels (innerOf commands text options levels) number name contents here at place n t
-  unfolding variantBy
-  variant-chosen before place number name contents here at n joint t u met o b m e s p = rw (inner-is commands text options levels left, ← b, ← m, e, ← s) p
+variant-is : (text : List ℕ) (options levels : ℕ) (inner : Readers) (number : ℕ) (name : Name) (contents : Contents) (here at place n : ℕ) (t : List ℕ) →
+    variantBy text options levels inner number name contents here at place n t ≡ onHeld here (inner (dotsIn text name) contents here at) (variantHeld text options levels number name place n t)
+unfolding variantBy variantHeld chosen held
+variant-is text options levels inner number name contents here at place n t = go (meeting options levels (word t place kindWord) unionKind)
+  where
+    child : (x : Ensuring) → atChild inner (dotsIn text name) contents place here at x ≡ onHeld here (inner (dotsIn text name) contents here at) (holding place x)
+    child (ensuring (E.Child c m) u) = refl
+    child (ensuring (E.Refused refusal) u) = refl
 
-pub variant-refused : (text : List ℕ) (options levels : ℕ) (inner : Readers) (before place number : ℕ) (name : Name) (contents : Contents) (here at n : ℕ) (t : List ℕ) (met : Met) (refusal : Refusal) →
-    before ≡ word t place kindWord → met ≡ meeting options levels before unionKind → met ≡ M.Refused refusal →
-    out (T.Refused refusal here) t ≡ variantBy text options levels inner number name contents here at place n t
-unfolding variantBy
-variant-refused text options levels inner before place number name contents here at n t met refusal b m e = rw (← b, ← m, e) refl
+    go : (met : Met) → onMet here t (λ joint. atChild inner (dotsIn text name) contents place here at (ensured text place (S.Variant number name) n (sampled place joint t))) met
+        ≡ onHeld here (inner (dotsIn text name) contents here at) (heldWhere t (λ joint. holding place (ensured text place (S.Variant number name) n (sampled place joint t))) met)
+    go (M.Kind joint) = child (ensured text place (S.Variant number name) n (sampled place joint t))
+    go (M.Refused refusal) = refl
+
+module _ (commands text : List ℕ) (options levels : ℕ) where
+  module _ (kind positions here at place n : ℕ) (t u : List ℕ) (did : Made) (d : making did u ≡ containerMade text options levels kind positions place n t) where
+    pub container-parts : (m : ℕ) (o : Out) → did ≡ L.Places m → 0 < levels → o ≡ partsBy commands text (readers commands text options (levels - 1)) kind positions place at m u →
+        o ≡ containerBy commands text options levels (innerOf commands text options levels) kind positions here at place n t
+    container-parts m o e left p = rw (container-is commands text options levels (innerOf commands text options levels) kind positions here at place n t, ← d, e, inner-is commands text options levels left) p
+
+    pub container-refused : (refusal : Refusal) → did ≡ L.Refused refusal → out (T.Refused refusal here) u ≡ containerBy commands text options levels (innerOf commands text options levels) kind positions here at place n t
+    container-refused refusal e = rw (container-is commands text options levels (innerOf commands text options levels) kind positions here at place n t, ← d, e) refl
+
+  module _ (number : ℕ) (name : Name) (contents : Contents) (here at place n : ℕ) (t u : List ℕ) (did : Ensured) (d : ensuring did u ≡ variantHeld text options levels number name place n t) where
+    pub variant-child : (child m lower : ℕ) (o : Out) → did ≡ E.Child child m → 0 < levels → lower ≡ levels - 1 - dotsIn text name → o ≡ readers commands text options lower 0 contents here at child m u →
+        o ≡ variantBy text options levels (innerOf commands text options levels) number name contents here at place n t
+    variant-child child m lower o e left l p =
+        rw (variant-is text options levels (innerOf commands text options levels) number name contents here at place n t, ← d, e, inner-is commands text options levels left, less commands text options (levels - 1) (dotsIn text name), ← l) p
+
+    pub variant-refused : (refusal : Refusal) → did ≡ E.Refused refusal → out (T.Refused refusal here) u ≡ variantBy text options levels (innerOf commands text options levels) number name contents here at place n t
+    variant-refused refusal e = rw (variant-is text options levels (innerOf commands text options levels) number name contents here at place n t, ← d, e) refl
 
 -- ---- at a child
 value-here : (commands text : List ℕ) (options levels here at place n : ℕ) (t : List ℕ) → valueAt commands text options levels at place n t ≡ readers commands text options levels 0 N.Value here at place n t
@@ -99,26 +213,30 @@ unfolding readers valueBy
 value-here commands text options zero here at place n t = refl
 value-here commands text options (suc levels) here at place n t = refl
 
-module _ (commands text : List ℕ) (options levels : ℕ) (step : Step) (here at place n : ℕ) (t u : List ℕ) (did : Ensured) (d : ensuring did u ≡ ensured text place step n t) where
-  pub part-child : (child m lower : ℕ) (name : Name) (v : List ℕ) (o : Out) → did ≡ E.Child child m → v ≡ touched place child u → name ≡ nameOf step → lower ≡ levels - dotsIn text name →
-      o ≡ valueAt commands text options lower at child m v → o ≡ partRead text (readers commands text options levels) step here at place n t
-  unfolding partRead
-  part-child child m lower name v o e h k l p =
-      rw (← d, e, ← h, less commands text options levels (dotsIn text (nameOf step)), ← k, ← l) (p ∙ value-here commands text options lower here at child m v)
+-- below a name
+pub value-below : (commands text : List ℕ) (options levels : ℕ) (name : Name) (here at place n : ℕ) (t : List ℕ) →
+    valueAt commands text options (levels - dotsIn text name) at place n t ≡ readers commands text options levels (dotsIn text name) N.Value here at place n t
+value-below commands text options levels name here at place n t = value-here commands text options (levels - dotsIn text name) here at place n t ∙ rw (less commands text options levels (dotsIn text name)) refl
+
+part-is : (text : List ℕ) (inner : Readers) (step : Step) (here at place n : ℕ) (t : List ℕ) → partRead text inner step here at place n t ≡ onHeld here (inner (dotsIn text (nameOf step)) N.Value here at) (held text place step n t)
+unfolding partRead held
+part-is text inner step here at place n t = go (ensured text place step n t)
+  where
+    go : (x : Ensuring) → atChild inner (dotsIn text (nameOf step)) N.Value place here at x ≡ onHeld here (inner (dotsIn text (nameOf step)) N.Value here at) (holding place x)
+    go (ensuring (E.Child c m) u) = refl
+    go (ensuring (E.Refused refusal) u) = refl
+
+no-dots : (text : List ℕ) → dotsIn text noName ≡ 0
+unfolding dots
+no-dots text = refl
+
+module _ (commands text : List ℕ) (options levels : ℕ) (step : Step) (here at place n : ℕ) (t u : List ℕ) (did : Ensured) (d : ensuring did u ≡ held text place step n t) where
+  pub part-child : (child m : ℕ) (o : Out) → did ≡ E.Child child m → nameOf step ≡ noName → o ≡ valueAt commands text options levels at child m u → o ≡ partRead text (readers commands text options levels) step here at place n t
+  part-child child m o e k p =
+      rw (part-is text (readers commands text options levels) step here at place n t, ← d, e, k, no-dots text) (p ∙ value-here commands text options levels here at child m u)
 
   pub part-refused : (refusal : Refusal) → did ≡ E.Refused refusal → out (T.Refused refusal here) u ≡ partRead text (readers commands text options levels) step here at place n t
-  unfolding partRead
-  part-refused refusal e = rw (← d, e) refl
-
-module _ (commands text : List ℕ) (options levels number : ℕ) (name : Name) (contents : Contents) (here at place n : ℕ) (t u : List ℕ) (did : Ensured) (d : ensuring did u ≡ ensured text place (S.Variant number name) n t) where
-  pub chosen-child : (child m lower : ℕ) (v : List ℕ) (o : Out) → did ≡ E.Child child m → v ≡ touched place child u → lower ≡ levels - dotsIn text name →
-      o ≡ readers commands text options lower 0 contents here at child m v → o ≡ chosen text (readers commands text options levels) number name contents here at place n t
-  unfolding chosen
-  chosen-child child m lower v o e h l p = rw (← d, e, ← h, less commands text options levels (dotsIn text name), ← l) p
-
-  pub chosen-refused : (refusal : Refusal) → did ≡ E.Refused refusal → out (T.Refused refusal here) u ≡ chosen text (readers commands text options levels) number name contents here at place n t
-  unfolding chosen
-  chosen-refused refusal e = rw (← d, e) refl
+  part-refused refusal e = rw (part-is text (readers commands text options levels) step here at place n t, ← d, e) refl
 
 -- ---- contents and values
 readers-are : (commands text : List ℕ) (options levels : ℕ) → readers commands text options levels 0 ≡ valueBy commands text options levels (innerOf commands text options levels)
@@ -142,27 +260,112 @@ module _ (commands text : List ℕ) (options levels : ℕ) (contents : Contents)
   unfolding valueBy
   contents-fields e p = rw (readers-are commands text options levels, e) p
 
-module _ (commands text : List ℕ) (options levels at place n : ℕ) (t : List ℕ) (here : ℕ) (u : List ℕ) (past : chain here u ≡ pastMarks commands at place t) (read : Read) (r : read ≡ readCommand commands text here D.Value) where
-  value-is : valueAt commands text options levels at place n t ≡ atRead commands text options levels (innerOf commands text options levels) here place n u read
-  unfolding valueBy
-  value-is = rw (readers-are commands text options levels, ← past, r) refl
+module _ (commands text : List ℕ) (options at place n : ℕ) (t : List ℕ) (here : ℕ) (u : List ℕ) (past : chain here u ≡ pastMarks commands at place t) where
+  value-is : (levels : ℕ) → parted commands text options levels here place n u ≡ valueAt commands text options levels at place n t
+  unfolding valueBy parted
+  value-is levels = rw (readers-are commands text options levels, ← past) refl
 
-  pub value-refused : (x refusal : Refusal) (y offset : ℕ) → x ≡ refusalOf read → y ≡ placeOf read → read ≡ R.Refused refusal offset → out (T.Refused x y) u ≡ valueAt commands text options levels at place n t
-  value-refused x refusal y offset p q e = rw (p, q, e) (sym (rw e at value-is))
+  pub value-parted : (levels : ℕ) (o : Out) → o ≡ parted commands text options levels here place n u → o ≡ valueAt commands text options levels at place n t
+  value-parted levels o p = p ∙ value-is levels
 
-  module _ (command : Command) (next : ℕ) (c : read ≡ R.Command command next) (shape : Shape) (s : shape ≡ shapeAt options text command) where
-    shape-is : valueAt commands text options levels at place n t ≡ atShape commands text options levels (innerOf commands text options levels) here next place n u shape
-    shape-is = rw s (rw c at value-is)
+  pub named-parted : (levels below : ℕ) (name : Name) (o : Out) → below ≡ levels - dotsIn text name → o ≡ parted commands text options below here place n u → o ≡ valueAt commands text options (levels - dotsIn text name) at place n t
+  named-parted levels below name o l p = value-parted (levels - dotsIn text name) o (rw l at p)
 
-    pub value-none : shape ≡ H.NoValue → out (T.Refused F.BadCommand here) u ≡ valueAt commands text options levels at place n t
-    value-none e = sym (rw e at shape-is)
+  -- a leaf asks for no level, so that the dots of a name need not be counted
+  module _ (leaf : Leaf) (l : leaf ≡ leafAt options commands text here) (isNull : Bool) (kind behind : ℕ) (v : leaf ≡ Y.Value isNull kind behind) where
+    leaf-is : LeafThere options commands text here isNull kind behind
+    leaf-is = leaf-there options commands text here leaf l isNull kind behind v
 
-    module _ (o : Out) where
-      pub value-leaf : (isNull : Bool) (kind : ℕ) → shape ≡ H.Leaf isNull kind → o ≡ observed options isNull kind levels here next place n u → o ≡ valueAt commands text options levels at place n t
-      value-leaf isNull kind e p = p ∙ sym (rw e at shape-is)
+    leaf-parted : (levels : ℕ) → observed options isNull kind levels here behind place n u ≡ parted commands text options levels here place n u
+    unfolding parted
+    leaf-parted levels = rw (leaf-is .read, leaf-is .shape) refl
 
-      pub value-parts : (kind positions : ℕ) → shape ≡ H.Parts kind positions → o ≡ containerBy commands text options levels (innerOf commands text options levels) kind positions here next place n u → o ≡ valueAt commands text options levels at place n t
-      value-parts kind positions e p = p ∙ sym (rw e at shape-is)
+    any-level : (levels lower : ℕ) → observed options isNull kind levels here behind place n u ≡ observed options isNull kind lower here behind place n u
+    unfolding observed meeting if_then_else_
+    any-level levels lower = rw (lt-leb sequenceKind kind (leaf-is .below)) refl
 
-      pub value-variant : (number : ℕ) (name : Name) (contents : Contents) → shape ≡ H.Variant number name contents → o ≡ variantBy text options levels (innerOf commands text options levels) number name contents here next place n u → o ≡ valueAt commands text options levels at place n t
-      value-variant number name contents e p = p ∙ sym (rw e at shape-is)
+    pub value-leaf : (levels lower : ℕ) (o : Out) → o ≡ observed options isNull kind levels here behind place n u → o ≡ valueAt commands text options lower at place n t
+    value-leaf levels lower o p = p ∙ any-level levels lower ∙ leaf-parted lower ∙ value-is lower
+
+-- a step without a name has a good one
+pub unnamed : (text : List ℕ) (step : Step) → nameOf step ≡ noName → Good text (nameOf step)
+unnamed text step e = rw e (no-name-good text)
+
+-- a name that was tested is good
+pub tested : (text : List ℕ) (name : Name) (good : Bool) → Inside text name → good ≡ isUtf8 (bytesOf text name) → good ≡ true → Good text name
+tested text name good i g e = record { inside = i; utf8 = sym g ∙ e }
+
+-- a struct that begins there is inside the commands
+pub struct-fits : (commands : List ℕ) (here most : ℕ) (is : Bool) → is ≡ structAt commands here → is ≡ true → length commands < most → here + 1 < most
+struct-fits commands here most is s e l = let h : here < length commands = struct-inside commands here is s e in omega arith
+
+-- what commands open has parts
+HasParts : Shape → Type 0
+HasParts (H.Parts kind n) = isParted kind ≡ true
+HasParts (H.Leaf isNull kind) = Unit {0}
+HasParts (H.Variant number name contents) = Unit {0}
+HasParts H.NoValue = Unit {0}
+
+all-parted : (options : ℕ) (text : List ℕ) (command : Command) → HasParts (shapeAt options text command)
+unfolding HasParts shapeAt isParted
+all-parted options text C.Unit = tt
+all-parted options text C.Bool = tt
+all-parted options text C.I8 = tt
+all-parted options text C.I16 = tt
+all-parted options text C.I32 = tt
+all-parted options text C.I64 = tt
+all-parted options text C.U8 = tt
+all-parted options text C.U16 = tt
+all-parted options text C.U32 = tt
+all-parted options text C.U64 = tt
+all-parted options text C.F32 = tt
+all-parted options text C.F64 = tt
+all-parted options text C.Char = tt
+all-parted options text (C.Text name) = tt
+all-parted options text C.Bytes = tt
+all-parted options text C.None = tt
+all-parted options text C.Some = tt
+all-parted options text C.NewtypeStruct = tt
+all-parted options text C.Sequence = refl
+all-parted options text (C.Tuple n) = refl
+all-parted options text C.Map = if-either (λ kind. isParted kind ≡ true) (mapAsStruct options) refl refl
+all-parted options text C.Struct = refl
+all-parted options text (C.Field name) = tt
+all-parted options text C.End = tt
+all-parted options text (C.UnitVariant k name) = tt
+all-parted options text (C.NewtypeVariant k name) = tt
+all-parted options text (C.TupleVariant k name n) = tt
+all-parted options text (C.StructVariant k name) = tt
+
+pub parts-parted : (options : ℕ) (text : List ℕ) (command : Command) (shape : Shape) → shape ≡ shapeAt options text command → (kind n : ℕ) → shape ≡ H.Parts kind n → isParted kind ≡ true
+unfolding HasParts
+parts-parted options text command shape s kind n e = rw (sym s ∙ e) at (all-parted options text command)
+
+-- ---- past its marks
+module _ (commands text : List ℕ) (options levels here place n : ℕ) (t : List ℕ) where
+  pub parted-struct : (is : Bool) (o : Out) → is ≡ structAt commands here → is ≡ true → o ≡ containerBy commands text options levels (innerOf commands text options levels) structKind 0 here (here + 1) place n t → o ≡ parted commands text options levels here place n t
+  unfolding parted shapeAt
+  parted-struct is o s e p = rw (struct-read commands text here (sym s ∙ e)) p
+
+  module _ (read : Read) (r : read ≡ readCommand commands text here D.Value) where
+    pub parted-refused : (x refusal : Refusal) (y offset : ℕ) → x ≡ refusalOf read → y ≡ placeOf read → read ≡ R.Refused refusal offset → out (T.Refused x y) t ≡ parted commands text options levels here place n t
+    unfolding parted
+    parted-refused x refusal y offset p q e = rw (← r, p, q, e) refl
+
+    module _ (command : Command) (next : ℕ) (c : read ≡ R.Command command next) (shape : Shape) (s : shape ≡ shapeAt options text command) where
+      shape-is : atShape commands text options levels (innerOf commands text options levels) here next place n t shape ≡ parted commands text options levels here place n t
+      unfolding parted
+      shape-is = rw (← r, c, s) refl
+
+      pub parted-none : shape ≡ H.NoValue → out (T.Refused F.BadCommand here) t ≡ parted commands text options levels here place n t
+      parted-none e = rw e at shape-is
+
+      module _ (o : Out) where
+        pub parted-leaf : (isNull : Bool) (kind : ℕ) → shape ≡ H.Leaf isNull kind → o ≡ observed options isNull kind levels here next place n t → o ≡ parted commands text options levels here place n t
+        parted-leaf isNull kind e p = p ∙ (rw e at shape-is)
+
+        pub parted-parts : (kind positions : ℕ) → shape ≡ H.Parts kind positions → o ≡ containerBy commands text options levels (innerOf commands text options levels) kind positions here next place n t → o ≡ parted commands text options levels here place n t
+        parted-parts kind positions e p = p ∙ (rw e at shape-is)
+
+        pub parted-variant : (number : ℕ) (name : Name) (contents : Contents) → shape ≡ H.Variant number name contents → o ≡ variantBy text options levels (innerOf commands text options levels) number name contents here next place n t → o ≡ parted commands text options levels here place n t
+        parted-variant number name contents e p = p ∙ (rw e at shape-is)

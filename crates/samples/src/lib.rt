@@ -3,13 +3,14 @@
 ghost use mathlib.Core.Path.{_≡_};
 ghost use mathlib.Core.Bool.{true};
 ghost use Prim.Native.Nat.{_+_, _-_, _<_, _≤_};
-ghost use lib.Dec.{eqb};
 ghost use lib.ListN.{length, getD};
-ghost use Rattle.shapes.specs.Steps.{Inside, nameOf};
 ghost use Rattle.words.specs.Word.{word};
+ghost use Rattle.model.specs.Kinds.{sequenceKind, mapKind, tupleKind, isStruct};
+ghost use Rattle.shapes.specs.Steps.{fieldCode, noName, nameOf, Inside, Good};
 ghost use Rattle.places.specs.Layout.{firstWord, Ready, Sound};
-ghost use Rattle.samples.specs.Flat.{Chain, isMark, marked, pastMarks, Out, stored, observed, dotsIn, partRead, partsBy, opened, containerBy, chosen, variantBy, readers, innerOf, valueAt, fromSamples, SoundTraced};
-ghost use Rattle.samples.specs.Plain.{isPlain, plainKind};
+ghost use Rattle.places.specs.Flat.{Ensuring, Making, findIn, SoundEnsured, SoundMade};
+ghost use Rattle.samples.specs.Flat.{Chain, isMark, marked, pastMarks, Out, stored, observed, dotsIn, partRead, partsBy, containerBy, variantBy, readers, innerOf, valueAt, parted, isParted, held, containerMade, variantHeld, Opening, fieldHeld, fieldOpened, fromSamples, SoundTraced, SoundOpened};
+ghost use Rattle.shapes.specs.Field.{fieldAt};
 ghost use Rattle.samples.specs.Same.{isKnown, isHeld, isOwnByte, behindRun, pastHeld, pastSame};
 use commands::Due;
 use commands::Read;
@@ -19,6 +20,8 @@ use places::Made;
 use places::Met;
 use refusal::Refusal;
 use shapes::Contents;
+use shapes::Field;
+use shapes::Leaf;
 use shapes::Part;
 use shapes::Shape;
 use shapes::Step;
@@ -122,54 +125,6 @@ fn observe(
     }
 }
 
-const UNIT: u8 = 0x00;
-
-const CHAR: u8 = 0x0C;
-
-// Commands below this one are plain: one byte, no mark and no container.
-const TEXT: u8 = 0x0D;
-
-// Whether a plain value stands at an offset.
-fn is_plain(commands: &[u8], at: usize) -> bool
-    ensures { λ r. ⌜ r ≡ isPlain (now (commands .entry)) at ⌝ }
-{
-    at < commands.len() && commands[at] < TEXT
-}
-
-// The type of a plain value, by its byte: the byte itself, but a char is a UInt32.
-fn plain_kind(byte: u8) -> u32
-    ensures { λ r. ⌜ r ≡ plainKind byte ⌝ }
-{
-    if byte == CHAR { 8 } else { byte as u32 }
-}
-
-// A plain value at a place, seen at once.
-fn observe_plain(
-    commands: &[u8],
-    options: TracingOptions,
-    levels: usize,
-    at: usize,
-    place: usize,
-    count: usize,
-    table: &mut [u32],
-) -> Traced
-    requires { ⌜ (isPlain (now commands) at ≡ true) × (place < 1024) × (16384 ≤ length (now table)) ⌝ }
-    ensures { λ r. ⌜ Out.out r (now (table .exit)) ≡ observed (options .word) (eqb (getD (now (commands .entry)) at 0) 0) (plainKind (getD (now (commands .entry)) at 0)) levels at (at + 1) place count (now (table .entry)) ⌝ }
-{
-    let byte = commands[at];
-    observe(
-        options,
-        byte == UNIT,
-        plain_kind(byte),
-        levels,
-        at,
-        at + 1,
-        place,
-        count,
-        table,
-    )
-}
-
 // The levels left below a step.
 fn lower(levels: usize, name: Name, text: &[u8]) -> usize
     requires { ⌜ Inside (now text) name ⌝ }
@@ -232,18 +187,137 @@ fn past_held(commands: &[u8], kind: u32, at: usize) -> usize
 }
 
 // The offset behind elements that change nothing: the present sample holds one already, of their type.
-fn past_same(commands: &[u8], kind: u32, at: usize, place: usize, table: &[u32]) -> usize
+fn past_same(commands: &[u8], at: usize, place: usize, table: &[u32]) -> usize
     requires { ⌜ (place < 1024) × (16384 ≤ length (now table)) × (word (now table) place firstWord < 1024) ⌝ }
-    ensures { λ r. ⌜ r ≡ pastSame (now (commands .entry)) kind at place (now (table .entry)) ⌝ }
+    ensures { λ r. ⌜ r ≡ pastSame (now (commands .entry)) at place (now (table .entry)) ⌝ }
 {
-    if kind != shapes::SEQUENCE {
-        return at;
-    }
     let child = words::get(table, place, places::FIRST) as usize;
     if !is_held(place, child, table) {
         return at;
     }
     past_held(commands, words::get(table, child, places::KIND), at)
+}
+
+// The child at a step, which the present sample holds.
+fn hold(text: &[u8], place: usize, step: Step, count: usize, table: &mut [u32]) -> Ensured
+    requires { ⌜ Ready (now text) (now table) count place × Good (now text) (nameOf step) ⌝ }
+    ensures { λ r. ⌜ (Ensuring.ensuring r (now (table .exit)) ≡ held (now (text .entry)) place step count (now (table .entry))) × SoundEnsured (now (text .entry)) (now (table .exit)) r ⌝ }
+{
+    match places::ensure(text, place, step, count, table) {
+        Ensured::Child(child, more) => {
+            places::touch(place, child, table);
+            Ensured::Child(child, more)
+        }
+        Ensured::Refused(refusal) => Ensured::Refused(refusal),
+    }
+}
+
+// A container meets what the place is, is one more sample there, and makes its children.
+fn open_container(
+    text: &[u8],
+    options: TracingOptions,
+    kind: u32,
+    positions: u16,
+    levels: usize,
+    place: usize,
+    count: usize,
+    table: &mut [u32],
+) -> Made
+    requires { ⌜ Ready (now text) (now table) count place ⌝ }
+    ensures { λ r. ⌜ (Making.making r (now (table .exit)) ≡ containerMade (now (text .entry)) (options .word) levels kind positions place count (now (table .entry))) × SoundMade (now (text .entry)) (now (table .exit)) r ⌝ }
+{
+    let before = words::get(table, place, places::KIND);
+    match places::meet(options, levels, before, kind) {
+        Met::Kind(joint) => {
+            places::sample(place, joint, table);
+            places::make(text, place, kind, positions, before, count, table)
+        }
+        Met::Refused(refusal) => Made::Refused(refusal),
+    }
+}
+
+// A variant meets what the place is and is one more sample there, which holds the variant's place.
+fn open_variant(
+    text: &[u8],
+    options: TracingOptions,
+    number: u16,
+    name: Name,
+    levels: usize,
+    place: usize,
+    count: usize,
+    table: &mut [u32],
+) -> Ensured
+    requires { ⌜ Ready (now text) (now table) count place ⌝ }
+    requires { ⌜ Good (now text) name ⌝ }
+    ensures { λ r. ⌜ (Ensuring.ensuring r (now (table .exit)) ≡ variantHeld (now (text .entry)) (options .word) levels number name place count (now (table .entry))) × SoundEnsured (now (text .entry)) (now (table .exit)) r ⌝ }
+{
+    let before = words::get(table, place, places::KIND);
+    match places::meet(options, levels, before, shapes::UNION) {
+        Met::Kind(joint) => {
+            places::sample(place, joint, table);
+            hold(text, place, Step::Variant(number, name), count, table)
+        }
+        Met::Refused(refusal) => Ensured::Refused(refusal),
+    }
+}
+
+// What comes of reading where a field or the end is due: the field's place and how many places there are; the end; or a
+// refusal at that command.
+pub enum Opened {
+    Child(usize, usize),
+    Ended,
+    Refused(Refusal),
+}
+
+// A field that was not seen before, whose name must be UTF-8.
+fn new_field(text: &[u8], place: usize, name: Name, count: usize, table: &mut [u32]) -> Opened
+    requires { ⌜ Ready (now text) (now table) count place × Inside (now text) name ⌝ }
+    requires { ⌜ findIn (now text) place fieldCode name (now table) ≡ 0 ⌝ }
+    ensures { λ r. ⌜ (Opening.opening r (now (table .exit)) ≡ fieldHeld (now (text .entry)) place name count (now (table .entry))) × SoundOpened (now (text .entry)) (now (table .exit)) count r ⌝ }
+{
+    if !name.is_utf8(text) {
+        return Opened::Refused(Refusal::BadName);
+    }
+    match places::add(text, place, shapes::FIELD, name, count, table) {
+        Ensured::Child(child, more) => {
+            places::touch(place, child, table);
+            Opened::Child(child, more)
+        }
+        Ensured::Refused(refusal) => Opened::Refused(refusal),
+    }
+}
+
+// A field by its name, which the present sample holds. The names of fields that were seen are known to be UTF-8.
+fn hold_field(text: &[u8], place: usize, name: Name, count: usize, table: &mut [u32]) -> Opened
+    requires { ⌜ Ready (now text) (now table) count place × Inside (now text) name ⌝ }
+    ensures { λ r. ⌜ (Opening.opening r (now (table .exit)) ≡ fieldHeld (now (text .entry)) place name count (now (table .entry))) × SoundOpened (now (text .entry)) (now (table .exit)) count r ⌝ }
+{
+    let child = places::find_field(text, place, name, count, table);
+    if child == 0 {
+        return new_field(text, place, name, count, table);
+    }
+    places::touch(place, child, table);
+    Opened::Child(child, count)
+}
+
+// The field, or the end, that stands at an offset.
+fn open_field(
+    commands: &[u8],
+    text: &[u8],
+    kind: u32,
+    at: usize,
+    place: usize,
+    count: usize,
+    table: &mut [u32],
+) -> Opened
+    requires { ⌜ Ready (now text) (now table) count place ⌝ }
+    ensures { λ r. ⌜ (Opening.opening r (now (table .exit)) ≡ fieldOpened (now (text .entry)) place count (now (table .entry)) (fieldAt (now (commands .entry)) (now (text .entry)) kind at)) × SoundOpened (now (text .entry)) (now (table .exit)) count r ⌝ }
+{
+    match shapes::field_at(commands, text, kind, at) {
+        Field::Named(name) => hold_field(text, place, name, count, table),
+        Field::Ended => Opened::Ended,
+        Field::Refused(refusal) => Opened::Refused(refusal),
+    }
 }
 
 // One value at a place, with so many levels left for containers.
@@ -260,10 +334,88 @@ pub fn read_value(
     requires { ⌜ Ready (now text) (now table) count place ⌝ }
     ensures { λ r. ⌜ (Out.out r (now (table .exit)) ≡ valueAt (now (commands .entry)) (now (text .entry)) (options .word) levels at place count (now (table .entry))) × SoundTraced (now (text .entry)) (now (table .exit)) count r ⌝ }
 {
-    if is_plain(commands, at) {
-        return observe_plain(commands, options, levels, at, place, count, table);
-    }
     let here = past_marks(commands, at, place, table);
+    match shapes::leaf_at(commands, text, options, here) {
+        Leaf::Value(null, kind, next) => observe(
+            options,
+            null,
+            kind,
+            levels,
+            here,
+            next,
+            place,
+            count,
+            table,
+        ),
+        Leaf::Other => read_parted(commands, text, options, here, levels, place, count, table),
+    }
+}
+
+// The value of a field with that name. Only below a container do the dots of the name count.
+fn read_named(
+    commands: &[u8],
+    text: &[u8],
+    options: TracingOptions,
+    name: Name,
+    at: usize,
+    levels: usize,
+    place: usize,
+    count: usize,
+    table: &mut [u32],
+) -> Traced
+    requires { ⌜ Ready (now text) (now table) count place ⌝ }
+    requires { ⌜ Inside (now text) name ⌝ }
+    ensures { λ r. ⌜ (Out.out r (now (table .exit)) ≡ valueAt (now (commands .entry)) (now (text .entry)) (options .word) (levels - dotsIn (now (text .entry)) name) at place count (now (table .entry))) × SoundTraced (now (text .entry)) (now (table .exit)) count r ⌝ }
+{
+    let here = past_marks(commands, at, place, table);
+    match shapes::leaf_at(commands, text, options, here) {
+        Leaf::Value(null, kind, next) => observe(
+            options,
+            null,
+            kind,
+            levels,
+            here,
+            next,
+            place,
+            count,
+            table,
+        ),
+        Leaf::Other => {
+            let below = lower(levels, name, text);
+            read_parted(commands, text, options, here, below, place, count, table)
+        }
+    }
+}
+
+// A value past its marks, mostly a container or a variant.
+fn read_parted(
+    commands: &[u8],
+    text: &[u8],
+    options: TracingOptions,
+    here: usize,
+    levels: usize,
+    place: usize,
+    count: usize,
+    table: &mut [u32],
+) -> Traced
+    requires { ⌜ Ready (now text) (now table) count place ⌝ }
+    ensures { λ r. ⌜ (Out.out r (now (table .exit)) ≡ parted (now (commands .entry)) (now (text .entry)) (options .word) levels here place count (now (table .entry))) × SoundTraced (now (text .entry)) (now (table .exit)) count r ⌝ }
+{
+    if shapes::is_struct_at(commands, here) {
+        return read_container(
+            commands,
+            text,
+            options,
+            shapes::STRUCT,
+            0,
+            here,
+            here + 1,
+            levels,
+            place,
+            count,
+            table,
+        );
+    }
     let read = commands::read_command(commands, text, here, Due::Value);
     let Read::Command(command, next) = read else {
         return Traced::Refused(read.refusal(), read.place());
@@ -326,52 +478,10 @@ fn read_container(
     table: &mut [u32],
 ) -> Traced
     requires { ⌜ Ready (now text) (now table) count place ⌝ }
-    requires { ⌜ 22 ≤ kind ⌝ }
+    requires { ⌜ isParted kind ≡ true ⌝ }
     ensures { λ r. ⌜ (Out.out r (now (table .exit)) ≡ containerBy (now (commands .entry)) (now (text .entry)) (options .word) levels (innerOf (now (commands .entry)) (now (text .entry)) (options .word) levels) kind positions here at place count (now (table .entry))) × SoundTraced (now (text .entry)) (now (table .exit)) count r ⌝ }
 {
-    let before = words::get(table, place, places::KIND);
-    match places::meet(options, levels, before, kind) {
-        Met::Kind(joint) => enter(
-            commands,
-            text,
-            options,
-            kind,
-            positions,
-            before,
-            joint,
-            here,
-            at,
-            levels,
-            place,
-            count,
-            table,
-        ),
-        Met::Refused(refusal) => Traced::Refused(refusal, here),
-    }
-}
-
-// The container is one more sample there, makes its children, and its parts are read.
-fn enter(
-    commands: &[u8],
-    text: &[u8],
-    options: TracingOptions,
-    kind: u32,
-    positions: u16,
-    before: u32,
-    joint: u32,
-    here: usize,
-    at: usize,
-    levels: usize,
-    place: usize,
-    count: usize,
-    table: &mut [u32],
-) -> Traced
-    requires { ⌜ Ready (now text) (now table) count place ⌝ }
-    requires { ⌜ 0 < levels ⌝ }
-    ensures { λ r. ⌜ (Out.out r (now (table .exit)) ≡ opened (now (commands .entry)) (now (text .entry)) (innerOf (now (commands .entry)) (now (text .entry)) (options .word) levels) kind positions before joint here at place count (now (table .entry))) × SoundTraced (now (text .entry)) (now (table .exit)) count r ⌝ }
-{
-    places::sample(place, joint, table);
-    match places::make(text, place, kind, positions, before, count, table) {
+    match open_container(text, options, kind, positions, levels, place, count, table) {
         Made::Places(more) => read_parts(
             commands,
             text,
@@ -388,7 +498,7 @@ fn enter(
     }
 }
 
-// The parts of a container, one after another. The levels are those left below it.
+// The parts of a container by its kind. The levels are those left below it.
 fn read_parts(
     commands: &[u8],
     text: &[u8],
@@ -402,13 +512,108 @@ fn read_parts(
     table: &mut [u32],
 ) -> Traced
     requires { ⌜ Ready (now text) (now table) count place ⌝ }
+    requires { ⌜ isParted kind ≡ true ⌝ }
     ensures { λ r. ⌜ (Out.out r (now (table .exit)) ≡ partsBy (now (commands .entry)) (now (text .entry)) (readers (now (commands .entry)) (now (text .entry)) (options .word) levels) kind positions place start count (now (table .entry))) × SoundTraced (now (text .entry)) (now (table .exit)) count r ⌝ }
 {
-    let mut i: usize = 0;
+    if places::is_struct(kind) {
+        return read_fields(
+            commands,
+            text,
+            options,
+            kind,
+            start,
+            levels,
+            place,
+            count,
+            table,
+        );
+    }
+    if kind == shapes::SEQUENCE {
+        return read_elements(commands, text, options, start, levels, place, count, table);
+    }
+    if kind == shapes::MAP {
+        return read_entries(commands, text, options, start, levels, place, count, table);
+    }
+    read_positions(
+        commands,
+        text,
+        options,
+        positions,
+        start,
+        levels,
+        place,
+        count,
+        table,
+    )
+}
+
+// The fields of a struct, or of a map in map mode, up to the end.
+fn read_fields(
+    commands: &[u8],
+    text: &[u8],
+    options: TracingOptions,
+    kind: u32,
+    start: usize,
+    levels: usize,
+    place: usize,
+    count: usize,
+    table: &mut [u32],
+) -> Traced
+    requires { ⌜ Ready (now text) (now table) count place ⌝ }
+    requires { ⌜ isStruct kind ≡ true ⌝ }
+    ensures { λ r. ⌜ (Out.out r (now (table .exit)) ≡ partsBy (now (commands .entry)) (now (text .entry)) (readers (now (commands .entry)) (now (text .entry)) (options .word) levels) kind 0 place start count (now (table .entry))) × SoundTraced (now (text .entry)) (now (table .exit)) count r ⌝ }
+{
     let mut at = start;
     let mut places = count;
     loop {
-        match shapes::next_part(commands, text, kind, positions, i, at) {
+        match open_field(commands, text, kind, at, place, places, table) {
+            Opened::Ended => {
+                return Traced::Next(at + 1, places);
+            }
+            Opened::Refused(refusal) => {
+                return Traced::Refused(refusal, at);
+            }
+            Opened::Child(child, more) => match read_named(
+                commands,
+                text,
+                options,
+                commands::read_name(commands, at + 1),
+                at + 5,
+                levels,
+                child,
+                more,
+                table,
+            ) {
+                Traced::Next(behind, still) => {
+                    at = behind;
+                    places = still;
+                }
+                Traced::Refused(refusal, offset) => {
+                    return Traced::Refused(refusal, offset);
+                }
+            },
+        }
+    }
+}
+
+// The elements of a sequence, up to the end.
+fn read_elements(
+    commands: &[u8],
+    text: &[u8],
+    options: TracingOptions,
+    start: usize,
+    levels: usize,
+    place: usize,
+    count: usize,
+    table: &mut [u32],
+) -> Traced
+    requires { ⌜ Ready (now text) (now table) count place ⌝ }
+    ensures { λ r. ⌜ (Out.out r (now (table .exit)) ≡ partsBy (now (commands .entry)) (now (text .entry)) (readers (now (commands .entry)) (now (text .entry)) (options .word) levels) sequenceKind 0 place start count (now (table .entry))) × SoundTraced (now (text .entry)) (now (table .exit)) count r ⌝ }
+{
+    let mut at = start;
+    let mut places = count;
+    loop {
+        match shapes::value_part(commands, text, Step::Element, Due::ValueOrEnd, at) {
             Part::Ended(behind) => {
                 return Traced::Next(behind, places);
             }
@@ -428,7 +633,56 @@ fn read_parts(
                 table,
             ) {
                 Traced::Next(behind, more) => {
-                    at = past_same(commands, kind, behind, place, table);
+                    at = past_same(commands, behind, place, table);
+                    places = more;
+                }
+                Traced::Refused(refusal, offset) => {
+                    return Traced::Refused(refusal, offset);
+                }
+            },
+        }
+    }
+}
+
+// The keys and values of a map, by turns, up to the end.
+fn read_entries(
+    commands: &[u8],
+    text: &[u8],
+    options: TracingOptions,
+    start: usize,
+    levels: usize,
+    place: usize,
+    count: usize,
+    table: &mut [u32],
+) -> Traced
+    requires { ⌜ Ready (now text) (now table) count place ⌝ }
+    ensures { λ r. ⌜ (Out.out r (now (table .exit)) ≡ partsBy (now (commands .entry)) (now (text .entry)) (readers (now (commands .entry)) (now (text .entry)) (options .word) levels) mapKind 0 place start count (now (table .entry))) × SoundTraced (now (text .entry)) (now (table .exit)) count r ⌝ }
+{
+    let mut i: usize = 0;
+    let mut at = start;
+    let mut places = count;
+    loop {
+        match shapes::entry_part(commands, text, i, at) {
+            Part::Ended(behind) => {
+                return Traced::Next(behind, places);
+            }
+            Part::Refused(refusal, offset) => {
+                return Traced::Refused(refusal, offset);
+            }
+            Part::Step(step, value) => match read_part(
+                commands,
+                text,
+                options,
+                step,
+                at,
+                value,
+                levels,
+                place,
+                places,
+                table,
+            ) {
+                Traced::Next(behind, more) => {
+                    at = behind;
                     places = more;
                 }
                 Traced::Refused(refusal, offset) => {
@@ -440,7 +694,59 @@ fn read_parts(
     }
 }
 
-// The value of a part, at the child that its step leads to.
+// The values of a tuple, so many.
+fn read_positions(
+    commands: &[u8],
+    text: &[u8],
+    options: TracingOptions,
+    positions: u16,
+    start: usize,
+    levels: usize,
+    place: usize,
+    count: usize,
+    table: &mut [u32],
+) -> Traced
+    requires { ⌜ Ready (now text) (now table) count place ⌝ }
+    ensures { λ r. ⌜ (Out.out r (now (table .exit)) ≡ partsBy (now (commands .entry)) (now (text .entry)) (readers (now (commands .entry)) (now (text .entry)) (options .word) levels) tupleKind positions place start count (now (table .entry))) × SoundTraced (now (text .entry)) (now (table .exit)) count r ⌝ }
+{
+    let mut i: u16 = 0;
+    let mut at = start;
+    let mut places = count;
+    while i < positions {
+        match shapes::value_part(commands, text, Step::Position(i), Due::Value, at) {
+            Part::Ended(behind) => {
+                return Traced::Next(behind, places);
+            }
+            Part::Refused(refusal, offset) => {
+                return Traced::Refused(refusal, offset);
+            }
+            Part::Step(step, value) => match read_part(
+                commands,
+                text,
+                options,
+                step,
+                at,
+                value,
+                levels,
+                place,
+                places,
+                table,
+            ) {
+                Traced::Next(behind, more) => {
+                    at = behind;
+                    places = more;
+                }
+                Traced::Refused(refusal, offset) => {
+                    return Traced::Refused(refusal, offset);
+                }
+            },
+        }
+        i += 1;
+    }
+    Traced::Next(at, places)
+}
+
+// The value of a part, at the child that its step leads to. Only fields and variants have names.
 fn read_part(
     commands: &[u8],
     text: &[u8],
@@ -454,18 +760,20 @@ fn read_part(
     table: &mut [u32],
 ) -> Traced
     requires { ⌜ Ready (now text) (now table) count place ⌝ }
-    requires { ⌜ Inside (now text) (nameOf step) ⌝ }
+    requires { ⌜ nameOf step ≡ noName ⌝ }
     ensures { λ r. ⌜ (Out.out r (now (table .exit)) ≡ partRead (now (text .entry)) (readers (now (commands .entry)) (now (text .entry)) (options .word) levels) step here at place count (now (table .entry))) × SoundTraced (now (text .entry)) (now (table .exit)) count r ⌝ }
 {
-    match places::ensure(text, place, step, count, table) {
-        Ensured::Child(child, more) => {
-            places::touch(place, child, table);
-            if is_plain(commands, at) {
-                return observe_plain(commands, options, levels, at, child, more, table);
-            }
-            let below = lower(levels, step.name(), text);
-            read_value(commands, text, options, at, below, child, more, table)
-        }
+    match hold(text, place, step, count, table) {
+        Ensured::Child(child, more) => read_value(
+            commands,
+            text,
+            options,
+            at,
+            levels,
+            child,
+            more,
+            table,
+        ),
         Ensured::Refused(refusal) => Traced::Refused(refusal, here),
     }
 }
@@ -486,55 +794,12 @@ fn read_variant(
     table: &mut [u32],
 ) -> Traced
     requires { ⌜ Ready (now text) (now table) count place ⌝ }
-    requires { ⌜ Inside (now text) name ⌝ }
+    requires { ⌜ Good (now text) name ⌝ }
     ensures { λ r. ⌜ (Out.out r (now (table .exit)) ≡ variantBy (now (text .entry)) (options .word) levels (innerOf (now (commands .entry)) (now (text .entry)) (options .word) levels) number name contents here at place count (now (table .entry))) × SoundTraced (now (text .entry)) (now (table .exit)) count r ⌝ }
 {
-    let before = words::get(table, place, places::KIND);
-    match places::meet(options, levels, before, shapes::UNION) {
-        Met::Kind(joint) => {
-            places::sample(place, joint, table);
-            read_choice(
-                commands,
-                text,
-                options,
-                number,
-                name,
-                contents,
-                here,
-                at,
-                levels - 1,
-                place,
-                count,
-                table,
-            )
-        }
-        Met::Refused(refusal) => Traced::Refused(refusal, here),
-    }
-}
-
-// The contents at the variant's place.
-fn read_choice(
-    commands: &[u8],
-    text: &[u8],
-    options: TracingOptions,
-    number: u16,
-    name: Name,
-    contents: Contents,
-    here: usize,
-    at: usize,
-    levels: usize,
-    place: usize,
-    count: usize,
-    table: &mut [u32],
-) -> Traced
-    requires { ⌜ Ready (now text) (now table) count place ⌝ }
-    requires { ⌜ Inside (now text) name ⌝ }
-    ensures { λ r. ⌜ (Out.out r (now (table .exit)) ≡ chosen (now (text .entry)) (readers (now (commands .entry)) (now (text .entry)) (options .word) levels) number name contents here at place count (now (table .entry))) × SoundTraced (now (text .entry)) (now (table .exit)) count r ⌝ }
-{
-    match places::ensure(text, place, Step::Variant(number, name), count, table) {
+    match open_variant(text, options, number, name, levels, place, count, table) {
         Ensured::Child(child, more) => {
-            places::touch(place, child, table);
-            let below = lower(levels, name, text);
+            let below = lower(levels - 1, name, text);
             read_contents(
                 commands,
                 text,

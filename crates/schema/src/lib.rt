@@ -13,7 +13,7 @@ ghost use Rattle.model.specs.Kinds.{isStruct};
 ghost use Rattle.model.specs.Tracing.{one};
 ghost use Rattle.model.specs.Emission.{typeOf, strategyOf};
 ghost use Rattle.shapes.specs.Steps.{fieldCode};
-ghost use Rattle.places.specs.Layout.{Sound, nullWord};
+ghost use Rattle.places.specs.Layout.{Linked, nullWord};
 ghost use Rattle.order.specs.Flat.{sortedPlaces};
 ghost use Rattle.walk.specs.Order.{childName, nextChild};
 ghost use Rattle.schema.specs.Put.{Put, putBytes, recordOf, putGaps};
@@ -130,7 +130,7 @@ fn is_position(step: u32) -> bool
 
 // The name of a child.
 fn put_name(text: &[u8], table: &[u32], child: usize, names: &mut [u8], at: usize) -> usize
-    requires { ⌜ Sound (now text) (now table) 1024 × (child < 1024) × (at ≤ length (now names)) ⌝ }
+    requires { ⌜ Linked (now text) (now table) 1024 × (child < 1024) × (at ≤ length (now names)) ⌝ }
     ensures { λ r. ⌜ (Put.put r (now (names .exit)) ≡ putBytes (childName (now (text .entry)) (now (table .entry)) child) (now (names .entry)) at) × (r ≤ length (now (names .exit))) ⌝ }
 {
     let step = words::get(table, child, places::STEP);
@@ -348,7 +348,7 @@ fn put_field(
     fields: &mut [u8],
     names: &mut [u8],
 ) -> Ends
-    requires { ⌜ Sound (now text) (now table) 1024 × (place < 1024) ⌝ }
+    requires { ⌜ Linked (now text) (now table) 1024 × (place < 1024) ⌝ }
     requires { ⌜ (ends .records ≤ length (now fields)) × (ends .names ≤ length (now names)) ⌝ }
     ensures { λ r. ⌜ (Writing.writing (r .records) (r .names) (now (fields .exit)) (now (names .exit)) ≡ fieldAt (options .word) (now (text .entry)) (now (table .entry)) place nullable number (Writing.writing (ends .records) (ends .names) (now (fields .entry)) (now (names .entry)))) × (r .records ≤ length (now (fields .exit))) × (r .names ≤ length (now (names .exit))) ⌝ }
 {
@@ -427,7 +427,7 @@ fn emit(
     fields: &mut [u8],
     names: &mut [u8],
 ) -> Ends
-    requires { ⌜ Sound (now text) (now table) 1024 × (place < 1024) ⌝ }
+    requires { ⌜ Linked (now text) (now table) 1024 × (place < 1024) ⌝ }
     requires { ⌜ (ends .records ≤ length (now fields)) × (ends .names ≤ length (now names)) ⌝ }
     ensures { λ r. ⌜ (Writing.writing (r .records) (r .names) (now (fields .exit)) (now (names .exit)) ≡ emittedAt (options .word) (now (text .entry)) (now (table .entry)) levels place lacking number (Writing.writing (ends .records) (ends .names) (now (fields .entry)) (now (names .entry)))) × (r .records ≤ length (now (fields .exit))) × (r .names ≤ length (now (names .exit))) ⌝ }
 {
@@ -472,7 +472,7 @@ fn emit_children(
     fields: &mut [u8],
     names: &mut [u8],
 ) -> Ends
-    requires { ⌜ Sound (now text) (now table) 1024 × (place < 1024) ⌝ }
+    requires { ⌜ Linked (now text) (now table) 1024 × (place < 1024) ⌝ }
     requires { ⌜ (ends .records ≤ length (now fields)) × (ends .names ≤ length (now names)) ⌝ }
     ensures { λ r. ⌜ (Writing.writing (r .records) (r .names) (now (fields .exit)) (now (names .exit)) ≡ fieldsBelow (now (table .entry)) (emittedAt (options .word) (now (text .entry)) (now (table .entry)) levels) kind place (Writing.writing (ends .records) (ends .names) (now (fields .entry)) (now (names .entry)))) × (r .records ≤ length (now (fields .exit))) × (r .names ≤ length (now (names .exit))) ⌝ }
 {
@@ -518,7 +518,7 @@ fn emit_child(
     fields: &mut [u8],
     names: &mut [u8],
 ) -> Ends
-    requires { ⌜ Sound (now text) (now table) 1024 × (place < 1024) ⌝ }
+    requires { ⌜ Linked (now text) (now table) 1024 × (place < 1024) ⌝ }
     requires { ⌜ child < 1024 ⌝ }
     requires { ⌜ (ends .records ≤ length (now fields)) × (ends .names ≤ length (now names)) ⌝ }
     ensures { λ r. ⌜ (Writing.writing (r .records) (r .names) (now (fields .exit)) (now (names .exit)) ≡ childIn (now (table .entry)) (emittedAt (options .word) (now (text .entry)) (now (table .entry)) levels) kind place slot child (Writing.writing (ends .records) (ends .names) (now (fields .entry)) (now (names .entry)))) × (r .records ≤ length (now (fields .exit))) × (r .names ≤ length (now (names .exit))) ⌝ }
@@ -559,7 +559,7 @@ pub fn to_schema(
     fields: &mut [u8],
     names: &mut [u8],
 ) -> Emitted
-    requires { ⌜ Sound (now text) (now table) 1024 × (count ≤ 1024) ⌝ }
+    requires { ⌜ Linked (now text) (now table) 1024 × (count ≤ 1024) ⌝ }
     ensures { λ r. ⌜ (Answered.answered r (now (fields .exit)) (now (names .exit)) ≡ toSchemaAt (options .word) (now (text .entry)) (sortedPlaces (now (text .entry)) (now (table .entry)) count) (now (fields .entry)) (now (names .entry))) × (now (table .exit) ≡ sortedPlaces (now (text .entry)) (now (table .entry)) count) ⌝ }
 {
     order::sort_places(text, count, table);
@@ -589,7 +589,7 @@ fn finish(
     fields: &mut [u8],
     names: &mut [u8],
 ) -> Emitted
-    requires { ⌜ Sound (now text) (now table) 1024 ⌝ }
+    requires { ⌜ Linked (now text) (now table) 1024 ⌝ }
     ensures { λ r. ⌜ Answered.answered r (now (fields .exit)) (now (names .exit)) ≡ finished (options .word) (now (text .entry)) (now (table .entry)) (now (fields .entry)) (now (names .entry)) records bytes below ⌝ }
 {
     let kind = words::get(table, 0, places::KIND);

@@ -12,6 +12,7 @@ use lib.ListN.{length, getD}
 use Rattle.logic.specs.Test.{if_then_else_}
 use Rattle.options.specs.Word.{mapAsStruct, stringType, bytesAsLargeBinary, stringAsLargeUtf8, guessDates}
 use Rattle.text.specs.declared.Name.{Name}
+use Rattle.text.specs.Utf8.{reads}
 use Rattle.chrono.specs.Text.{textType, firstFit}
 use Rattle.commands.specs.declared.Command.{Command}
 use Rattle.commands.specs.declared.Command.the-variants as C
@@ -21,7 +22,7 @@ use Rattle.commands.specs.declared.Due.{Due}
 use Rattle.commands.specs.declared.Due.the-variants as D
 use Rattle.commands.specs.Commands.{readCommand, nameAt, endByte}
 use Rattle.commands.specs.Laws as L
-use Rattle.model.specs.Kinds.{sequenceKind, structKind, mapKind, mapModeKind}
+use Rattle.model.specs.Kinds.{sequenceKind, structKind, mapKind, tupleKind, mapModeKind}
 use Rattle.model.specs.Reading.{Next, follows, valueNext, fieldNext, nextPart, shapeOf}
 use Rattle.shapes.specs.declared.Step.{Step}
 use Rattle.shapes.specs.declared.Step.the-variants as S
@@ -30,7 +31,7 @@ use Rattle.shapes.specs.declared.Shape.{Shape}
 use Rattle.shapes.specs.declared.Shape.the-variants as H
 use Rattle.shapes.specs.declared.Part.{Part}
 use Rattle.shapes.specs.declared.Part.the-variants as P
-use Rattle.shapes.specs.Steps.{nameOf, Inside}
+use Rattle.shapes.specs.Steps.{noName, nameOf, Inside, Good}
 use Rattle.shapes.specs.Shapes.{shapeAt, valuePart, fieldPart, partAt}
 use Rattle.shapes.specs.Resolved.{stepOf, partNext, shapeNext}
 
@@ -46,20 +47,31 @@ unfolding if_then_else_
 if-through f true p q = p
 if-through f false p q = q
 
+-- ---- names
+-- no name is a good one
+pub no-name-good : (text : List ℕ) → Good text noName
+unfolding reads
+no-name-good text = record { inside = omega arith; utf8 = refl }
+
+-- and so is the name of a command that was read
+pub name-good : (commands text : List ℕ) (at : ℕ) (due : Due) (answer : Read) (command : Command) (next : ℕ) → answer ≡ readCommand commands text at due → answer ≡ R.Command command next → (name : Name) → L.nameOf command ≡ some name → Good text name
+name-good commands text at due answer command next e h name n =
+    record { inside = L.name-within commands text at due answer command next e h command name refl n; utf8 = L.name-utf8 commands text at due answer command next e h command name refl n }
+
 -- ---- a part
--- what is known of it: the name of a step is inside the text, and its value inside the commands and no earlier than the part
+-- what is known of it: the name of a step is inside the text and UTF-8, and its value inside the commands and no earlier than the part
 abbrev pub KnownPart : List ℕ → List ℕ → ℕ → Part → Type 0
 KnownPart commands text at (P.Ended behind) = (at ≤ behind) × (at ≤ length commands → behind ≤ length commands)
-KnownPart commands text at (P.Step step value) = Inside text (nameOf step) × (at ≤ value) × (value ≤ length commands)
+KnownPart commands text at (P.Step step value) = Good text (nameOf step) × (at ≤ value) × (value ≤ length commands)
 KnownPart commands text at (P.Refused refusal place) = Unit {0}
 
 module _ (commands text : List ℕ) (at : ℕ) where
-  value-known : (step : Step) (due : Due) → Inside text (nameOf step) → (answer : Read) → answer ≡ readCommand commands text at due → KnownPart commands text at (valuePart commands step at answer)
-  value-known step due inside (R.Command command behind) e =
+  value-known : (step : Step) (due : Due) → Good text (nameOf step) → (answer : Read) → answer ≡ readCommand commands text at due → KnownPart commands text at (valuePart commands step at answer)
+  value-known step due good (R.Command command behind) e =
       let above : at < behind = L.next-above commands text at due _ command behind e refl in
       let within : behind ≤ length commands = L.next-within commands text at due _ command behind e refl in
-      if-has (KnownPart commands text at) (eqb (getD commands at 0) endByte) (λ end. (omega arith, λ h. within)) (λ end. (inside, le-refl at, omega arith))
-  value-known step due inside (R.Refused refusal place) e = tt
+      if-has (KnownPart commands text at) (eqb (getD commands at 0) endByte) (λ end. (omega arith, λ h. within)) (λ end. (good, le-refl at, omega arith))
+  value-known step due good (R.Refused refusal place) e = tt
 
   field-known : (due : Due) (named : Name → Command) → ((name : Name) → L.nameOf (named name) ≡ some name) →
       ((command : Command) (next : ℕ) → eqb (getD commands at 0) endByte ≡ false → readCommand commands text at due ≡ R.Command command next → command ≡ named (nameAt commands (at + 1))) →
@@ -68,19 +80,19 @@ module _ (commands text : List ℕ) (at : ℕ) where
       let above : at < behind = L.next-above commands text at due _ command behind e refl in
       let within : behind ≤ length commands = L.next-within commands text at due _ command behind e refl in
       if-has (KnownPart commands text at) (eqb (getD commands at 0) endByte) (λ end. (omega arith, λ h. within))
-      (λ end. (L.name-within commands text at due _ command behind e refl _ _ (is command behind end (sym e)) (has _), omega arith, within))
+      (λ end. (name-good commands text at due _ command behind e refl _ (rw (is command behind end (sym e)) (has _)), omega arith, within))
   field-known due named has is (R.Refused refusal place) e = tt
 
   pub part-known : (kind positions i : ℕ) → KnownPart commands text at (partAt commands text kind positions i at)
   unfolding partAt
   part-known kind positions i =
       let P : Part → Type 0 = KnownPart commands text at in
-      if-has P (eqb kind sequenceKind) (λ e. value-known S.Element D.ValueOrEnd (omega arith) _ refl)
+      if-has P (eqb kind sequenceKind) (λ e. value-known S.Element D.ValueOrEnd (no-name-good text) _ refl)
       (λ e. if-has P (eqb kind structKind) (λ e. field-known D.FieldOrEnd C.Field (λ n. refl) (λ c n end. L.field-due commands text at c n end) _ refl)
       (λ e. if-has P (eqb kind mapModeKind) (λ e. field-known D.KeyOrEnd C.Text (λ n. refl) (λ c n end. L.key-due commands text at c n end) _ refl)
-      (λ e. if-has P (eqb kind mapKind && eqb (i % 2) 0) (λ e. value-known S.Key D.ValueOrEnd (omega arith) _ refl)
-      (λ e. if-has P (eqb kind mapKind) (λ e. value-known S.Value D.Value (omega arith) _ refl)
-      (λ e. if-has P (ltb i positions) (λ e. value-known (S.Position i) D.Value (omega arith) _ refl)
+      (λ e. if-has P (eqb kind mapKind && eqb (i % 2) 0) (λ e. value-known S.Key D.ValueOrEnd (no-name-good text) _ refl)
+      (λ e. if-has P (eqb kind mapKind) (λ e. value-known S.Value D.Value (no-name-good text) _ refl)
+      (λ e. if-has P (ltb i positions) (λ e. value-known (S.Position i) D.Value (no-name-good text) _ refl)
       (λ e. (le-refl at, λ h. h)))))))
 
 -- the same of an answer that reading gave
@@ -88,8 +100,8 @@ module _ (commands text : List ℕ) (kind positions i at : ℕ) (part : Part) (e
   known : KnownPart commands text at part
   known = rw e (part-known commands text at kind positions i)
 
-  pub step-inside : (step : Step) (value : ℕ) → part ≡ P.Step step value → Inside text (nameOf step)
-  step-inside step value h = (rw h at known) .0
+  pub step-good : (step : Step) (value : ℕ) → part ≡ P.Step step value → Good text (nameOf step)
+  step-good step value h = (rw h at known) .0
 
   pub step-above : (step : Step) (value : ℕ) → part ≡ P.Step step value → at ≤ value
   step-above step value h = (rw h at known) .1
@@ -102,6 +114,21 @@ module _ (commands text : List ℕ) (kind positions i at : ℕ) (part : Part) (e
 
   pub end-within : (behind : ℕ) → part ≡ P.Ended behind → at ≤ length commands → behind ≤ length commands
   end-within behind h = (rw h at known) .1
+
+-- at one kind: for the loop over one container
+module _ (commands text : List ℕ) (positions i at : ℕ) where
+  pub sequence-part : partAt commands text sequenceKind positions i at ≡ valuePart commands S.Element at (readCommand commands text at D.ValueOrEnd)
+  unfolding partAt if_then_else_
+  sequence-part = refl
+
+  pub tuple-part : partAt commands text tupleKind positions i at ≡ (if ltb i positions then valuePart commands (S.Position i) at (readCommand commands text at D.Value) else P.Ended at)
+  unfolding partAt if_then_else_
+  tuple-part = refl
+
+  -- a map has no positions
+  pub map-part : partAt commands text mapKind positions i at ≡ partAt commands text mapKind 0 i at
+  unfolding partAt if_then_else_
+  map-part = refl
 
 -- ---- a shape
 -- a text observes a primitive type
@@ -158,9 +185,9 @@ module _ (commands text : List ℕ) (at : ℕ) (due : Due) (answer : Read) (comm
   pub text-inside : (name : Name) → command ≡ C.Text name → Inside text name
   text-inside name t = L.name-within commands text at due answer command next e h _ name t refl
 
-  pub variant-inside : (options : ℕ) (shape : Shape) → shape ≡ shapeAt options text command → (number : ℕ) (name : Name) (contents : Contents) → shape ≡ H.Variant number name contents → Inside text name
-  variant-inside options shape s number name contents v =
-      L.name-within commands text at due answer command next e h command name refl (rw (sym s ∙ v) at (shape-known options text command))
+  pub variant-good : (options : ℕ) (shape : Shape) → shape ≡ shapeAt options text command → (number : ℕ) (name : Name) (contents : Contents) → shape ≡ H.Variant number name contents → Good text name
+  variant-good options shape s number name contents v =
+      name-good commands text at due answer command next e h name (rw (sym s ∙ v) at (shape-known options text command))
 
 module _ (options : ℕ) (text : List ℕ) (command : Command) (shape : Shape) (e : shape ≡ shapeAt options text command) where
   pub leaf-below : (isNull : Bool) (type : ℕ) → shape ≡ H.Leaf isNull type → type < sequenceKind

@@ -2,3 +2,6 @@ pub mod Steps
 pub mod Shapes
 pub mod Resolved
 pub mod Laws
+pub mod Told
+pub mod Leaf
+pub mod Field

@@ -8,7 +8,6 @@ use Rattle.logic.specs.Test.{if_then_else_}
 use Rattle.datatype.specs.Codes.{null, boolean, int8, int16, int32, int64, uint8, uint16, uint32, uint64, float32, float64}
 use Rattle.options.specs.Word.{mapAsStruct, binaryType}
 use Rattle.text.specs.Name.{inside, bytesOf}
-use Rattle.text.specs.Utf8.{isUtf8}
 use Rattle.chrono.specs.Text.{textType}
 use Rattle.commands.specs.declared.Command.{Command}
 use Rattle.commands.specs.declared.Command.the-variants as C
@@ -101,8 +100,10 @@ takesValue D.ValueOrEnd = true
 takesValue D.FieldOrEnd = false
 takesValue D.KeyOrEnd = false
 
--- the command with that byte stands there, and the name behind it is inside the text and UTF-8
+-- the command with that byte stands there, and the name behind it is inside the text
 unfoldable pub namedAt : List ℕ → List ℕ → ℕ → ℕ → Bool
-namedAt commands text byte at =
-    leb (at + 5) (length commands) && eqb (getD commands at 0) byte
-    && inside text (nameAt commands (at + 1)) && isUtf8 (bytesOf text (nameAt commands (at + 1)))
+namedAt commands text byte at = leb (at + 5) (length commands) && eqb (getD commands at 0) byte && inside text (nameAt commands (at + 1))
+
+-- a struct begins there
+unfoldable pub structAt : List ℕ → ℕ → Bool
+structAt commands at = ltb at (length commands) && eqb (getD commands at 0) structByte

@@ -1,8 +1,12 @@
 -- Steps and names as words of the table.
+use mathlib.Core.Path.{_≡_}
+use mathlib.Core.Bool.{true}
 use mathlib.Core.List.{List}
 use Prim.Native.Nat.{ℕ, _+_, _*_, _/_, _%_, _≤_}
 use lib.ListN.{length}
 use Rattle.text.specs.declared.Name.{Name}
+use Rattle.text.specs.Name.{bytesOf}
+use Rattle.text.specs.Utf8.{isUtf8}
 use Rattle.shapes.specs.declared.Step.{Step}
 use Rattle.shapes.specs.declared.Step.the-variants as S
 
@@ -40,3 +44,8 @@ unpackedName w = record { offset = w / 65536; length = w % 65536 }
 -- a name that ends inside the text
 abbrev pub Inside : List ℕ → Name → Type 0
 Inside text name = name .offset + name .length ≤ length text
+
+-- and whose bytes are UTF-8
+pub record Good (text : List ℕ) (name : Name) : Type 0 where
+  pub inside : Inside text name
+  pub utf8 : isUtf8 (bytesOf text name) ≡ true

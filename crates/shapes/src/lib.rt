@@ -1,17 +1,18 @@
 // What a command begins, the steps down from a place, and what stands before a part of a container. Nothing is traced
 // here: these read commands alone.
 ghost use mathlib.Core.Path.{_≡_};
-ghost use Prim.Native.Nat.{_+_, _*_, _<_, _≤_};
-ghost use lib.ListN.{length};
+ghost use lib.ListN.{getD};
 ghost use Rattle.text.specs.declared.Name.{Name};
 ghost use Rattle.text.specs.Name.{bytesOf};
 ghost use Rattle.chrono.specs.Text.{textType};
 ghost use Rattle.commands.specs.declared.Command.the-variants.{Text};
-ghost use Rattle.commands.specs.Commands.{readCommand, nameAt};
+ghost use Rattle.commands.specs.Commands.{readCommand, textByte};
 ghost use Rattle.commands.specs.declared.Due.the-variants.{FieldOrEnd, KeyOrEnd};
 ghost use Rattle.model.specs.Kinds.{mapKind};
 ghost use Rattle.shapes.specs.Steps.{codeOf, nameOf, packedName, unpackedName, Inside};
-ghost use Rattle.shapes.specs.Shapes.{mapKindOf, shapeAt, valuePart, fieldPart, partAt, plainByte, plainAt, takesValue, namedAt};
+ghost use Rattle.shapes.specs.Shapes.{mapKindOf, shapeAt, valuePart, fieldPart, partAt, plainByte, plainAt, takesValue, namedAt, structAt};
+ghost use Rattle.shapes.specs.Leaf.{plainKind, leafAt};
+ghost use Rattle.shapes.specs.Field.{openerOf, dueOf, fieldAt};
 ghost use mathlib.Core.Bool.{true};
 use chrono::text_type;
 use commands::Command;
@@ -131,8 +132,31 @@ pub enum Part {
     Refused(Refusal, usize),
 }
 
-// The commands that parts are told by: of those up to struct, text and tuple have operands.
+// A value that is a primitive: whether it is null, its type and the offset behind it; or another command, or none that
+// can stand there.
+pub enum Leaf {
+    Value(bool, u32, usize),
+    Other,
+}
+
+// What stands where a field or the end is due: a name inside the text, which may still not be UTF-8; the end; or a
+// refusal.
+pub enum Field {
+    Named(Name),
+    Ended,
+    Refused(Refusal),
+}
+
+// The commands that are told by their byte: of those up to struct, text and tuple have operands.
+const UNIT: u8 = 0x00;
+
+const CHAR: u8 = 0x0C;
+
 const TEXT: u8 = 0x0D;
+
+const BYTES: u8 = 0x0E;
+
+const NONE: u8 = 0x0F;
 
 const TUPLE_BYTE: u8 = 0x13;
 
@@ -222,28 +246,10 @@ fn is_plain(commands: &[u8], at: usize) -> bool
     if commands.len() <= at {
         return false;
     }
-    is_plain_byte(commands[at])
+    is_plain_byte(commands::read_byte(commands, at))
 }
 
-// An operand from its two bytes.
-fn operand(low: u8, high: u8) -> u16
-    ensures { λ r. ⌜ r ≡ low + high * 256 ⌝ }
-{
-    low as u16 + high as u16 * 256
-}
-
-// The name behind a command's byte.
-fn name_behind(commands: &[u8], at: usize) -> Name
-    requires { ⌜ at + 5 ≤ length (now commands) ⌝ }
-    ensures { λ r. ⌜ r ≡ nameAt (now (commands .entry)) (at + 1) ⌝ }
-{
-    Name {
-        offset: operand(commands[at + 1], commands[at + 2]),
-        length: operand(commands[at + 3], commands[at + 4]),
-    }
-}
-
-// Whether the command with that byte stands at an offset, with a good name behind it.
+// Whether the command with that byte stands at an offset, with a name behind it that is inside the text.
 fn is_named(commands: &[u8], text: &[u8], byte: u8, at: usize) -> bool
     ensures { λ r. ⌜ r ≡ namedAt (now (commands .entry)) (now (text .entry)) byte at ⌝ }
 {
@@ -253,19 +259,100 @@ fn is_named(commands: &[u8], text: &[u8], byte: u8, at: usize) -> bool
     if commands.len() - at < 5 {
         return false;
     }
-    if commands[at] != byte {
+    if commands::read_byte(commands, at) != byte {
         return false;
     }
-    let name = name_behind(commands, at);
-    if name.is_inside(text) {
-        name.is_utf8(text)
+    commands::read_name(commands, at + 1).is_inside(text)
+}
+
+// Whether a struct begins at an offset.
+pub fn is_struct_at(commands: &[u8], at: usize) -> bool
+    ensures { λ r. ⌜ r ≡ structAt (now (commands .entry)) at ⌝ }
+{
+    if commands.len() <= at {
+        return false;
+    }
+    commands::read_byte(commands, at) == STRUCT_BYTE
+}
+
+// The type of a value before text, by its byte: the byte itself, but a char is a UInt32.
+pub fn plain_kind(byte: u8) -> u32
+    ensures { λ r. ⌜ r ≡ plainKind byte ⌝ }
+{
+    if byte == CHAR { 8 } else { byte as u32 }
+}
+
+// A text that is a value.
+fn text_leaf(commands: &[u8], text: &[u8], options: TracingOptions, at: usize) -> Leaf
+    requires { ⌜ getD (now commands) at 0 ≡ textByte ⌝ }
+    ensures { λ r. ⌜ r ≡ leafAt (options .word) (now (commands .entry)) (now (text .entry)) at ⌝ }
+{
+    if is_named(commands, text, TEXT, at) {
+        let name = commands::read_name(commands, at + 1);
+        if name.is_utf8(text) {
+            return Leaf::Value(false, text_kind(name, text, options), at + 5);
+        }
+    }
+    Leaf::Other
+}
+
+// The value at an offset, where it is a primitive.
+pub fn leaf_at(commands: &[u8], text: &[u8], options: TracingOptions, at: usize) -> Leaf
+    ensures { λ r. ⌜ r ≡ leafAt (options .word) (now (commands .entry)) (now (text .entry)) at ⌝ }
+{
+    if commands.len() <= at {
+        return Leaf::Other;
+    }
+    let byte = commands::read_byte(commands, at);
+    if byte < TEXT {
+        return Leaf::Value(byte == UNIT, plain_kind(byte), at + 1);
+    }
+    if byte == TEXT {
+        return text_leaf(commands, text, options, at);
+    }
+    if byte == BYTES {
+        return Leaf::Value(false, options.binary_type().code() as u32, at + 1);
+    }
+    if byte == NONE {
+        return Leaf::Value(true, UNKNOWN, at + 1);
+    }
+    Leaf::Other
+}
+
+// The byte that opens a field: 16 in a struct, and that of a text in map mode.
+fn opener(kind: u32) -> u8
+    ensures { λ r. ⌜ r ≡ openerOf kind ⌝ }
+{
+    if kind == STRUCT { FIELD_BYTE } else { TEXT }
+}
+
+// What is due where a field can stand.
+fn due_in(kind: u32) -> Due
+    ensures { λ r. ⌜ r ≡ dueOf kind ⌝ }
+{
+    if kind == STRUCT {
+        Due::FieldOrEnd
     } else {
-        false
+        Due::KeyOrEnd
     }
 }
 
+// The field at an offset, of a struct or of a map in map mode.
+pub fn field_at(commands: &[u8], text: &[u8], kind: u32, at: usize) -> Field
+    ensures { λ r. ⌜ r ≡ fieldAt (now (commands .entry)) (now (text .entry)) kind at ⌝ }
+{
+    if is_named(commands, text, opener(kind), at) {
+        return Field::Named(commands::read_name(commands, at + 1));
+    }
+    let read = commands::read_command(commands, text, at, due_in(kind));
+    let Read::Command(_, _) = read else {
+        return Field::Refused(read.refusal());
+    };
+    Field::Ended
+}
+
 // A part that is a value, or the end where it is due. A value with no operands is there at once.
-fn value_part(commands: &[u8], text: &[u8], step: Step, due: Due, at: usize) -> Part
+pub fn value_part(commands: &[u8], text: &[u8], step: Step, due: Due, at: usize) -> Part
     requires { ⌜ takesValue due ≡ true ⌝ }
     ensures { λ r. ⌜ r ≡ valuePart (now (commands .entry)) step at (readCommand (now (commands .entry)) (now (text .entry)) at due) ⌝ }
 {
@@ -276,49 +363,15 @@ fn value_part(commands: &[u8], text: &[u8], step: Step, due: Due, at: usize) -> 
     let Read::Command(_, next) = read else {
         return Part::Refused(read.refusal(), read.place());
     };
-    if commands[at] == END {
+    if commands::read_byte(commands, at) == END {
         Part::Ended(next)
     } else {
         Part::Step(step, at)
     }
 }
 
-// A field (16), or the end. A field with a good name is there at once.
-fn field_part(commands: &[u8], text: &[u8], at: usize) -> Part
-    ensures { λ r. ⌜ r ≡ fieldPart (now (commands .entry)) at (readCommand (now (commands .entry)) (now (text .entry)) at FieldOrEnd) ⌝ }
-{
-    if is_named(commands, text, FIELD_BYTE, at) {
-        return Part::Step(Step::Field(name_behind(commands, at)), at + 5);
-    }
-    let read = commands::read_command(commands, text, at, Due::FieldOrEnd);
-    let Read::Command(command, next) = read else {
-        return Part::Refused(read.refusal(), read.place());
-    };
-    let Command::Field(name) = command else {
-        return Part::Ended(next);
-    };
-    Part::Step(Step::Field(name), next)
-}
-
-// A key that is text (0D), or the end. A key with a good name is there at once.
-fn key_part(commands: &[u8], text: &[u8], at: usize) -> Part
-    ensures { λ r. ⌜ r ≡ fieldPart (now (commands .entry)) at (readCommand (now (commands .entry)) (now (text .entry)) at KeyOrEnd) ⌝ }
-{
-    if is_named(commands, text, TEXT, at) {
-        return Part::Step(Step::Field(name_behind(commands, at)), at + 5);
-    }
-    let read = commands::read_command(commands, text, at, Due::KeyOrEnd);
-    let Read::Command(command, next) = read else {
-        return Part::Refused(read.refusal(), read.place());
-    };
-    let Command::Text(name) = command else {
-        return Part::Ended(next);
-    };
-    Part::Step(Step::Field(name), next)
-}
-
 // A key or a value of a map, by turns.
-fn entry_part(commands: &[u8], text: &[u8], i: usize, at: usize) -> Part
+pub fn entry_part(commands: &[u8], text: &[u8], i: usize, at: usize) -> Part
     ensures { λ r. ⌜ r ≡ partAt (now (commands .entry)) (now (text .entry)) mapKind 0 i at ⌝ }
 {
     if i % 2 == 0 {
@@ -326,33 +379,4 @@ fn entry_part(commands: &[u8], text: &[u8], i: usize, at: usize) -> Part
     } else {
         value_part(commands, text, Step::Value, Due::Value, at)
     }
-}
-
-// What stands before part i of a container of that kind, with so many positions.
-pub fn next_part(
-    commands: &[u8],
-    text: &[u8],
-    kind: u32,
-    positions: u16,
-    i: usize,
-    at: usize,
-) -> Part
-    ensures { λ r. ⌜ r ≡ partAt (now (commands .entry)) (now (text .entry)) kind positions i at ⌝ }
-{
-    if kind == SEQUENCE {
-        return value_part(commands, text, Step::Element, Due::ValueOrEnd, at);
-    }
-    if kind == STRUCT {
-        return field_part(commands, text, at);
-    }
-    if kind == MAP_MODE {
-        return key_part(commands, text, at);
-    }
-    if kind == MAP {
-        return entry_part(commands, text, i, at);
-    }
-    if i < positions as usize {
-        return value_part(commands, text, Step::Position(i as u16), Due::Value, at);
-    }
-    Part::Ended(at)
 }

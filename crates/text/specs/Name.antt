@@ -1,9 +1,9 @@
 -- Names, as in document 01's "Commands and texts": an offset and a length in the text.
-use Prim.Native.Nat.{ℕ, suc, _+_}
+use Prim.Native.Nat.{ℕ, suc, _+_, _*_, _-_, _%_}
 use mathlib.Core.Bool.{Bool, true, false, _&&_, _||_}
 use mathlib.Core.List.{List, [], _∷_}
 use lib.Dec.{leb, ltb, eqb}
-use lib.ListN.{length, take, drop}
+use lib.ListN.{length, take, drop, getD}
 use Rattle.logic.specs.Test.{if_then_else_}
 use Rattle.text.specs.declared.Name.{Name}
 
@@ -37,3 +37,9 @@ dot = 0x2E
 unfoldable pub dots : List ℕ → ℕ
 dots [] = 0
 dots (b ∷ x) = if eqb b dot then suc (dots x) else dots x
+
+-- a name's tag: its length and its last three bytes, in a word. Equal names have equal tags, and most unequal ones have not.
+unfoldable pub tagOf : List ℕ → ℕ
+tagOf bytes =
+    if ltb (length bytes) 3 then length bytes
+    else length bytes % 256 + 256 * getD bytes (length bytes - 1) 0 + 65536 * getD bytes (length bytes - 2) 0 + 16777216 * getD bytes (length bytes - 3) 0

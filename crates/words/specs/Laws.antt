@@ -1,10 +1,17 @@
--- Laws of the words past those of all places: a store to a word of a place leaves them, and a cleared table depends on nothing else.
+-- Laws of stores: what is read after one, and of the words past those of all places, which a store to a word of a place leaves. A cleared table depends on nothing else.
 use mathlib.Core.Path.{_≡_, refl, ap}
 use mathlib.Core.List.{List, [], _∷_, _++_}
 use Prim.Native.Nat.{ℕ, zero, suc, _+_, _*_, _<_}
 use native.Mathlib.Omega.{arith}
-use lib.ListN.{set, drop, replicate}
-use Rattle.words.specs.Word.{withWord, cleared, tailOf}
+use lib.ListN.{length, set, drop, replicate}
+use lib.Seq.{getD-set-same, getD-set-other}
+use Rattle.words.specs.Word.{word, withWord, cleared, tailOf}
+
+pub word-same : (t : List ℕ) (p f v : ℕ) → p * 16 + f < length t → word (withWord t p f v) p f ≡ v
+word-same t p f v l = getD-set-same t (p * 16 + f) v 0 l
+
+pub word-other : (t : List ℕ) (p f v q g : ℕ) → (q * 16 + g ≡ p * 16 + f → ⊥) → word (withWord t p f v) q g ≡ word t q g
+word-other t p f v q g n = getD-set-other t (p * 16 + f) (q * 16 + g) v 0 n
 
 drop-set : (n i v : ℕ) (t : List ℕ) → i < n → drop n (set t i v) ≡ drop n t
 drop-set zero i v t h = absurd (omega arith)

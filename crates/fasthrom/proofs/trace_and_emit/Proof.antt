@@ -8,7 +8,7 @@ use Rattle.refusal.specs.declared.Refusal.{Refusal}
 use Rattle.samples.specs.declared.Traced.{Traced}
 use Rattle.samples.specs.declared.Traced.the-variants as T
 use Rattle.samples.specs.Flat.{out, fromSamples, SoundTraced}
-use Rattle.places.specs.Layout.{Sound}
+use Rattle.places.specs.Layout.{Linked}
 use Rattle.order.specs.Flat.{sortedPlaces}
 use Rattle.schema.specs.declared.Emitted.{Emitted}
 use Rattle.schema.specs.declared.Emitted.the-variants as E
@@ -20,11 +20,11 @@ use Rattle.fasthrom.proofs.trace_and_emit.Statement.{statement}
 use Rattle.fasthrom.proofs.trace_and_emit.Tie as tie
 
 module _ (text u : List ℕ) (r : Traced) (behind n : ℕ) (next : r ≡ T.Next behind n) (after : SoundTraced text u 1 r) where
-  sound-after : Sound text u 1024
-  sound-after = let s : SoundTraced text u 1 (T.Next behind n) = rw next at after in sound-more text u n (s .0)
+  linked-after : Linked text u 1024
+  linked-after = let s : SoundTraced text u 1 (T.Next behind n) = rw next at after in sound-more text u n (s .0)
 
   few-after : n ≤ 1024
-  few-after = let s : SoundTraced text u 1 (T.Next behind n) = rw next at after in s .0 .most
+  few-after = let s : SoundTraced text u 1 (T.Next behind n) = rw next at after in s .0 .linked .most
 
 module _ (options : ℕ) (commands text t u fields names : List ℕ) (r : Traced) (traced : out r u ≡ fromSamples commands text options t) where
   refused : (refusal : Refusal) (place : ℕ) → r ≡ T.Refused refusal place → given (O.Refused refusal place) u fields names ≡ emittedFrom options commands text fields names (fromSamples commands text options t)
@@ -43,7 +43,7 @@ trace-and-emit-spec =
     (tie.spec
     (λ c κs. search needs)
     (λ c. search needs)
-    (λ c κs. (search (sound-after, needs), search (few-after, needs)))
+    (λ c κs. (search (linked-after, needs), search (few-after, needs)))
     (λ c. search needs)
     (λ c. search needs)
     (λ c. search needs)

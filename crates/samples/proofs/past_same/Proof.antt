@@ -1,7 +1,7 @@
--- `past_same`: no sequence, no element held, or one.
+-- `past_same`: no element held, or one.
 use borrow.Author.Needs.{needs}
 use borrow.Author.Tests.{not-true, not-false}
-use Rattle.samples.specs.Same.{no-sequence, none-held, one-held}
+use Rattle.samples.specs.Same.{none-held, one-held}
 use Rattle.samples.proofs.past_same.Statement.{statement}
 use Rattle.samples.proofs.past_same.Tie as tie
 
@@ -9,7 +9,6 @@ pub past-same-spec : {M : Type 1} → statement M
 past-same-spec =
     tie.close
     (tie.spec
-    (λ c. search (no-sequence, needs))
     (λ c κs. search needs)
     (λ c. search needs)
     (λ c κs. search needs)

@@ -18,10 +18,10 @@ sound : (text t u : List ℕ) → 16384 ≤ length t → u ≡ cleared t 16384 �
 sound text t u h e = rw e (sound-cleared text t h)
 
 few : (text t : List ℕ) (n : ℕ) (r : Traced) (behind m : ℕ) → SoundTraced text t n r → r ≡ T.Next behind m → m ≤ 1024
-few text t n r behind m s e = traced-sound text t n r s behind m e .most
+few text t n r behind m s e = traced-sound text t n r s behind m e .linked .most
 
 roomy : (text t : List ℕ) (n : ℕ) (r : Traced) (behind m : ℕ) → SoundTraced text t n r → r ≡ T.Next behind m → 16384 ≤ length t
-roomy text t n r behind m s e = traced-sound text t n r s behind m e .room
+roomy text t n r behind m s e = traced-sound text t n r s behind m e .linked .room
 
 pub trace-spec : {M : Type 1} → statement M
 trace-spec =

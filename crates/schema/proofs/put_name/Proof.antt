@@ -14,14 +14,14 @@ use Rattle.text.specs.Decimal.{decimal}
 use Rattle.words.specs.Word.{word}
 use Rattle.model.specs.Emission.{elementName, keyName, valueName}
 use Rattle.shapes.specs.Steps.{fieldCode, Inside}
-use Rattle.places.specs.Layout.{stepWord, Sound}
+use Rattle.places.specs.Layout.{stepWord, Linked}
 use Rattle.order.specs.Flat.{givenName}
 use Rattle.walk.specs.Order.{childName}
 use Rattle.schema.specs.Put.{Put, putBytes}
 use Rattle.schema.proofs.put_name.Statement.{statement}
 use Rattle.schema.proofs.put_name.Tie as tie
 
-inside : (text t : List ℕ) (child : ℕ) (name : Name) → Sound text t 1024 → child < 1024 → name ≡ givenName t child → Inside text name
+inside : (text t : List ℕ) (child : ℕ) (name : Name) → Linked text t 1024 → child < 1024 → name ≡ givenName t child → Inside text name
 inside text t child name sound here g = rw g (sound .names child here)
 
 -- words of positions start at 4

@@ -11,19 +11,19 @@ use Rattle.shapes.proofs.value_part.Tie as tie
 returns-2 : tie.Need-returns-2
 returns-2 c = rw (c .place .ensures, c .before .refusal .ensures, ← c .before .before .before .before .read-command .ensures, c .before .before .enum-told .given .1)
 
-index : tie.Need-shared-slice-read-if2
-index c =
-    let e = c .before .before .before .before .read-command .ensures in
-    let h = c .before .before .read .given .1 in
+there : tie.Need-read-byte-requires
+there c κs =
+    let e = c .before .before .before .read-command .ensures in
+    let h = c .before .read .given .1 in
     omega (arith, next-above _ _ _ _ _ _ _ e h, next-within _ _ _ _ _ _ _ e h)
 
 returns-3 : tie.Need-returns-3
 unfolding if_then_else_
-returns-3 c = rw (← c .before .before .before .before .before .read-command .ensures, c .before .before .before .read .given .1, eq-eqb _ _ (c .if2 .taken))
+returns-3 c = rw (← c .before .before .before .before .before .read-command .ensures, c .before .before .before .read .given .1, ← c .before .read-byte .ensures, eq-eqb _ _ (c .if2 .taken))
 
 returns-4 : tie.Need-returns-4
 unfolding if_then_else_
-returns-4 c = rw (← c .before .before .before .before .before .read-command .ensures, c .before .before .before .read .given .1, ne-eqb _ _ (c .if2 .left))
+returns-4 c = rw (← c .before .before .before .before .before .read-command .ensures, c .before .before .before .read .given .1, ← c .before .read-byte .ensures, ne-eqb _ _ (c .if2 .left))
 
 pub value-part-spec : {M : Type 1} → statement M
 value-part-spec =
@@ -37,6 +37,6 @@ value-part-spec =
     (λ c κs. search needs)
     (λ c κs. search needs)
     returns-2
-    index
+    there
     returns-3
     returns-4)

@@ -1,9 +1,9 @@
 -- `plain_kind`: a char, or any other.
 use borrow.Author.Tests.{eq-eqb, ne-eqb}
 use Rattle.logic.specs.Test.{if_then_else_}
-use Rattle.samples.specs.Plain.{plainKind}
-use Rattle.samples.proofs.plain_kind.Statement.{statement}
-use Rattle.samples.proofs.plain_kind.Tie as tie
+use Rattle.shapes.specs.Leaf.{plainKind}
+use Rattle.shapes.proofs.plain_kind.Statement.{statement}
+use Rattle.shapes.proofs.plain_kind.Tie as tie
 
 returns : tie.Need-returns
 unfolding plainKind if_then_else_

@@ -1,0 +1,112 @@
+-- `leaf_at` goes by the byte: a law for each way.
+use borrow.Author.Needs.{needs}
+use borrow.Author.Tests.{le-leb}
+use mathlib.Core.Path.{_≡_, refl, sym, _∙_}
+use mathlib.Core.Bool.{true, false}
+use mathlib.Core.List.{List}
+use Prim.Native.Nat.{ℕ, _+_, _<_, _≤_}
+use native.Mathlib.Omega.{arith}
+use lib.Dec.{eqb}
+use lib.ListN.{length, getD}
+use Rattle.logic.specs.Test.{if_then_else_}
+use Rattle.datatype.specs.Codes.{null}
+use Rattle.options.specs.Word.{binaryType}
+use Rattle.commands.specs.declared.Command.{Command}
+use Rattle.commands.specs.declared.Command.the-variants as C
+use Rattle.commands.specs.declared.Due.the-variants as D
+use Rattle.commands.specs.declared.Read.{Read}
+use Rattle.commands.specs.declared.Read.the-variants as R
+use Rattle.commands.specs.Commands.{plain, forms, formOf, operands, made, nameIn, textByte, stands, badCommand, badName, readCommand}
+use Rattle.commands.specs.Laws.{byteOf, good, read-made}
+use Rattle.shapes.specs.declared.Leaf.{Leaf}
+use Rattle.shapes.specs.declared.Leaf.the-variants as O
+use Rattle.shapes.specs.Shapes.{shapeAt}
+use Rattle.shapes.specs.Leaf.{plainKind, leafBy, leafRead, leafAt, value-stands, plain-shape, plain-read}
+use Rattle.shapes.proofs.leaf_at.Statement.{statement}
+use Rattle.shapes.proofs.leaf_at.Tie as tie
+
+ended : (options : ℕ) (commands text : List ℕ) (at : ℕ) → length commands ≤ at → O.Other ≡ leafAt options commands text at
+unfolding leafAt readCommand badCommand if_then_else_
+ended options commands text at h = rw (le-leb _ _ h)
+
+-- a command past none (0F) begins no leaf
+past : (options : ℕ) (text : List ℕ) (command : Command) (behind : ℕ) → 15 < byteOf command → O.Other ≡ leafBy behind (shapeAt options text command)
+unfolding shapeAt
+past options text C.Unit behind h = absurd (omega arith)
+past options text C.Bool behind h = absurd (omega arith)
+past options text C.I8 behind h = absurd (omega arith)
+past options text C.I16 behind h = absurd (omega arith)
+past options text C.I32 behind h = absurd (omega arith)
+past options text C.I64 behind h = absurd (omega arith)
+past options text C.U8 behind h = absurd (omega arith)
+past options text C.U16 behind h = absurd (omega arith)
+past options text C.U32 behind h = absurd (omega arith)
+past options text C.U64 behind h = absurd (omega arith)
+past options text C.F32 behind h = absurd (omega arith)
+past options text C.F64 behind h = absurd (omega arith)
+past options text C.Char behind h = absurd (omega arith)
+past options text (C.Text name) behind h = absurd (omega arith)
+past options text C.Bytes behind h = absurd (omega arith)
+past options text C.None behind h = absurd (omega arith)
+past options text C.Some behind h = refl
+past options text C.NewtypeStruct behind h = refl
+past options text C.Sequence behind h = refl
+past options text (C.Tuple n) behind h = refl
+past options text C.Map behind h = refl
+past options text C.Struct behind h = refl
+past options text (C.Field name) behind h = refl
+past options text C.End behind h = refl
+past options text (C.UnitVariant k name) behind h = refl
+past options text (C.NewtypeVariant k name) behind h = refl
+past options text (C.TupleVariant k name n) behind h = refl
+past options text (C.StructVariant k name) behind h = refl
+
+module _ (options : ℕ) (commands text : List ℕ) (at byte : ℕ) (there : at < length commands) (is : byte ≡ getD commands at 0) where
+  by-read : (answer : Read) → readCommand commands text at D.Value ≡ answer → 15 < byte → O.Other ≡ leafRead options text answer
+  by-read (R.Command command next) e h =
+      let b : byteOf command ≡ getD commands at 0 = good commands text at D.Value command next e .byte in
+      past options text command next (omega arith)
+  by-read (R.Refused refusal place) e h = refl
+
+  none-follows : textByte ≤ byte → (byte ≡ 0x0D → ⊥) → (byte ≡ 0x0E → ⊥) → (byte ≡ 0x0F → ⊥) → O.Other ≡ leafAt options commands text at
+  unfolding leafAt
+  none-follows h a b c = by-read (readCommand commands text at D.Value) refl (omega arith)
+
+  before-text : (kind : ℕ) → byte < textByte → kind ≡ plainKind byte → O.Value (eqb byte 0) kind (at + 1) ≡ leafAt options commands text at
+  unfolding leafAt
+  before-text kind h k = rw (plain-read commands text at byte D.Value (sym is) there h (value-stands byte h) refl, plain-shape text commands (at + 1) options byte h, k)
+
+  -- a command with no operands
+  alone : (which : ℕ) (command : Command) (leaf : Leaf) → byte ≡ which → which < length forms → formOf which ≡ plain command → stands D.Value which ≡ true → leaf ≡ leafBy (at + 1) (shapeAt options text command) → leaf ≡ leafAt options commands text at
+  unfolding leafAt operands made nameIn badName
+  alone which command leaf b small form s l =
+      let fits : at + 1 ≤ length commands = omega arith in
+      rw (read-made commands text at D.Value which (sym is ∙ b) small (rw form fits) s (rw form) refl, form) l
+
+  bytes-there : (kind code : ℕ) → byte ≡ 0x0E → kind ≡ code → code ≡ binaryType options → O.Value false kind (at + 1) ≡ leafAt options commands text at
+  unfolding shapeAt formOf
+  bytes-there kind code b k t = alone 0x0E C.Bytes (O.Value false kind (at + 1)) b (omega arith) refl refl (rw (k, t))
+
+  none-there : byte ≡ 0x0F → O.Value true null (at + 1) ≡ leafAt options commands text at
+  unfolding shapeAt formOf
+  none-there b = alone 0x0F C.None (O.Value true null (at + 1)) b (omega arith) refl refl refl
+
+pub leaf-at-spec : {M : Type 1} → statement M
+leaf-at-spec =
+    tie.close
+    (tie.spec
+    (λ c. search (ended, needs))
+    (λ c κs. search needs)
+    (λ c κs. search needs)
+    (λ c. search needs)
+    (λ c. search (before-text, needs))
+    (λ c κs. search needs)
+    (λ c. search needs)
+    (λ c κs. search needs)
+    (λ c κs. search needs)
+    (λ c. search needs)
+    (λ c. search needs)
+    (λ c. search (bytes-there, needs))
+    (λ c. search needs)
+    (λ c. search (none-there, needs))
+    (λ c. search (none-follows, needs)))

@@ -1,0 +1,135 @@
+-- The value at an offset, where it is a primitive.
+use mathlib.Core.Path.{_≡_, refl, sym, _∙_}
+use mathlib.Core.Bool.{Bool, true, false, not}
+use mathlib.Core.List.{List}
+use Prim.{tt}
+use Prim.Native.Nat.{ℕ, zero, suc, _+_, _<_, _≤_}
+use native.Mathlib.Omega.{arith}
+use borrow.Author.Tests.{eqb-true, eqb-false, not-true}
+use lib.Dec.{eqb}
+use lib.ListN.{length, getD}
+use Rattle.logic.specs.Test.{if_then_else_, cases}
+use Rattle.logic.specs.Flag.{if-either}
+use Rattle.logic.specs.Table.{allBelow, below-at}
+use Rattle.datatype.specs.Codes.{uint32}
+use Rattle.commands.specs.declared.Command.{Command}
+use Rattle.commands.specs.declared.Read.{Read}
+use Rattle.commands.specs.declared.Read.the-variants as R
+use Rattle.commands.specs.declared.Due.{Due}
+use Rattle.commands.specs.declared.Due.the-variants as D
+use Rattle.commands.specs.Commands.{formOf, operands, made, nameIn, textByte, stands, badName, badKey, readCommand}
+use Rattle.commands.specs.Laws.{Good, good, read-made}
+use Rattle.model.specs.Kinds.{sequenceKind}
+use Rattle.shapes.specs.declared.Shape.{Shape}
+use Rattle.shapes.specs.declared.Shape.the-variants as H
+use Rattle.shapes.specs.declared.Leaf.{Leaf}
+use Rattle.shapes.specs.declared.Leaf.the-variants as O
+use Rattle.shapes.specs.Shapes.{shapeAt}
+use Rattle.shapes.specs.Laws.{leaf-below}
+
+-- the type of a value before text has its command's number, and a char is a UInt32
+abbrev pub charByte : ℕ
+charByte = 0x0C
+
+unfoldable pub plainKind : ℕ → ℕ
+plainKind byte = if eqb byte charByte then uint32 else byte
+
+-- a shape as a leaf
+abbrev pub leafBy : ℕ → Shape → Leaf
+leafBy behind (H.Leaf isNull kind) = O.Value isNull kind behind
+leafBy behind (H.Parts kind n) = O.Other
+leafBy behind (H.Variant number name contents) = O.Other
+leafBy behind H.NoValue = O.Other
+
+-- what was read as a leaf
+abbrev pub leafRead : ℕ → List ℕ → Read → Leaf
+leafRead options text (R.Command command behind) = leafBy behind (shapeAt options text command)
+leafRead options text (R.Refused refusal place) = O.Other
+
+unfoldable pub leafAt : ℕ → List ℕ → List ℕ → ℕ → Leaf
+leafAt options commands text at = leafRead options text (readCommand commands text at D.Value)
+
+-- ---- what is known of a leaf
+pub record LeafThere (options : ℕ) (commands text : List ℕ) (at : ℕ) (isNull : Bool) (kind behind : ℕ) : Type 0 where
+  pub command : Command
+  pub read : readCommand commands text at D.Value ≡ R.Command command behind
+  pub shape : shapeAt options text command ≡ H.Leaf isNull kind
+  pub below : kind < sequenceKind
+  pub above : at < behind
+  pub within : behind ≤ length commands
+
+other : (isNull : Bool) (kind behind : ℕ) → O.Other ≡ O.Value isNull kind behind → ⊥
+other isNull kind behind e = let z : _≡_ {A = ℕ} 0 1 = cc in omega arith
+
+module _ (options : ℕ) (commands text : List ℕ) (at : ℕ) (isNull : Bool) (kind behind : ℕ) where
+  by-shape : (command : Command) (next : ℕ) → readCommand commands text at D.Value ≡ R.Command command next → (shape : Shape) → shapeAt options text command ≡ shape → leafBy next shape ≡ O.Value isNull kind behind →
+      LeafThere options commands text at isNull kind behind
+  by-shape command next e (H.Leaf n k) s h =
+      let b : next ≡ behind = cc in
+      let read : readCommand commands text at D.Value ≡ R.Command command behind = rw b at e in
+      let g : Good commands text at D.Value command behind = good commands text at D.Value command behind read in
+      let shape : shapeAt options text command ≡ H.Leaf isNull kind = cc in
+      record { command = command; read = read; shape = shape; below = leaf-below options text command _ refl isNull kind shape; above = g .above; within = g .within }
+  by-shape command next e (H.Parts k n) s h = absurd (other isNull kind behind h)
+  by-shape command next e (H.Variant number name contents) s h = absurd (other isNull kind behind h)
+  by-shape command next e H.NoValue s h = absurd (other isNull kind behind h)
+
+  by-read : (answer : Read) → readCommand commands text at D.Value ≡ answer → leafRead options text answer ≡ O.Value isNull kind behind → LeafThere options commands text at isNull kind behind
+  by-read (R.Command command next) e h = by-shape command next e (shapeAt options text command) refl h
+  by-read (R.Refused refusal place) e h = absurd (other isNull kind behind h)
+
+module _ (options : ℕ) (commands text : List ℕ) (at : ℕ) (leaf : Leaf) (e : leaf ≡ leafAt options commands text at) (isNull : Bool) (kind behind : ℕ) (h : leaf ≡ O.Value isNull kind behind) where
+  pub leaf-there : LeafThere options commands text at isNull kind behind
+  unfolding leafAt
+  leaf-there = by-read options commands text at isNull kind behind (readCommand commands text at D.Value) refl (sym e ∙ h)
+
+  pub leaf-kind : kind < sequenceKind
+  leaf-kind = leaf-there .below
+
+  pub leaf-above : at < behind
+  leaf-above = leaf-there .above
+
+  pub leaf-within : behind ≤ length commands
+  leaf-within = leaf-there .within
+
+-- ---- the values before text, by going through them: no operands, no name, and a leaf
+pub value-stands : (byte : ℕ) → byte < textByte → stands D.Value byte ≡ true
+unfolding allBelow
+value-stands byte h = below-at textByte (stands D.Value) refl byte h
+
+no-operands : (byte : ℕ) → byte < textByte → operands (formOf byte) ≡ 0
+unfolding formOf operands allBelow
+no-operands byte h = eqb-true (operands (formOf byte)) 0 (below-at textByte (λ b. eqb (operands (formOf b)) 0) refl byte h)
+
+module _ (text commands : List ℕ) (at : ℕ) where
+  no-name : (byte : ℕ) → byte < textByte → badName text (nameIn (formOf byte) commands at) ≡ false
+  unfolding formOf nameIn badName allBelow
+  no-name byte h = not-true (badName text (nameIn (formOf byte) commands at)) (below-at textByte (λ b. not (badName text (nameIn (formOf b) commands at))) refl byte h)
+
+  module _ (options : ℕ) where
+    IsLeaf : ℕ → Type 0
+    IsLeaf byte = shapeAt options text (made (formOf byte) commands at) ≡ H.Leaf (eqb byte 0) (plainKind byte)
+
+    AreLeaves : ℕ → Type 0
+    AreLeaves zero = Unit {0}
+    AreLeaves (suc n) = IsLeaf n × AreLeaves n
+
+    leaf-among : (n : ℕ) → AreLeaves n → (byte : ℕ) → byte < n → IsLeaf byte
+    unfolding AreLeaves IsLeaf
+    leaf-among zero l byte h = absurd (omega arith)
+    leaf-among (suc n) l byte h = cases (eqb byte n) (λ q. rw (eqb-true byte n q) (l .0)) (λ q. let d : (byte ≡ n → ⊥) = eqb-false byte n q in leaf-among n (l .1) byte (omega (arith, d)))
+
+    pub plain-shape : (byte : ℕ) → byte < textByte → shapeAt options text (made (formOf byte) commands at) ≡ H.Leaf (eqb byte 0) (plainKind byte)
+    unfolding AreLeaves IsLeaf shapeAt made formOf plainKind if_then_else_
+    plain-shape byte h = leaf-among textByte (refl, (refl, (refl, (refl, (refl, (refl, (refl, (refl, (refl, (refl, (refl, (refl, (refl, tt))))))))))))) byte h
+
+-- one that stands where it is due is read
+pub plain-read : (commands text : List ℕ) (at byte : ℕ) (due : Due) → getD commands at 0 ≡ byte → at < length commands → byte < textByte → stands due byte ≡ true → badKey due byte ≡ false →
+    readCommand commands text at due ≡ R.Command (made (formOf byte) commands (at + 1)) (at + 1)
+plain-read commands text at byte due is there small s k =
+    let none : operands (formOf byte) ≡ 0 = no-operands byte small in
+    rw none at (read-made commands text at due byte is (omega arith) (omega arith) s (no-name text commands (at + 1) byte small) k)
+
+pub plain-below : (byte : ℕ) → byte < textByte → plainKind byte < sequenceKind
+unfolding plainKind
+plain-below byte h = if-either (λ k. k < sequenceKind) (eqb byte charByte) (omega arith) (omega arith)

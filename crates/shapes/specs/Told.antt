@@ -1,0 +1,81 @@
+-- What the first bytes at an offset tell of the command that is read there.
+use mathlib.Core.Path.{_≡_, refl, sym, _∙_}
+use mathlib.Core.Bool.{Bool, true, false}
+use mathlib.Core.List.{List}
+use mathlib.Core.Option.{some}
+use Prim.Native.Nat.{ℕ, _+_, _<_, _≤_}
+use native.Mathlib.Omega.{arith}
+use borrow.Author.Tests.{eqb-true, ltb-true, leb-true, le-leb, eq-eqb}
+use lib.Dec.{eqb, leb, ltb}
+use lib.ListN.{length, getD}
+use Rattle.logic.specs.Test.{both}
+use Rattle.text.specs.declared.Name.{Name}
+use Rattle.text.specs.Name.{inside, bytesOf}
+use Rattle.text.specs.Utf8.{isUtf8}
+use Rattle.refusal.specs.declared.Refusal.the-variants as F
+use Rattle.commands.specs.declared.Command.{Command}
+use Rattle.commands.specs.declared.Command.the-variants as C
+use Rattle.commands.specs.declared.Due.{Due}
+use Rattle.commands.specs.declared.Due.the-variants as D
+use Rattle.commands.specs.declared.Read.the-variants as R
+use Rattle.commands.specs.Commands.{nameAt, named, forms, formOf, operands, width, made, nameIn, stands, badName, badKey, readCommand}
+use Rattle.commands.specs.Laws.{nameOf, Good, good, name-inside, read-made, read-misnamed}
+use Rattle.shapes.specs.Steps.{Inside}
+use Rattle.shapes.specs.Shapes.{structByte, structAt, namedAt}
+
+-- ---- a struct
+pub struct-read : (commands text : List ℕ) (at : ℕ) → structAt commands at ≡ true → readCommand commands text at D.Value ≡ R.Command C.Struct (at + 1)
+unfolding structAt formOf operands made nameIn badName
+struct-read commands text at e =
+    both (ltb at (length commands)) (eqb (getD commands at 0) structByte) e λ l b.
+    let there : at < length commands = ltb-true at (length commands) l in
+    read-made commands text at D.Value structByte (eqb-true (getD commands at 0) structByte b) (omega arith) (omega arith) refl refl refl
+
+pub struct-inside : (commands : List ℕ) (at : ℕ) (flag : Bool) → flag ≡ structAt commands at → flag ≡ true → at < length commands
+unfolding structAt
+struct-inside commands at flag f e = both (ltb at (length commands)) (eqb (getD commands at 0) structByte) (sym f ∙ e) λ l b. ltb-true at (length commands) l
+
+-- ---- a command with a name
+module _ (commands text : List ℕ) (byte at : ℕ) (flag : Bool) (f : flag ≡ namedAt commands text byte at) (e : flag ≡ true) where
+  stood : {P : Type 0} → (at + 5 ≤ length commands → getD commands at 0 ≡ byte → inside text (nameAt commands (at + 1)) ≡ true → P) → P
+  unfolding namedAt
+  stood k =
+      both _ (inside text (nameAt commands (at + 1))) (sym f ∙ e) λ c i.
+      both (leb (at + 5) (length commands)) (eqb (getD commands at 0) byte) c λ l b.
+      k (leb-true (at + 5) (length commands) l) (eqb-true (getD commands at 0) byte b) i
+
+  pub named-fits : at + 5 ≤ length commands
+  named-fits = stood λ l b i. l
+
+  pub named-byte : getD commands at 0 ≡ byte
+  named-byte = stood λ l b i. b
+
+  pub named-inside : Inside text (nameAt commands (at + 1))
+  named-inside = stood λ l b i. leb-true _ _ i
+
+  module _ (due : Due) (which : Name → Command) (form : formOf byte ≡ named which) (small : byte < length forms) (s : stands due byte ≡ true) where
+    -- where it can stand it is read, or refused for a name that is not UTF-8
+    pub named-read : isUtf8 (bytesOf text (nameAt commands (at + 1))) ≡ true → badKey due byte ≡ false → readCommand commands text at due ≡ R.Command (which (nameAt commands (at + 1))) (at + 5)
+    unfolding badName operands made nameIn
+    named-read u k =
+        stood λ l b i.
+        let wide : at + width (formOf byte) ≤ length commands = rw form l in
+        rw form at (read-made commands text at due byte b small wide s (rw (form, i, u)) k)
+
+    pub named-refused : isUtf8 (bytesOf text (nameAt commands (at + 1))) ≡ false → readCommand commands text at due ≡ R.Refused F.BadName at
+    unfolding badName operands nameIn
+    named-refused u =
+        stood λ l b i.
+        let wide : at + width (formOf byte) ≤ length commands = rw form l in
+        read-misnamed commands text at due byte b small wide s (rw (form, i, u))
+
+-- one that is read stands there
+pub read-named : (commands text : List ℕ) (byte at : ℕ) (due : Due) (which : Name → Command) → formOf byte ≡ named which → ((name : Name) → nameOf (which name) ≡ some name) → getD commands at 0 ≡ byte →
+    (command : Command) (next : ℕ) → readCommand commands text at due ≡ R.Command command next → namedAt commands text byte at ≡ true
+unfolding namedAt operands made
+read-named commands text byte at due which form has is command next e =
+    let g : Good commands text at due command next = good commands text at due command next e in
+    let this : command ≡ which (nameAt commands (at + 1)) = rw (is, form) at (g .form) in
+    let behind : next ≡ at + 5 = rw (is, form) at (g .behind) in
+    let within : next ≤ length commands = g .within in
+    rw (le-leb (at + 5) (length commands) (omega arith), eq-eqb (getD commands at 0) byte is) (name-inside commands text at due _ command next refl e _ _ this (has _))
