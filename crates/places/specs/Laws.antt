@@ -31,7 +31,7 @@ use Rattle.places.specs.declared.Ensured.the-variants as E
 use Rattle.places.specs.declared.Made.{Made}
 use Rattle.places.specs.declared.Made.the-variants as D
 use Rattle.places.specs.Layout.{kindWord, samplesWord, firstWord, lastWord, blockWord, nextWord, parentWord, stepWord, nameWord, heldWord, markWord, tagWord, Linked, Tagged, Sound, Ready}
-use Rattle.places.specs.Flat.{isAt, findTurn, findFrom, findIn, inBlock, childAt, Past, linked, described, appended, tagged, Ensuring, ensuring, confirmed, ensuredBy, ensured, onward, touched, sampled, Making, making, ofEnsuring, madeOne, thenMade, madeAll, appendedFrom, positionsMade, made, SoundEnsured, SoundMade}
+use Rattle.places.specs.Flat.{isAt, findTurn, findFrom, findIn, inBlock, childAt, Past, linked, described, appended, tagged, Ensuring, ensuring, confirmed, ensuredBy, ensured, touched, sampled, Making, making, ofEnsuring, madeOne, thenMade, madeAll, appendedFrom, positionsMade, made, SoundEnsured, SoundMade}
 
 -- ---- words after a store
 set-keeps : (P : ℕ → Type 0) (l : List ℕ) (i j v : ℕ) → (j ≡ i → P v) → P (getD l j 0) → P (getD (set l i v) j 0)
@@ -234,19 +234,6 @@ module _ (text t : List ℕ) (n place : ℕ) (ready : Ready text t n place) (roo
         (λ q l b. let o : q ≡ n = omega arith in rw (o, same n nameWord (omega arith)) appended-utf8)
         (λ q l b d. let o : q ≡ n = omega arith in rw (o, same n nameWord (omega arith), appended-name, packed-bytes text name h) (word-same after n tagWord tag (let r : 16384 ≤ length after = linked-appended .room in omega arith))))
 
--- ---- lengths
-pub length-appended : (place code n : ℕ) (name : Name) (t : List ℕ) → length (appended place code name n t) ≡ length t
-unfolding appended described
-length-appended place code n name t = simp (length-set, length-linked)
-
-pub length-sampled : (place kind : ℕ) (t : List ℕ) → length (sampled place kind t) ≡ length t
-unfolding sampled
-length-sampled place kind t = simp length-set
-
-pub length-touched : (place child : ℕ) (t : List ℕ) → length (touched place child t) ≡ length t
-unfolding touched
-length-touched place child t = length-either _ t (withWord (withWord t child heldWord (onward (word t child heldWord))) child markWord (word t place samplesWord)) (length t) refl (simp length-set)
-
 -- ---- a cleared table is that of the root alone
 word-cleared : (t : List ℕ) (p w : ℕ) → p < 1024 → w < 16 → 16384 ≤ length t → word (cleared t 16384) p w ≡ 0
 unfolding cleared
@@ -373,9 +360,6 @@ module _ (text t : List ℕ) (n place : ℕ) (name : Name) (s : Sound text t n) 
       let b : word t place firstWord < n = first-below text t n place _ s h refl in
       rw (field-stands text t _ name (find-stands text t n fieldCode name s _ b found) .1) at (s .utf8 _ (find-below text t n fieldCode name s _ b))
 
-  pub found-good : Inside text name → Good text name
-  found-good i = record { inside = i; utf8 = found-utf8 }
-
 -- a child with another tag does not stand there
 pub other-tag : (text t : List ℕ) (child tag mark : ℕ) (name : Name) → Tagged text t child → tag ≡ tagOf (bytesOf text name) → mark ≡ word t child tagWord → (mark ≡ tag → ⊥) → false ≡ isAt text fieldCode name child t
 other-tag text t child tag mark name tags e d differ =
@@ -484,20 +468,6 @@ module _ (text t : List ℕ) (n place : ℕ) (step : Step) where
     pub ensured-grows : n ≤ m
     ensured-grows = rw (← e, p) at ensured-more
 
-    -- the child is a place, and not the root
-    pub ensured-child : Ready text t n place → (0 < child) × (child < m)
-    ensured-child ready =
-        let h : place < n = ready .here in
-        let b : sought < n = child-below text t n place (λ code name. find-below text t n code name (ready .sound) _ (first-below text t n place _ (ready .sound) h refl)) step in
-        rw (← e, p) at (ensured-says (λ child m. (0 < child) × (child < m)) (λ z. (omega arith, b)) (omega arith, omega arith))
-
-    -- the place that it was ensured for is still one
-    pub ensured-ready : Ready text t n place → SoundEnsured text u r → Ready text u m place
-    ensured-ready ready s =
-        let h : place < n = ready .here in
-        let l : n ≤ m = ensured-grows in
-        record { sound = child-ready text u r child m s p .sound; here = omega arith }
-
 made-more : (text : List ℕ) (place : ℕ) (steps : List Step) (n : ℕ) (t : List ℕ) → OnPlaces (λ m. n ≤ m) (madeAll text place steps n t)
 unfolding madeAll madeOne
 made-more text place [] n t = le-refl n
@@ -544,9 +514,6 @@ still-ready text t u n m place r ready l s p = let h : place < n = ready .here i
 module _ (text t u : List ℕ) (n m place kind positions before : ℕ) (r : Made) where
   pub made-grows : making r u ≡ made text place kind positions before n t → r ≡ D.Places m → n ≤ m
   made-grows e p = rw (← e, p) at (all-more text t place kind positions before n)
-
-  pub made-ready : Ready text t n place → making r u ≡ made text place kind positions before n t → SoundMade text u r → r ≡ D.Places m → Ready text u m place
-  made-ready ready e s p = still-ready text t u n m place r ready (made-grows e p) s p
 
 pub made-single : (text t : List ℕ) (n place : ℕ) (step : Step) → madeAll text place (step ∷ []) n t ≡ madeOne text place step n t
 unfolding madeAll

@@ -16,7 +16,7 @@ use Rattle.commands.specs.declared.Read.{Read}
 use Rattle.commands.specs.declared.Read.the-variants as R
 use Rattle.commands.specs.declared.Due.the-variants as D
 use Rattle.commands.specs.Commands.{readCommand}
-use Rattle.model.specs.Kinds.{sequenceKind, structKind, mapKind, tupleKind, unionKind, isStruct}
+use Rattle.model.specs.Kinds.{structKind, tupleKind, unionKind}
 use Rattle.shapes.specs.declared.Step.{Step}
 use Rattle.shapes.specs.declared.Step.the-variants as S
 use Rattle.shapes.specs.declared.Contents.{Contents}
@@ -187,10 +187,6 @@ valueAt commands text options levels at place n t = readers commands text option
 -- past its marks
 unfoldable pub parted : List ℕ → List ℕ → ℕ → ℕ → ℕ → ℕ → ℕ → List ℕ → Out
 parted commands text options levels here place n t = atRead commands text options levels (innerOf commands text options levels) here place n t (readCommand commands text here D.Value)
-
--- the kinds of containers, whose parts are read
-unfoldable pub isParted : ℕ → Bool
-isParted kind = isStruct kind || eqb kind sequenceKind || eqb kind mapKind || eqb kind tupleKind
 
 -- ---- what is opened before anything below it is read
 -- the child at a step, which the present sample holds

@@ -1,7 +1,7 @@
 -- The loops of the readers: what is left of each gives the same as the whole.
 use Prim.{tt}
 use mathlib.Core.Path.{_≡_, refl, sym, ap, _∙_}
-use mathlib.Core.Bool.{Bool, true, false, _||_, false≢true}
+use mathlib.Core.Bool.{Bool, true, false}
 use mathlib.Core.List.{List}
 use Prim.Native.Nat.{_-_, ℕ, zero, suc, _+_, _%_, _<_, _≤_}
 use native.Mathlib.Omega.{arith}
@@ -26,7 +26,7 @@ use Rattle.shapes.specs.declared.Contents.the-variants as N
 use Rattle.shapes.specs.declared.Part.{Part}
 use Rattle.shapes.specs.declared.Part.the-variants as P
 use Rattle.shapes.specs.Steps.{noName, nameOf, Inside}
-use Rattle.shapes.specs.Shapes.{valuePart, partAt}
+use Rattle.shapes.specs.Shapes.{isParted, valuePart, partAt}
 use Rattle.shapes.specs.Laws.{step-above, step-within, sequence-part, tuple-part, map-part}
 use Rattle.places.specs.declared.Ensured.the-variants as E
 use Rattle.places.specs.Flat.{Ensuring, ensuring, ensured}
@@ -37,7 +37,7 @@ use Rattle.samples.specs.declared.Opened.the-variants as O
 use Rattle.samples.specs.declared.Traced.{Traced}
 use Rattle.samples.specs.declared.Traced.the-variants as T
 use Rattle.shapes.specs.Field.{fieldAt, partOf, field-part, field-name, field-inside, field-within, end-inside}
-use Rattle.samples.specs.Flat.{Chain, chain, isMark, marked, pastTurn, pastMarks, Out, out, Readers, atChild, dotsIn, partRead, State, state, afterPart, onPart, partTurn, partStop, partsFrom, partsBy, readers, levelLimit, valueAt, isParted, holding, held, Opening, opening, ofHeld, fieldHeld, fieldOpened, recordTurn, recordStop, recordsAt}
+use Rattle.samples.specs.Flat.{Chain, chain, isMark, marked, pastTurn, pastMarks, Out, out, Readers, atChild, dotsIn, partRead, State, state, afterPart, onPart, partTurn, partStop, partsFrom, partsBy, readers, levelLimit, valueAt, holding, held, Opening, opening, ofHeld, fieldHeld, fieldOpened, recordTurn, recordStop, recordsAt}
 use Rattle.samples.specs.Onward.{Moved, past-falls, leftChain, part-on, part-falls, leftState, records-fall, readers-on}
 use Rattle.samples.specs.Ways.{value-below}
 

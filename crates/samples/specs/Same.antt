@@ -4,7 +4,7 @@ use mathlib.Core.Bool.{Bool, true, false, not, _&&_}
 use mathlib.Core.List.{List, [], _∷_}
 use Prim.Native.Nat.{ℕ, suc, _+_, _*_, _<_, _≤_}
 use native.Mathlib.Omega.{arith}
-use borrow.Author.Tests.{eqb-true, eqb-false, eq-eqb, ne-eqb, lt-ltb, lt-leb, ltb-true, not-true}
+use borrow.Author.Tests.{eqb-true, eqb-false, eq-eqb, ne-eqb, lt-leb, ltb-true, not-true}
 use lib.Dec.{eqb, ltb}
 use lib.ListN.{length, getD, drop, length-drop, drop-of-length-le}
 use lib.Seq.{set-getD, drop-cons}
@@ -18,7 +18,7 @@ use Rattle.text.specs.Name.{eqName}
 use Rattle.words.specs.Word.{word}
 use Rattle.coerce.specs.Laws.{joint-same}
 use Rattle.commands.specs.declared.Due.the-variants as D
-use Rattle.commands.specs.Commands.{textByte, fieldByte, endByte, stands}
+use Rattle.commands.specs.Commands.{fieldByte, endByte, stands}
 use Rattle.model.specs.Kinds.{sequenceKind}
 use Rattle.shapes.specs.declared.Step.the-variants as S
 use Rattle.shapes.specs.declared.Part.the-variants as P
@@ -147,13 +147,13 @@ module _ (commands : List ℕ) (byte here r : ℕ) (whole : behindRun commands b
     front : drop here commands ≡ getD commands here 0 ∷ drop (here + 1) commands
     front = rw add-one (drop-cons commands here 0 inside)
 
-    pub run-other : (getD commands here 0 ≡ byte → ⊥) → here ≡ r
+    pub run-other : (b : ℕ) → b ≡ getD commands here 0 → (b ≡ byte → ⊥) → here ≡ r
     unfolding behindRun runOf if_then_else_
-    run-other d = rw (front, ne-eqb (getD commands here 0) byte d, add-zero) at whole
+    run-other b is d = rw (front, ← is, ne-eqb b byte d, add-zero) at whole
 
-    pub run-more : getD commands here 0 ≡ byte → behindRun commands byte (here + 1) ≡ r
+    pub run-more : (b : ℕ) → b ≡ getD commands here 0 → b ≡ byte → behindRun commands byte (here + 1) ≡ r
     unfolding behindRun runOf if_then_else_
-    run-more e = let shift : here + 1 + runOf byte (drop (here + 1) commands) ≡ here + suc (runOf byte (drop (here + 1) commands)) = omega arith in shift ∙ (rw (front, eq-eqb (getD commands here 0) byte e) at whole)
+    run-more b is e = let shift : here + 1 + runOf byte (drop (here + 1) commands) ≡ here + suc (runOf byte (drop (here + 1) commands)) = omega arith in shift ∙ (rw (front, ← is, eq-eqb b byte e) at whole)
 
 pub own-fits : (kind : ℕ) (own : Bool) → own ≡ isOwnByte kind → own ≡ true → kind < 256
 unfolding isOwnByte

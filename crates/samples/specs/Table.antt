@@ -1,7 +1,7 @@
 -- The table stays sound while values are read, and its places stay places.
 use Prim.{tt}
-use mathlib.Core.Path.{_≡_, refl, sym, _∙_}
-use mathlib.Core.Bool.{Bool, true, false, _||_, false≢true}
+use mathlib.Core.Path.{_≡_, refl, _∙_}
+use mathlib.Core.Bool.{Bool, true, false≢true}
 use mathlib.Core.List.{List}
 use Prim.Native.Nat.{_-_, ℕ, zero, suc, _+_, _*_, _<_, _≤_}
 use native.Mathlib.Nat.{le-refl}
@@ -16,7 +16,7 @@ use Rattle.refusal.specs.declared.Refusal.{Refusal}
 use Rattle.refusal.specs.declared.Refusal.the-variants as F
 use Rattle.text.specs.declared.Name.{Name}
 use Rattle.words.specs.Word.{word}
-use Rattle.model.specs.Kinds.{sequenceKind, structKind, mapKind, tupleKind, unionKind, mapModeKind, isContainer, isStruct}
+use Rattle.model.specs.Kinds.{sequenceKind, structKind, mapKind, tupleKind, unionKind, mapModeKind, isContainer}
 use Rattle.shapes.specs.declared.Step.{Step}
 use Rattle.shapes.specs.declared.Step.the-variants as S
 use Rattle.places.specs.declared.Met.{Met}
@@ -34,7 +34,8 @@ use Rattle.samples.specs.declared.Opened.{Opened}
 use Rattle.samples.specs.declared.Opened.the-variants as O
 use Rattle.samples.specs.declared.Traced.{Traced}
 use Rattle.samples.specs.declared.Traced.the-variants as T
-use Rattle.samples.specs.Flat.{Chain, chain, someByte, isMark, marked, pastTurn, pastMarks, Out, out, onMet, stored, observed, isParted, holding, held, madeWhere, containerMade, heldWhere, variantHeld, SoundTraced, SoundOpened}
+use Rattle.shapes.specs.Shapes.{isParted}
+use Rattle.samples.specs.Flat.{Chain, chain, someByte, isMark, marked, pastTurn, pastMarks, Out, out, onMet, stored, observed, holding, held, madeWhere, containerMade, heldWhere, variantHeld, SoundTraced, SoundOpened}
 use Rattle.samples.specs.Ways.{field-new}
 
 sub-le : (a b : ℕ) → a - b ≤ a

@@ -1,5 +1,4 @@
 -- The ways through the readers: what each answers where its callees answered so.
-use Prim.{tt}
 use mathlib.Core.Path.{_≡_, refl, sym, ap, _∙_}
 use mathlib.Core.Bool.{Bool, true, false, false≢true}
 use mathlib.Core.List.{List}
@@ -9,9 +8,7 @@ use borrow.Author.Tests.{ne-eqb, lt-leb}
 use lib.Dec.{eqb}
 use lib.ListN.{length}
 use Rattle.logic.specs.Test.{if_then_else_, cases}
-use Rattle.logic.specs.Flag.{if-either}
 use Rattle.datatype.specs.Codes.{null}
-use Rattle.options.specs.Word.{mapAsStruct}
 use Rattle.refusal.specs.declared.Refusal.{Refusal}
 use Rattle.refusal.specs.declared.Refusal.the-variants as F
 use Rattle.text.specs.declared.Name.{Name}
@@ -19,7 +16,6 @@ use Rattle.text.specs.Name.{bytesOf, dots}
 use Rattle.text.specs.Utf8.{isUtf8}
 use Rattle.words.specs.Word.{word}
 use Rattle.commands.specs.declared.Command.{Command}
-use Rattle.commands.specs.declared.Command.the-variants as C
 use Rattle.commands.specs.declared.Read.{Read}
 use Rattle.commands.specs.declared.Read.the-variants as R
 use Rattle.commands.specs.declared.Due.the-variants as D
@@ -52,7 +48,7 @@ use Rattle.shapes.specs.declared.Field.{Field}
 use Rattle.shapes.specs.declared.Field.the-variants as X
 use Rattle.shapes.specs.Leaf.{leafAt, LeafThere, leaf-there}
 use Rattle.shapes.specs.Field.{fieldAt}
-use Rattle.samples.specs.Flat.{chain, pastMarks, Out, out, onMet, onMade, stored, observed, Readers, atChild, dotsIn, partRead, partsBy, opened, containerBy, chosen, variantBy, atShape, valueBy, readers, innerOf, valueAt, parted, isParted, holding, held, madeWhere, containerMade, heldWhere, variantHeld, Opening, opening, fieldHeld, fieldOpened}
+use Rattle.samples.specs.Flat.{chain, pastMarks, Out, out, onMet, onMade, stored, observed, Readers, atChild, dotsIn, partRead, partsBy, opened, containerBy, chosen, variantBy, atShape, valueBy, readers, innerOf, valueAt, parted, holding, held, madeWhere, containerMade, heldWhere, variantHeld, Opening, opening, fieldHeld, fieldOpened}
 use Rattle.samples.specs.Onward.{less}
 
 -- ---- kinds that met
@@ -298,48 +294,6 @@ tested text name good i g e = record { inside = i; utf8 = sym g ∙ e }
 -- a struct that begins there is inside the commands
 pub struct-fits : (commands : List ℕ) (here most : ℕ) (is : Bool) → is ≡ structAt commands here → is ≡ true → length commands < most → here + 1 < most
 struct-fits commands here most is s e l = let h : here < length commands = struct-inside commands here is s e in omega arith
-
--- what commands open has parts
-HasParts : Shape → Type 0
-HasParts (H.Parts kind n) = isParted kind ≡ true
-HasParts (H.Leaf isNull kind) = Unit {0}
-HasParts (H.Variant number name contents) = Unit {0}
-HasParts H.NoValue = Unit {0}
-
-all-parted : (options : ℕ) (text : List ℕ) (command : Command) → HasParts (shapeAt options text command)
-unfolding HasParts shapeAt isParted
-all-parted options text C.Unit = tt
-all-parted options text C.Bool = tt
-all-parted options text C.I8 = tt
-all-parted options text C.I16 = tt
-all-parted options text C.I32 = tt
-all-parted options text C.I64 = tt
-all-parted options text C.U8 = tt
-all-parted options text C.U16 = tt
-all-parted options text C.U32 = tt
-all-parted options text C.U64 = tt
-all-parted options text C.F32 = tt
-all-parted options text C.F64 = tt
-all-parted options text C.Char = tt
-all-parted options text (C.Text name) = tt
-all-parted options text C.Bytes = tt
-all-parted options text C.None = tt
-all-parted options text C.Some = tt
-all-parted options text C.NewtypeStruct = tt
-all-parted options text C.Sequence = refl
-all-parted options text (C.Tuple n) = refl
-all-parted options text C.Map = if-either (λ kind. isParted kind ≡ true) (mapAsStruct options) refl refl
-all-parted options text C.Struct = refl
-all-parted options text (C.Field name) = tt
-all-parted options text C.End = tt
-all-parted options text (C.UnitVariant k name) = tt
-all-parted options text (C.NewtypeVariant k name) = tt
-all-parted options text (C.TupleVariant k name n) = tt
-all-parted options text (C.StructVariant k name) = tt
-
-pub parts-parted : (options : ℕ) (text : List ℕ) (command : Command) (shape : Shape) → shape ≡ shapeAt options text command → (kind n : ℕ) → shape ≡ H.Parts kind n → isParted kind ≡ true
-unfolding HasParts
-parts-parted options text command shape s kind n e = rw (sym s ∙ e) at (all-parted options text command)
 
 -- ---- past its marks
 module _ (commands text : List ℕ) (options levels here place n : ℕ) (t : List ℕ) where

@@ -9,7 +9,8 @@ ghost use Rattle.model.specs.Kinds.{sequenceKind, mapKind, tupleKind, isStruct}
 ghost use Rattle.shapes.specs.Steps.{fieldCode, noName, nameOf, Inside, Good};
 ghost use Rattle.places.specs.Layout.{firstWord, Ready, Sound};
 ghost use Rattle.places.specs.Flat.{Ensuring, Making, findIn, SoundEnsured, SoundMade};
-ghost use Rattle.samples.specs.Flat.{Chain, isMark, marked, pastMarks, Out, stored, observed, dotsIn, partRead, partsBy, containerBy, variantBy, readers, innerOf, valueAt, parted, isParted, held, containerMade, variantHeld, Opening, fieldHeld, fieldOpened, fromSamples, SoundTraced, SoundOpened};
+ghost use Rattle.samples.specs.Flat.{Chain, isMark, marked, pastMarks, Out, stored, observed, dotsIn, partRead, partsBy, containerBy, variantBy, readers, innerOf, valueAt, parted, held, containerMade, variantHeld, Opening, fieldHeld, fieldOpened, fromSamples, SoundTraced, SoundOpened};
+ghost use Rattle.shapes.specs.Shapes.{isParted};
 ghost use Rattle.shapes.specs.Field.{fieldAt};
 ghost use Rattle.samples.specs.Same.{isKnown, isHeld, isOwnByte, behindRun, pastHeld, pastSame};
 use commands::Due;
@@ -63,7 +64,7 @@ fn past_marks(commands: &[u8], at: usize, place: usize, table: &mut [u32]) -> us
 {
     let mut here = at;
     while here < commands.len() {
-        let byte = commands[here];
+        let byte = commands::read_byte(commands, here);
         if !is_mark(byte) {
             return here;
         }
@@ -167,7 +168,7 @@ fn past_run(commands: &[u8], byte: u8, at: usize) -> usize
 {
     let mut here = at;
     while here < commands.len() {
-        if commands[here] != byte {
+        if commands::read_byte(commands, here) != byte {
             return here;
         }
         here += 1;

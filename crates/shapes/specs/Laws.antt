@@ -1,4 +1,4 @@
--- What is known of a part and of a shape that was read, and that the model's reading is this one with names resolved.
+-- What is known of a part and of a shape that was read.
 use Prim.{Unit, tt}
 use mathlib.Core.Path.{_≡_, refl, sym, _∙_}
 use mathlib.Core.Bool.{Bool, true, false, _&&_}
@@ -23,7 +23,6 @@ use Rattle.commands.specs.declared.Due.the-variants as D
 use Rattle.commands.specs.Commands.{readCommand, nameAt, endByte}
 use Rattle.commands.specs.Laws as L
 use Rattle.model.specs.Kinds.{sequenceKind, structKind, mapKind, tupleKind, mapModeKind}
-use Rattle.model.specs.Reading.{Next, follows, valueNext, fieldNext, nextPart, shapeOf}
 use Rattle.shapes.specs.declared.Step.{Step}
 use Rattle.shapes.specs.declared.Step.the-variants as S
 use Rattle.shapes.specs.declared.Contents.{Contents}
@@ -32,20 +31,13 @@ use Rattle.shapes.specs.declared.Shape.the-variants as H
 use Rattle.shapes.specs.declared.Part.{Part}
 use Rattle.shapes.specs.declared.Part.the-variants as P
 use Rattle.shapes.specs.Steps.{noName, nameOf, Inside, Good}
-use Rattle.shapes.specs.Shapes.{shapeAt, valuePart, fieldPart, partAt}
-use Rattle.shapes.specs.Resolved.{stepOf, partNext, shapeNext}
+use Rattle.shapes.specs.Shapes.{shapeAt, isParted, valuePart, fieldPart, partAt}
 
 -- a choice has what both its sides have
 if-has : {A : Type 0} (P : A → Type 0) (t : Bool) {a b : A} → (t ≡ true → P a) → (t ≡ false → P b) → P (if t then a else b)
 unfolding if_then_else_
 if-has P true p q = p refl
 if-has P false p q = q refl
-
--- a function goes into a choice
-if-through : {A B : Type 0} (f : A → B) (t : Bool) {a b : A} {x y : B} → x ≡ f a → y ≡ f b → (if t then x else y) ≡ f (if t then a else b)
-unfolding if_then_else_
-if-through f true p q = p
-if-through f false p q = q
 
 -- ---- names
 -- no name is a good one
@@ -109,12 +101,6 @@ module _ (commands text : List ℕ) (kind positions i at : ℕ) (part : Part) (e
   pub step-within : (step : Step) (value : ℕ) → part ≡ P.Step step value → value ≤ length commands
   step-within step value h = (rw h at known) .2
 
-  pub end-above : (behind : ℕ) → part ≡ P.Ended behind → at ≤ behind
-  end-above behind h = (rw h at known) .0
-
-  pub end-within : (behind : ℕ) → part ≡ P.Ended behind → at ≤ length commands → behind ≤ length commands
-  end-within behind h = (rw h at known) .1
-
 -- at one kind: for the loop over one container
 module _ (commands text : List ℕ) (positions i at : ℕ) where
   pub sequence-part : partAt commands text sequenceKind positions i at ≡ valuePart commands S.Element at (readCommand commands text at D.ValueOrEnd)
@@ -144,12 +130,12 @@ text-below options s =
 -- what is known of the shape of a command: a leaf is of a primitive type, parts are those of a container, and a variant has the command's name
 abbrev pub KnownShape : Command → Shape → Type 0
 KnownShape command (H.Leaf isNull type) = type < sequenceKind
-KnownShape command (H.Parts kind n) = sequenceKind ≤ kind
+KnownShape command (H.Parts kind n) = isParted kind ≡ true
 KnownShape command (H.Variant number name contents) = L.nameOf command ≡ some name
 KnownShape command H.NoValue = Unit {0}
 
 pub shape-known : (options : ℕ) (text : List ℕ) (command : Command) → KnownShape command (shapeAt options text command)
-unfolding shapeAt
+unfolding shapeAt isParted
 shape-known options text C.Unit = omega arith
 shape-known options text C.Bool = omega arith
 shape-known options text C.I8 = omega arith
@@ -168,10 +154,10 @@ shape-known options text C.Bytes = if-has (λ (type : ℕ). type < sequenceKind)
 shape-known options text C.None = omega arith
 shape-known options text C.Some = tt
 shape-known options text C.NewtypeStruct = tt
-shape-known options text C.Sequence = omega arith
-shape-known options text (C.Tuple n) = omega arith
-shape-known options text C.Map = if-has (λ (kind : ℕ). sequenceKind ≤ kind) (mapAsStruct options) (λ e. omega arith) (λ e. omega arith)
-shape-known options text C.Struct = omega arith
+shape-known options text C.Sequence = refl
+shape-known options text (C.Tuple n) = refl
+shape-known options text C.Map = if-has (λ (kind : ℕ). isParted kind ≡ true) (mapAsStruct options) (λ e. refl) (λ e. refl)
+shape-known options text C.Struct = refl
 shape-known options text (C.Field name) = tt
 shape-known options text C.End = tt
 shape-known options text (C.UnitVariant k name) = refl
@@ -193,67 +179,5 @@ module _ (options : ℕ) (text : List ℕ) (command : Command) (shape : Shape) (
   pub leaf-below : (isNull : Bool) (type : ℕ) → shape ≡ H.Leaf isNull type → type < sequenceKind
   leaf-below isNull type h = rw (sym e ∙ h) at (shape-known options text command)
 
-  pub parts-from : (kind n : ℕ) → shape ≡ H.Parts kind n → sequenceKind ≤ kind
-  parts-from kind n h = rw (sym e ∙ h) at (shape-known options text command)
-
--- ---- the model's reading is this one with names resolved
-module _ (commands text : List ℕ) (at : ℕ) where
-  value-resolved : (step : Step) (answer : Read) → valueNext commands (stepOf text step) at answer ≡ partNext text (valuePart commands step at answer)
-  value-resolved step (R.Command command behind) = if-through (partNext text) (eqb (getD commands at 0) endByte) refl refl
-  value-resolved step (R.Refused refusal place) = refl
-
-  field-resolved : (answer : Read) → fieldNext commands text at answer ≡ partNext text (fieldPart commands at answer)
-  field-resolved (R.Command command behind) = if-through (partNext text) (eqb (getD commands at 0) endByte) refl refl
-  field-resolved (R.Refused refusal place) = refl
-
-  pub part-resolved : (kind positions i : ℕ) → nextPart commands text kind positions i at ≡ partNext text (partAt commands text kind positions i at)
-  unfolding nextPart partAt
-  part-resolved kind positions i =
-      let f : Part → Next = partNext text in
-      let read : Due → Read = readCommand commands text at in
-      if-through f (eqb kind sequenceKind) (value-resolved S.Element (read D.ValueOrEnd))
-      (if-through f (eqb kind structKind) (field-resolved (read D.FieldOrEnd))
-      (if-through f (eqb kind mapModeKind) (field-resolved (read D.KeyOrEnd))
-      (if-through f (eqb kind mapKind && eqb (i % 2) 0) (value-resolved S.Key (read D.ValueOrEnd))
-      (if-through f (eqb kind mapKind) (value-resolved S.Value (read D.Value))
-      (if-through f (ltb i positions) (value-resolved (S.Position i) (read D.Value)) refl)))))
-
--- of each command: the readers pass 10 and 11 by their bytes, before they ask what a command begins
-pub all-resolved : (options : ℕ) (text : List ℕ) (command : Command) →
-    shapeOf options text command ≡ (if eqb (L.byteOf command) (L.byteOf C.Some) then follows true
-    else if eqb (L.byteOf command) (L.byteOf C.NewtypeStruct) then follows false
-    else shapeNext text (shapeAt options text command))
-unfolding shapeOf shapeAt if_then_else_
-all-resolved options text C.Unit = refl
-all-resolved options text C.Bool = refl
-all-resolved options text C.I8 = refl
-all-resolved options text C.I16 = refl
-all-resolved options text C.I32 = refl
-all-resolved options text C.I64 = refl
-all-resolved options text C.U8 = refl
-all-resolved options text C.U16 = refl
-all-resolved options text C.U32 = refl
-all-resolved options text C.U64 = refl
-all-resolved options text C.F32 = refl
-all-resolved options text C.F64 = refl
-all-resolved options text C.Char = refl
-all-resolved options text (C.Text name) = refl
-all-resolved options text C.Bytes = refl
-all-resolved options text C.None = refl
-all-resolved options text C.Some = refl
-all-resolved options text C.NewtypeStruct = refl
-all-resolved options text C.Sequence = refl
-all-resolved options text (C.Tuple n) = refl
-all-resolved options text C.Map = refl
-all-resolved options text C.Struct = refl
-all-resolved options text (C.Field name) = refl
-all-resolved options text C.End = refl
-all-resolved options text (C.UnitVariant k name) = refl
-all-resolved options text (C.NewtypeVariant k name) = refl
-all-resolved options text (C.TupleVariant k name n) = refl
-all-resolved options text (C.StructVariant k name) = refl
-
-pub shape-resolved : (options : ℕ) (text : List ℕ) (command : Command) → eqb (L.byteOf command) (L.byteOf C.Some) ≡ false → eqb (L.byteOf command) (L.byteOf C.NewtypeStruct) ≡ false →
-    shapeOf options text command ≡ shapeNext text (shapeAt options text command)
-unfolding if_then_else_
-shape-resolved options text command p q = rw (p, q) at (all-resolved options text command)
+  pub parts-parted : (kind n : ℕ) → shape ≡ H.Parts kind n → isParted kind ≡ true
+  parts-parted kind n h = rw (sym e ∙ h) at (shape-known options text command)

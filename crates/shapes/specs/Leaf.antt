@@ -9,7 +9,6 @@ use borrow.Author.Tests.{eqb-true, eqb-false, not-true}
 use lib.Dec.{eqb}
 use lib.ListN.{length, getD}
 use Rattle.logic.specs.Test.{if_then_else_, cases}
-use Rattle.logic.specs.Flag.{if-either}
 use Rattle.logic.specs.Table.{allBelow, below-at}
 use Rattle.datatype.specs.Codes.{uint32}
 use Rattle.commands.specs.declared.Command.{Command}
@@ -83,15 +82,6 @@ module _ (options : ℕ) (commands text : List ℕ) (at : ℕ) (leaf : Leaf) (e 
   unfolding leafAt
   leaf-there = by-read options commands text at isNull kind behind (readCommand commands text at D.Value) refl (sym e ∙ h)
 
-  pub leaf-kind : kind < sequenceKind
-  leaf-kind = leaf-there .below
-
-  pub leaf-above : at < behind
-  leaf-above = leaf-there .above
-
-  pub leaf-within : behind ≤ length commands
-  leaf-within = leaf-there .within
-
 -- ---- the values before text, by going through them: no operands, no name, and a leaf
 pub value-stands : (byte : ℕ) → byte < textByte → stands D.Value byte ≡ true
 unfolding allBelow
@@ -129,7 +119,3 @@ pub plain-read : (commands text : List ℕ) (at byte : ℕ) (due : Due) → getD
 plain-read commands text at byte due is there small s k =
     let none : operands (formOf byte) ≡ 0 = no-operands byte small in
     rw none at (read-made commands text at due byte is (omega arith) (omega arith) s (no-name text commands (at + 1) byte small) k)
-
-pub plain-below : (byte : ℕ) → byte < textByte → plainKind byte < sequenceKind
-unfolding plainKind
-plain-below byte h = if-either (λ k. k < sequenceKind) (eqb byte charByte) (omega arith) (omega arith)

@@ -1,5 +1,5 @@
 -- What a command begins, and what stands before a part of a container (document 01, "Commands and texts"), with names by their operands.
-use mathlib.Core.Bool.{Bool, true, false, not, _&&_}
+use mathlib.Core.Bool.{Bool, true, false, not, _&&_, _||_}
 use mathlib.Core.List.{List}
 use Prim.Native.Nat.{ℕ, _+_, _%_}
 use lib.Dec.{eqb, leb, ltb}
@@ -16,7 +16,7 @@ use Rattle.commands.specs.declared.Read.the-variants as R
 use Rattle.commands.specs.declared.Due.{Due}
 use Rattle.commands.specs.declared.Due.the-variants as D
 use Rattle.commands.specs.Commands.{readCommand, nameAt, textByte, endByte}
-use Rattle.model.specs.Kinds.{sequenceKind, structKind, mapKind, tupleKind, mapModeKind}
+use Rattle.model.specs.Kinds.{sequenceKind, structKind, mapKind, tupleKind, mapModeKind, isStruct}
 use Rattle.shapes.specs.declared.Step.{Step}
 use Rattle.shapes.specs.declared.Step.the-variants as S
 use Rattle.shapes.specs.declared.Contents.the-variants as N
@@ -58,6 +58,10 @@ shapeAt options text (C.UnitVariant k name) = H.Variant k name N.Unit
 shapeAt options text (C.NewtypeVariant k name) = H.Variant k name N.Value
 shapeAt options text (C.TupleVariant k name n) = H.Variant k name (N.Positions n)
 shapeAt options text (C.StructVariant k name) = H.Variant k name N.Fields
+
+-- the kinds of containers that commands open
+unfoldable pub isParted : ℕ → Bool
+isParted kind = isStruct kind || eqb kind sequenceKind || eqb kind mapKind || eqb kind tupleKind
 
 -- ---- what stands before a part of a container
 abbrev pub valuePart : List ℕ → Step → ℕ → Read → Part

@@ -5,10 +5,10 @@ use lib.ListN.{length}
 use native.Mathlib.Nat.{le-refl, le-trans}
 use Rattle.logic.specs.Flag.{flagged}
 use Rattle.model.specs.Kinds.{sequenceKind, mapKind, tupleKind}
-use Rattle.shapes.specs.Laws.{text-inside, variant-good}
+use Rattle.shapes.specs.Laws.{text-inside, variant-good, parts-parted}
 use Rattle.places.specs.Layout.{Ready}
 use Rattle.samples.specs.Flat.{partsFrom, partsBy, readers}
-use Rattle.samples.specs.Ways.{contents-unit, contents-value, contents-positions, contents-fields, value-leaf, value-parted, named-parted, unnamed, part-child, part-refused, struct-fits, parts-parted, parted-struct, parted-refused, parted-leaf, parted-parts, parted-variant, parted-none, container-parts, container-refused, variant-child, variant-refused}
+use Rattle.samples.specs.Ways.{contents-unit, contents-value, contents-positions, contents-fields, value-leaf, value-parted, named-parted, unnamed, part-child, part-refused, struct-fits, parted-struct, parted-refused, parted-leaf, parted-parts, parted-variant, parted-none, container-parts, container-refused, variant-child, variant-refused}
 use Rattle.samples.specs.Same.{elements-same, same-above}
 use Rattle.samples.specs.Loops.{parts-end, parts-refused, parts-stopped, parts-more, parts-less, parts-counted, count-fits, element-part, elements-more, part-unnamed, entry-unnamed, position-part, positions-end, whole-fits, name-fits, name-whole, name-inside, end-fits, fields-ended, fields-refused, fields-stopped, fields-more, fields-less, by-fields, by-elements, by-entries, by-positions}
 use Rattle.samples.specs.Table.{is-place, has-room, past-ready, observed-sound, held-ready, held-from, opened-left, opened-ready, opened-from, chosen-left, chosen-from, field-ready, field-grows, field-still, field-ends, traced-from, traced-grows, traced-ready, traced-first, falls-parts, falls-contents, falls-named, struct-parted, tuple-parted}

@@ -3,10 +3,6 @@ use Rattle.samples.specs.Ways.{held-child, held-refused}
 use Rattle.samples.specs.Table.{is-place, child-place, child-room, child-held}
 use Rattle.samples.proofs.hold.Statement.{statement}
 use Rattle.samples.proofs.hold.Tie as tie
-use Rattle.samples.proofs.hold.Reads as reads
-use Rattle.samples.proofs.hold.Lts as lts
-use Rattle.places.proofs.ensure.Reads as ensure-reads
-use Rattle.places.proofs.touch.Reads as touch-reads
 
 -- src/lib.rt:256:11
 ensure-requires : tie.Need-ensure-requires

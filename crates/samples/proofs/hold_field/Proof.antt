@@ -3,11 +3,6 @@ use Rattle.samples.specs.Ways.{known-child}
 use Rattle.samples.specs.Table.{known-opened}
 use Rattle.samples.proofs.hold_field.Statement.{statement}
 use Rattle.samples.proofs.hold_field.Tie as tie
-use Rattle.samples.proofs.hold_field.Reads as reads
-use Rattle.samples.proofs.hold_field.Lts as lts
-use Rattle.places.proofs.touch.Reads as touch-reads
-use Rattle.places.proofs.find_field.Reads as find-field-reads
-use Rattle.samples.proofs.new_field.Reads as new-field-reads
 
 -- src/lib.rt:345:9
 find-field-requires : tie.Need-find-field-requires

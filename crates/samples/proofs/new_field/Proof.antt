@@ -4,11 +4,6 @@ use Rattle.samples.specs.Ways.{field-bad, tested, new-child, new-full}
 use Rattle.samples.specs.Table.{is-place, child-place, child-room, new-opened}
 use Rattle.samples.proofs.new_field.Statement.{statement}
 use Rattle.samples.proofs.new_field.Tie as tie
-use Rattle.samples.proofs.new_field.Reads as reads
-use Rattle.samples.proofs.new_field.Lts as lts
-use Rattle.places.proofs.touch.Reads as touch-reads
-use Rattle.places.proofs.add.Reads as add-reads
-use Rattle.text.proofs.Name.is_utf8.Reads as is-utf8-reads
 
 -- src/lib.rt:328:9
 is-utf8-requires : tie.Need-is-utf8-requires

@@ -1,14 +1,8 @@
 use borrow.Author.Needs.{needs}
 use Rattle.samples.specs.Ways.{opens-met, opens-unmet}
-use Rattle.samples.specs.Table.{is-place, has-room, sampled-ready}
+use Rattle.samples.specs.Table.{sampled-ready}
 use Rattle.samples.proofs.open_container.Statement.{statement}
 use Rattle.samples.proofs.open_container.Tie as tie
-use Rattle.samples.proofs.open_container.Reads as reads
-use Rattle.samples.proofs.open_container.Lts as lts
-use Rattle.places.proofs.make.Reads as make-reads
-use Rattle.places.proofs.meet.Reads as meet-reads
-use Rattle.places.proofs.sample.Reads as sample-reads
-use Rattle.words.proofs.get.Reads as get-reads
 
 -- src/lib.rt:279:9
 get-requires : tie.Need-get-requires

@@ -3,10 +3,6 @@ use Rattle.shapes.specs.Field.{field-inside}
 use Rattle.samples.specs.Ways.{opened-named, opened-ended, opened-refused}
 use Rattle.samples.proofs.open_field.Statement.{statement}
 use Rattle.samples.proofs.open_field.Tie as tie
-use Rattle.samples.proofs.open_field.Reads as reads
-use Rattle.samples.proofs.open_field.Lts as lts
-use Rattle.shapes.proofs.field_at.Reads as field-at-reads
-use Rattle.samples.proofs.hold_field.Reads as hold-field-reads
 
 -- src/lib.rt:366:11
 field-at-requires : tie.Need-field-at-requires

@@ -1,14 +1,8 @@
 use borrow.Author.Needs.{needs}
 use Rattle.samples.specs.Ways.{holds-met, holds-unmet}
-use Rattle.samples.specs.Table.{is-place, has-room, sampled-ready}
+use Rattle.samples.specs.Table.{sampled-ready}
 use Rattle.samples.proofs.open_variant.Statement.{statement}
 use Rattle.samples.proofs.open_variant.Tie as tie
-use Rattle.samples.proofs.open_variant.Reads as reads
-use Rattle.samples.proofs.open_variant.Lts as lts
-use Rattle.places.proofs.meet.Reads as meet-reads
-use Rattle.places.proofs.sample.Reads as sample-reads
-use Rattle.samples.proofs.hold.Reads as hold-reads
-use Rattle.words.proofs.get.Reads as get-reads
 
 -- src/lib.rt:304:9
 get-requires : tie.Need-get-requires

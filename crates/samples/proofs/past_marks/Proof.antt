@@ -22,7 +22,7 @@ past-marks-spec =
     Inv-loop
     μ-loop
     (λ c. search needs)
-    (λ c. search needs)
+    (λ c κs. search needs)
     (λ c κs. search needs)
     (λ c. search needs)
     (λ c. search (past-other, not-true, needs))

@@ -20,7 +20,7 @@ past-run-spec =
     Inv-loop
     μ-loop
     (λ c. search needs)
-    (λ c. search needs)
+    (λ c κs. search needs)
     (λ c. search (run-other, needs))
     (λ c. search needs)
     (λ c. search needs)
