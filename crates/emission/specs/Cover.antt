@@ -14,8 +14,7 @@ use Rattle.model.specs.Kinds.{Step, same}
 use Rattle.model.specs.Reading.{Value, val, cut, Parts, no-parts, cut-off, part, values}
 use Rattle.model.specs.Tracing.{dotsOf, placeLimit, meet, has, clashes, made, Counted, counted}
 use Rattle.refine.specs.Spots.{Spot, spot, Spots, no-spots, child, num, nullS, kindS, samplesS, belowS, stepsS, newSpot, spotAt, putS, addS, makeS, makeAllS, sampleOf, walk, walkParts, walkAll}
-use Rattle.refine.specs.Numbers.{within, withinIn, or-right, has-add, add-among, has-is}
-use Rattle.refine.specs.Rep.{or-left}
+use Rattle.refine.specs.Numbers.{within, withinIn, or-right, has-add, add-among, has-is, or-left}
 
 -- P of the count and of what an outcome counts
 abbrev Gives : {A : Type 0} → (ℕ → A → Type 0) → Result (Counted A) → Type 0

@@ -25,6 +25,7 @@ use Rattle.places.specs.declared.Ensured.the-variants as E
 use Rattle.places.specs.declared.Made.{Made}
 use Rattle.places.specs.declared.Made.the-variants as D
 use Rattle.places.specs.Layout.{kindWord, samplesWord, firstWord, lastWord, blockWord, nextWord, parentWord, stepWord, nameWord, heldWord, markWord, tagWord, Sound}
+use Rattle.places.specs.Numbered.{seek, entered}
 
 -- ---- kinds that meet, with so many levels left
 abbrev pub ofJoint : Option ℕ → Met
@@ -66,7 +67,7 @@ pub record Past (tag child here : ℕ) (t : List ℕ) : Type 0 where
   pub below : (text : List ℕ) (n : ℕ) → Sound text t n → child < n → here < n
   pub same : (text : List ℕ) (n : ℕ) (name : Name) → Sound text t n → child < n → (child ≡ 0 → ⊥) → tag ≡ tagOf (bytesOf text name) → findFrom text fieldCode name t here ≡ findFrom text fieldCode name t child
 
--- a position in the place's block stands by its number; any other child is searched for
+-- a position in the place's block stands by its number, any other numbered child is found in the search tree, the others from sibling to sibling
 unfoldable pub inBlock : ℕ → ℕ → ℕ → List ℕ → Bool
 inBlock place i n t = ltb i (word t place blockWord) && ltb (word t place firstWord + i) n
 
@@ -75,8 +76,8 @@ childAt text place S.Element n t = findIn text place (codeOf S.Element) noName t
 childAt text place S.Key n t = findIn text place (codeOf S.Key) noName t
 childAt text place S.Value n t = findIn text place (codeOf S.Value) noName t
 childAt text place (S.Field name) n t = findIn text place fieldCode name t
-childAt text place (S.Position i) n t = if inBlock place i n t then word t place firstWord + i else findIn text place (codeOf (S.Position i)) noName t
-childAt text place (S.Variant number name) n t = findIn text place (codeOf (S.Variant number name)) name t
+childAt text place (S.Position i) n t = if inBlock place i n t then word t place firstWord + i else seek place (codeOf (S.Position i)) n t .child
+childAt text place (S.Variant number name) n t = seek place (codeOf (S.Variant number name)) n t .child
 
 -- ---- a new last child: linked from the place where it is the first, else from the last before it
 unfoldable pub linked : ℕ → ℕ → List ℕ → List ℕ
@@ -105,7 +106,7 @@ unfoldable pub ensuredBy : List ℕ → ℕ → ℕ → Name → ℕ → List �
 ensuredBy text place code name n t child =
     if not (eqb child 0) then ensuring (confirmed text name child n t) t
     else if leb placeLimit n then ensuring (E.Refused F.TooManyPlaces) t
-    else ensuring (E.Child n (n + 1)) (tagged text name n (appended place code name n t))
+    else ensuring (E.Child n (n + 1)) (entered place code n (tagged text name n (appended place code name n t)))
 
 unfoldable pub ensured : List ℕ → ℕ → Step → ℕ → List ℕ → Ensuring
 ensured text place step n t = ensuredBy text place (codeOf step) (nameOf step) n t (childAt text place step n t)

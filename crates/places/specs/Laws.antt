@@ -32,6 +32,7 @@ use Rattle.places.specs.declared.Made.{Made}
 use Rattle.places.specs.declared.Made.the-variants as D
 use Rattle.places.specs.Layout.{kindWord, samplesWord, firstWord, lastWord, blockWord, nextWord, parentWord, stepWord, nameWord, heldWord, markWord, tagWord, Linked, Tagged, Sound, Ready}
 use Rattle.places.specs.Flat.{isAt, findTurn, findFrom, findIn, inBlock, childAt, Past, linked, described, appended, tagged, Ensuring, ensuring, confirmed, ensuredBy, ensured, touched, sampled, Making, making, ofEnsuring, madeOne, thenMade, madeAll, appendedFrom, positionsMade, made, SoundEnsured, SoundMade}
+use Rattle.places.specs.Numbered.{isNumbered, entered, seek-ends, seek-below}
 
 -- ---- words after a store
 set-keeps : (P : ℕ → Type 0) (l : List ℕ) (i j v : ℕ) → (j ≡ i → P v) → P (getD l j 0) → P (getD (set l i v) j 0)
@@ -120,6 +121,14 @@ sound-touched text t u n place child e s =
     (sound-plain text _ n child markWord _ refl (sound-plain text t n child heldWord _ refl s)))
 
 -- ---- a new last child
+
+-- and entered into the search tree
+pub sound-entered : (text t u : List ℕ) (n place code : ℕ) → u ≡ entered place code n t → place < n → n < 1024 → Sound text t (n + 1) → Sound text u (n + 1)
+unfolding entered if_then_else_
+sound-entered text t u n place code e h m s =
+    let ends = seek-ends code n t (λ w. isPlain w ≡ true) refl refl refl place h (omega arith) in
+    rw e (if-either (λ x. Sound text x (n + 1)) (isNumbered code) (sound-plain text t (n + 1) _ _ n (ends .link) s) s)
+
 length-either : (test : Bool) (x y : List ℕ) (n : ℕ) → length x ≡ n → length y ≡ n → length (if test then x else y) ≡ n
 length-either test x y n e d = if-either (λ z. length z ≡ n) test e d
 
@@ -424,14 +433,14 @@ unfolding inBlock
 in-block place i n t e = both (ltb i (word t place blockWord)) _ e λ a b. ltb-true (word t place firstWord + i) n b
 
 -- and so is the child at any step, where what the search finds is one
-pub child-below : (text t : List ℕ) (n place : ℕ) → ((code : ℕ) (name : Name) → findIn text place code name t < n) → (step : Step) → childAt text place step n t < n
+pub child-below : (text t : List ℕ) (n place : ℕ) → place < n → n ≤ 1024 → ((code : ℕ) (name : Name) → findIn text place code name t < n) → (step : Step) → childAt text place step n t < n
 unfolding childAt if_then_else_
-child-below text t n place found S.Element = found _ noName
-child-below text t n place found S.Key = found _ noName
-child-below text t n place found S.Value = found _ noName
-child-below text t n place found (S.Field name) = found _ name
-child-below text t n place found (S.Position i) = cases (inBlock place i n t) (λ e. rw e (in-block place i n t e)) (λ e. rw e (found _ noName))
-child-below text t n place found (S.Variant number name) = found _ name
+child-below text t n place h m found S.Element = found _ noName
+child-below text t n place h m found S.Key = found _ noName
+child-below text t n place h m found S.Value = found _ noName
+child-below text t n place h m found (S.Field name) = found _ name
+child-below text t n place h m found (S.Position i) = cases (inBlock place i n t) (λ e. rw e (in-block place i n t e)) (λ e. rw e (seek-below _ n t place h m))
+child-below text t n place h m found (S.Variant number name) = seek-below _ n t place h m
 
 -- ---- a child that is ensured, and children that are made
 

@@ -29,6 +29,10 @@ lastWord = 4
 abbrev pub orderedFirstWord : ℕ
 orderedFirstWord = 5
 
+-- before that: the root of the search tree of its numbered children (Numbered)
+abbrev pub rootWord : ℕ
+rootWord = 5
+
 -- how many positions stand in a block: its first so many children are positions 0, 1, 2, .., each with the place number after the one before
 abbrev pub blockWord : ℕ
 blockWord = 6
@@ -55,6 +59,13 @@ markWord = 13
 -- and, once it is put in order, the next of its siblings
 abbrev pub orderedNextWord : ℕ
 orderedNextWord = 14
+
+-- its links in the search tree of its parent's numbered children, by a bit of its code; the right one stands where the next in order stands later
+abbrev pub leftWord : ℕ
+leftWord = 7
+
+abbrev pub rightWord : ℕ
+rightWord = 14
 
 -- the tag of its name, of which equal names have the same
 abbrev pub tagWord : ℕ

@@ -1,4 +1,5 @@
 pub mod Layout
+pub mod Numbered
 pub mod Flat
 pub mod Laws
 pub mod Tail

@@ -26,6 +26,7 @@ use Rattle.places.specs.declared.Made.the-variants as D
 use Rattle.places.specs.Layout.{kindWord, samplesWord, firstWord, lastWord, blockWord, nextWord, parentWord, stepWord, nameWord, heldWord, markWord, tagWord, Sound}
 use Rattle.places.specs.Flat.{isAt, findTurn, findFrom, childAt, linked, described, appended, tagged, Ensuring, ensuring, confirmed, ensuredBy, ensured, touched, sampled, Making, making, ofEnsuring, madeOne, thenMade, madeAll, appendedFrom, positionsMade, made}
 use Rattle.places.specs.Laws.{word-keeps, child-below}
+use Rattle.places.specs.Numbered.{isNumbered, seek, entered, seek-ends}
 
 -- Of a table with n places: links are places, and the words past those of all places are the given ones.
 pub record Tailed (tail t : List ℕ) (n : ℕ) : Type 0 where
@@ -92,6 +93,15 @@ module _ (tail t : List ℕ) (n place : ℕ) (h : Tailed tail t n) (b : place < 
       (tailed-other tail _ (n + 1) n parentWord _ refl room
       (tailed-link tail _ (n + 1) tailed-linked (n + 1) place lastWord n (le-refl (n + 1)) (omega arith) (omega arith) (omega arith) (omega arith))))
 
+  tailed-entered : (text : List ℕ) (code : ℕ) (name : Name) → Tailed tail (entered place code n (tagged text name n (appended place code name n t))) (n + 1)
+  unfolding entered tagged
+  tailed-entered text code name =
+      let u : List ℕ = tagged text name n (appended place code name n t) in
+      let h : Tailed tail u (n + 1) = tailed-other tail _ (n + 1) n tagWord _ refl room (tailed-appended code name) in
+      let ends = seek-ends code n u (λ w. isOther w ≡ true) refl refl refl place b (omega arith) in
+      let i : seek place code n u .place < n = ends .here in
+      if-either (λ x. Tailed tail x (n + 1)) (isNumbered code) (tailed-other tail u (n + 1) (seek place code n u .place) (seek place code n u .field) n (ends .link) (omega arith) h) h
+
 -- ---- the child found is a place
 find-place : (tail text t : List ℕ) (n code child : ℕ) (name : Name) → Tailed tail t n → child < n → findFrom text code name t child < n
 unfolding findFrom findTurn
@@ -119,15 +129,15 @@ module _ (tail text : List ℕ) (place : ℕ) where
   unfolding ensured ensuredBy confirmed tagged if_then_else_
   ensured-tail step n t h b =
       let m : n ≤ 1024 = h .most in
-      let found : childAt text place step n t < n = child-below text t n place (λ code name. find-place tail text t n code _ name h (h .first place (omega arith))) step in
+      let found : childAt text place step n t < n = child-below text t n place b m (λ code name. find-place tail text t n code _ name h (h .first place (omega arith))) step in
       let sought : ℕ = childAt text place step n t in
       if-either (TailedEnsuring tail n) (not (eqb sought 0))
       (if-either (λ r. TailedEnsuring tail n (ensuring r t)) (eqName (bytesOf text (unpackedName (word t sought nameWord))) (bytesOf text (nameOf step))) (h, le-refl n, found) (h .kept))
       (new (leb placeLimit n) refl)
     where
-      new : (full : Bool) → leb placeLimit n ≡ full → TailedEnsuring tail n (if full then ensuring (E.Refused F.TooManyPlaces) t else ensuring (E.Child n (n + 1)) (tagged text (nameOf step) n (appended place (codeOf step) (nameOf step) n t)))
+      new : (full : Bool) → leb placeLimit n ≡ full → TailedEnsuring tail n (if full then ensuring (E.Refused F.TooManyPlaces) t else ensuring (E.Child n (n + 1)) (entered place (codeOf step) n (tagged text (nameOf step) n (appended place (codeOf step) (nameOf step) n t))))
       new true e = h .kept
-      new false e = let r : n < placeLimit = leb-false placeLimit n e in (tailed-other tail _ (n + 1) n tagWord _ refl r (tailed-appended tail t n place h b r (codeOf step) (nameOf step)), omega arith, omega arith)
+      new false e = let r : n < placeLimit = leb-false placeLimit n e in (tailed-entered tail t n place h b r text (codeOf step) (nameOf step), omega arith, omega arith)
 
   all-tail : (steps : List Step) (n : ℕ) (t : List ℕ) → Tailed tail t n → place < n → TailedMaking tail n (madeAll text place steps n t)
   unfolding madeAll madeOne

@@ -11,20 +11,20 @@ use Rattle.logic.specs.Test.{if_then_else_, cases}
 use Rattle.logic.specs.Turns.{turns, after}
 use Rattle.text.specs.declared.Name.{Name}
 use Rattle.text.specs.Name.{bytesOf, eqName}
-use Rattle.words.specs.Laws.{word-same, word-other}
 use Rattle.words.specs.Word.{word, withWord}
+use Rattle.words.specs.Laws.{word-same, word-other}
 use Rattle.model.specs.Kinds.{Step, position, same}
 use Rattle.model.specs.Answer.{tableWords}
 use Rattle.model.specs.Tracing.{one, placeLimit, has, clashes}
-use Rattle.equality.specs.Base.{same-true, or-cases}
+use Rattle.equality.specs.Base.{same-true, same-refl, or-cases}
 use Rattle.shapes.specs.declared.Step as Flat
 use Rattle.shapes.specs.Steps.{Inside, unpackedName, packedName, codeOf, nameOf}
-use Rattle.places.specs.Layout.{kindWord, firstWord, lastWord, blockWord, nextWord, parentWord, stepWord, nameWord}
+use Rattle.places.specs.Layout.{kindWord, firstWord, lastWord, rootWord, blockWord, leftWord, nextWord, parentWord, stepWord, nameWord, rightWord}
 use Rattle.places.specs.Flat.{isAt, findTurn, findFrom, findIn, linked, appended, described}
 use Rattle.refine.specs.Spots.{Spot, spot, Spots, no-spots, child, num, belowS, stepsS, newSpot, spotAt, addS}
 use Rattle.refine.specs.Steps.{near, near-name, near-renames, far-same, far-renames, same-renames, stepCodeOf, nameIn, test-is, Stands, unpacked}
-use Rattle.refine.specs.Numbers.{firstOf, lastFrom, within, withinIn, nearIn, GoodIn, both-false, or-right, not-both, bounded, boundedIn, self, has-add-old, add-good, not-below}
-use Rattle.refine.specs.Rep.{size-with, ownWords, cellWords, Row, Cell, Block, no-block, Rep, RepIn, same-cell, same-block, row-set, or-left, has-num, has-below, frame, Fits, After, in-row}
+use Rattle.refine.specs.Numbers.{firstOf, lastFrom, within, withinIn, nearIn, Good, GoodIn, both-false, or-right, not-both, un-true, bounded, boundedIn, self, has-add-old, add-good, not-below, or-left, has-num, has-below}
+use Rattle.refine.specs.Rep.{size-with, ownWords, cellWords, Row, Cell, Block, no-block, Rep, RepIn, same-cell, same-block, row-set, frame, Fits, in-row}
 
 -- ---- the search
 -- no child that the search takes for it: none at the step, nor another name of a variant
@@ -47,6 +47,13 @@ pub data Sought (text t : List ℕ) (s : Step) (ks : Spots) (c : ℕ) : Type 0 w
   absent : c ≡ 0 → nearIn s ks ≡ false → Sought text t s ks c
   present : c ≡ num (spotAt s ks) → has s (stepsS ks) ≡ true → clashes s (stepsS ks) ≡ false → eqName (bytesAt text t c) (nameIn s) ≡ true → Sought text t s ks c
   another : (c ≡ 0 → ⊥) → clashes s (stepsS ks) ≡ true → eqName (bytesAt text t c) (nameIn s) ≡ false → Sought text t s ks c
+
+-- the child that the search takes for it, and that it finds
+pub record Picked (text t : List ℕ) (s : Step) (ks : Spots) : Type 0 where
+  pub step : Step
+  pub there : has step (stepsS ks) ≡ true
+  pub is : near s step ≡ true
+  pub sought : Sought text t s ks (num (spotAt step ks))
 
 module _ (text t : List ℕ) (f : Flat.Step) (s : Step) (st : Stands text f s) where
   is-at : (q x p : ℕ) (r : Step) (h m : ℕ) → Cell text t q x p r h m → isAt text (codeOf f) (nameOf f) q t ≡ near s r
@@ -90,6 +97,23 @@ module _ (text t : List ℕ) (f : Flat.Step) (s : Step) (st : Stands text f s) w
   sought n p b k m ks h =
       let x : word t p firstWord ≡ firstOf ks = h .rep .0 3 (omega arith) in
       rw x (seek n p p 1025 ks (h .most) (omega arith) (h .good .2) (h .rep .1))
+
+  pub picked : (n p c : ℕ) (ks : Spots) → GoodIn n c ks → RepIn text t p ks → nearIn s ks ≡ true → Picked text t s ks
+  unfolding nearIn has stepsS spotAt if_then_else_
+  picked n p c no-spots g r e = absurd (false≢true e)
+  picked n p c (child q h m u ks) g r e =
+      cases (near s q)
+      (λ d. record {
+        step = q;
+        there = rw (same-refl q) refl;
+        is = d;
+        sought = rw (same-refl q) (here n (firstOf ks) p q h m u ks (omega (arith, g .0)) (g .4) (r .0) d);
+      })
+      (λ d.
+      let e′ : nearIn s ks ≡ true = rw d at e in
+      let i = picked n p (num u) ks (g .3) (r .2) e′ in
+      let o : same (i .step) q ≡ false = un-true (same (i .step) q) (λ a. not-both (near s q) (rw (same-true (i .step) q a) at (i .is)) d) in
+      record { step = i .step; there = rw o (i .there); is = i .is; sought = rw o (further q h m u ks _ d (i .sought)) })
 
 -- ---- a new last child
 last-in : (c : ℕ) (r : Step) (h m : ℕ) (u : Spot) (ks : Spots) → withinIn (lastFrom c (child r h m u ks)) (child r h m u ks) ≡ true
@@ -136,7 +160,7 @@ module _ (text t t′ : List ℕ) (n p : ℕ) (s : Step) (cell : Cell text t′ 
       says = r .0 .says;
     },
     frame text t t′ u (r .1) (λ f l. w (num u) f (omega arith) (has-num u no-spots) (λ _ a. omega arith))
-        (λ a f l e. w a f (omega arith) (or-left (within a u) false (has-below a u e)) (λ d _. not-both (withinIn a (belowS u)) e (rw d (not-below n u (g .1))))),
+        (λ a f l e. w a f (l .0) (or-left (within a u) false (has-below a u e)) (λ d _. not-both (withinIn a (belowS u)) e (rw d (not-below n u (g .1))))),
     (cell, own, tt),
   )
     where
@@ -148,9 +172,9 @@ module _ (text t t′ : List ℕ) (n p : ℕ) (s : Step) (cell : Cell text t′ 
       let L : ℕ = lastFrom (num u) k in
       let there : withinIn L k ≡ true = last-in (num u) q′ h′ m′ u′ ks in
       let off : (a : ℕ) → within a u ≡ true → a ≡ L → ⊥ = λ a e d. not-both (withinIn L k) there (g .2 L (rw d at e)) in (
-        same-cell (r .0) (λ f l. w (num u) f (omega arith) (has-num u k) (λ d _. off (num u) (self u) d)),
+        same-cell (r .0) (λ f l. w (num u) f (l .0) (has-num u k) (λ d _. off (num u) (self u) d)),
         frame text t t′ u (r .1) (λ f l. w (num u) f (omega arith) (has-num u k) (λ d _. off (num u) (self u) d))
-            (λ a f l e. w a f (omega arith) (or-left (within a u) (withinIn a k) (has-below a u e)) (λ d _. off a (has-below a u e) d)),
+            (λ a f l e. w a f (l .0) (or-left (within a u) (withinIn a k) (has-below a u e)) (λ d _. off a (has-below a u e) d)),
         add-rep (num u) (num u) (child q′ h′ m′ u′ ks) (g .3) (r .2) (λ e. x (omega (arith, g .0))) (λ a f l e d. w a f l (or-right (within a u) (withinIn a k) e) d),
       )
 
@@ -198,10 +222,23 @@ linked-is text t n p s b k m (child r x y u ks) h =
 pub zero-row : (t : List ℕ) (n base k : ℕ) → base + k ≤ 16 → ((f : ℕ) → f < 16 → word t n f ≡ 0) → Row t n base (replicate k 0)
 zero-row t n base k i z f l = let l′ : f < k = rw (length-replicate {A = ℕ} k 0) at l in z (base + f) (omega arith) ∙ sym (getD-replicate k f 0 0 l′)
 
-pub append-after : (text t : List ℕ) (n p : ℕ) (x : Flat.Step) (s : Step) (b : Bool) (k m : ℕ) (ks : Spots) → Stands text x s → nearIn s ks ≡ false → Fits text t n (spot p b k m ks) → n < placeLimit
-    → After text t n (spot p b k m ks) (appended p (codeOf x) (nameOf x) n t) (n + 1) (spot p b k m (addS s n ks))
+-- A new last child, in a table that does not yet have it in the search tree nor in the block: what `After` says but for these, and the words
+-- that they read.
+pub record Grown (text t : List ℕ) (n p : ℕ) (b : Bool) (k m : ℕ) (ks : Spots) (s : Step) (t′ : List ℕ) : Type 0 where
+  pub rep : Rep text t′ (spot p b k m (addS s n ks))
+  pub good : Good (n + 1) (spot p b k m (addS s n ks))
+  pub size : length t′ ≡ length t
+  pub words : (q f : ℕ) → q < n → f < 16 → (q ≡ p → 5 ≤ f) → (withinIn q ks ≡ true → q ≡ lastFrom 0 ks → f ≡ nextWord → ⊥) → word t′ q f ≡ word t q f
+  pub root : word t′ n rootWord ≡ 0
+  pub left : word t′ n leftWord ≡ 0
+  pub right : word t′ n rightWord ≡ 0
+  pub step : word t′ n stepWord ≡ stepCodeOf s
+  pub zeros : (q f : ℕ) → n + 1 ≤ q → q < placeLimit → f < 16 → word t′ q f ≡ 0
+
+pub append-grown : (text t : List ℕ) (n p : ℕ) (x : Flat.Step) (s : Step) (b : Bool) (k m : ℕ) (ks : Spots) → Stands text x s → nearIn s ks ≡ false → Fits text t n (spot p b k m ks) → n < placeLimit
+    → Grown text t n p b k m ks s (appended p (codeOf x) (nameOf x) n t)
 unfolding appended linked described
-append-after text t n p x s b k m ks st far h i =
+append-grown text t n p x s b k m ks st far h i =
     let c : ℕ = codeOf x in
     let nm : ℕ = packedName (nameOf x) in
     let t₀ : List ℕ = joined p n t in
@@ -236,30 +273,28 @@ append-after text t n p x s b k m ks st far h i =
       inside = subst (λ (y : Name). Inside text y) (sym (unpacked (nameOf x) (st .short))) (st .inside);
       says = ap (bytesOf text) (unpacked (nameOf x) (st .short)) ∙ st .bytes;
     } in
-    let fresh : word t₄ n blockWord ≡ 0
-    = word-other t₃ n nameWord nm n blockWord (λ e. omega arith) ∙ word-other t₂ n stepWord c n blockWord (λ e. omega arith) ∙ word-other t₁ n parentWord p n blockWord (λ e. omega arith) ∙ zeros₀ blockWord (omega arith) in
+    let fresh : (f : ℕ) → f < 16 → (f ≡ parentWord → ⊥) → (f ≡ stepWord → ⊥) → (f ≡ nameWord → ⊥) → word t₄ n f ≡ 0
+    = λ f j a₆ a₇ a₈. word-other t₃ n nameWord nm n f (λ e. a₈ (omega arith)) ∙ word-other t₂ n stepWord c n f (λ e. a₇ (omega arith)) ∙ word-other t₁ n parentWord p n f (λ e. a₆ (omega arith)) ∙ zeros₀ f j in
     let own : Row t₄ n kindWord (ownWords false 0 0 no-spots)
     = row-other t₃ n 0 n 11 nm (ownWords false 0 0 no-spots) (λ g l e. omega arith) (row-other t₂ n 0 n 10 c (ownWords false 0 0 no-spots) (λ g l e. omega arith) (row-other t₁ n 0 n 9 p (ownWords false 0 0 no-spots) (λ g l e. omega arith) (zero-row t₁ n 0 5 (omega arith) zeros₀))) in
     let parent : Row t₄ p kindWord (ownWords b k m (addS s n ks))
     = subst (λ (x : ℕ). Row t₄ p kindWord (k ∷ one b ∷ m ∷ firstOf (addS s n ks) ∷ x ∷ [])) (sym (last-add 0 s n ks)) (row-other t₃ p 0 n 11 nm (k ∷ one b ∷ m ∷ firstOf (addS s n ks) ∷ n ∷ []) (λ g l e. omega arith) (row-other t₂ p 0 n 10 c (k ∷ one b ∷ m ∷ firstOf (addS s n ks) ∷ n ∷ []) (λ g l e. omega arith) (row-other t₁ p 0 n 9 p (k ∷ one b ∷ m ∷ firstOf (addS s n ks) ∷ n ∷ []) (λ g l e. omega arith) (row-set t₀ p 0 4 n (k ∷ one b ∷ m ∷ firstOf (addS s n ks) ∷ lastFrom 0 ks ∷ []) (omega arith) (omega arith) (k₀ .row))))) in
     record {
-      fits = record {
-        rep = (
-          parent,
-          add-rep text t t₄ n p s cell (own, tt, no-block (word t₄ n blockWord) no-spots fresh) 0 p ks (h .good .2) (h .rep .1)
-              (λ e. let y = last-of 0 ks e in let y′ = last-below (lastFrom 0 ks) y in
-              word-other t₃ n nameWord nm (lastFrom 0 ks) nextWord (λ a. omega arith) ∙ word-other t₂ n stepWord c (lastFrom 0 ks) nextWord (λ a. omega arith) ∙ word-other t₁ n parentWord p (lastFrom 0 ks) nextWord (λ a. omega arith) ∙ word-other t₀ p lastWord n (lastFrom 0 ks) nextWord (λ a. omega arith) ∙ k₀ .link e)
-              (λ q f l e d. let y = last-below q e in
-              all q f l (λ a _. omega arith) (λ a _. omega arith) (λ a _. omega arith) (λ a _. not-both (withinIn q ks) e (rw a (h .good .1))) (λ a _. not-both (withinIn q ks) e (rw a (h .good .1))) (λ _ a c. d a c)),
-          same-block t t₄ p (addS s n ks) (all p blockWord (omega arith) (λ a _. omega arith) (λ a _. omega arith) (λ a _. omega arith) (λ _ a. omega arith) (λ _ a. omega arith) (λ _ _ a. omega arith)) (block-add (word t p blockWord) s n ks (h .rep .2)),
-        );
-        good = (omega arith, has-add-old p s n ks pn ∙ h .good .1, add-good n p s ks pn far (h .good .2));
-        room = omega arith;
-        most = omega arith;
-        zeros = λ q f l v j. all q f j (λ d _. omega arith) (λ d _. omega arith) (λ d _. omega arith) (λ d _. omega arith) (λ d _. omega arith) (λ e d _. let y = last-below q e in omega arith) ∙ h .zeros q f (omega arith) v j;
-      };
-      grown = omega arith;
-      same = refl;
-      keeps = λ q f l j e d. all q f j (λ a _. omega arith) (λ a _. omega arith) (λ a _. omega arith) (λ a c. let y = d a in omega arith) (λ a c. let y = d a in omega arith) (λ a _ _. not-both (withinIn q ks) a e);
-      kept = λ q l. has-add-old q s n ks l;
+      rep = (
+        parent,
+        add-rep text t t₄ n p s cell (own, tt, no-block (word t₄ n blockWord) no-spots (fresh blockWord (omega arith) (λ e. omega arith) (λ e. omega arith) (λ e. omega arith))) 0 p ks (h .good .2) (h .rep .1)
+            (λ e. let y = last-of 0 ks e in let y′ = last-below (lastFrom 0 ks) y in
+            word-other t₃ n nameWord nm (lastFrom 0 ks) nextWord (λ a. omega arith) ∙ word-other t₂ n stepWord c (lastFrom 0 ks) nextWord (λ a. omega arith) ∙ word-other t₁ n parentWord p (lastFrom 0 ks) nextWord (λ a. omega arith) ∙ word-other t₀ p lastWord n (lastFrom 0 ks) nextWord (λ a. omega arith) ∙ k₀ .link e)
+            (λ q f l e d. let y = last-below q e in
+            all q f l (λ a _. omega arith) (λ a _. omega arith) (λ a _. omega arith) (λ a _. not-both (withinIn q ks) e (rw a (h .good .1))) (λ a _. not-both (withinIn q ks) e (rw a (h .good .1))) (λ _ a c. d a c)),
+        same-block t t₄ p (addS s n ks) (all p blockWord (omega arith) (λ a _. omega arith) (λ a _. omega arith) (λ a _. omega arith) (λ _ a. omega arith) (λ _ a. omega arith) (λ _ _ a. omega arith)) (block-add (word t p blockWord) s n ks (h .rep .2)),
+      );
+      good = (omega arith, has-add-old p s n ks pn ∙ h .good .1, add-good n p s ks pn far (h .good .2));
+      size = z₄;
+      words = λ q f l j d e. all q f j (λ a _. omega arith) (λ a _. omega arith) (λ a _. omega arith) (λ a c. let y = d a in omega arith) (λ a c. let y = d a in omega arith) e;
+      root = fresh rootWord (omega arith) (λ e. omega arith) (λ e. omega arith) (λ e. omega arith);
+      left = fresh leftWord (omega arith) (λ e. omega arith) (λ e. omega arith) (λ e. omega arith);
+      right = fresh rightWord (omega arith) (λ e. omega arith) (λ e. omega arith) (λ e. omega arith);
+      step = cell .row 2 (omega arith);
+      zeros = λ q f l v j. all q f j (λ d _. omega arith) (λ d _. omega arith) (λ d _. omega arith) (λ d _. omega arith) (λ d _. omega arith) (λ e d _. let y = last-below q e in omega arith) ∙ h .zeros q f (omega arith) v j;
     }

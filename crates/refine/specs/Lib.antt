@@ -2,8 +2,10 @@ pub mod Spots
 pub mod Tree
 pub mod Steps
 pub mod Numbers
+pub mod Numbered
 pub mod Rep
 pub mod Child
+pub mod Entered
 pub mod Part
 pub mod Commands
 pub mod Sim

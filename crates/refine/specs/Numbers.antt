@@ -49,6 +49,9 @@ pub both-false : (a b : Bool) → a || b ≡ false → (a ≡ false) × (b ≡ f
 both-false true b e = absurd (true≢false e)
 both-false false b e = (refl, e)
 
+pub or-left : (a b : Bool) → a ≡ true → a || b ≡ true
+or-left a b e = rw e refl
+
 pub or-right : (a b : Bool) → b ≡ true → a || b ≡ true
 or-right true b e = refl
 or-right false b e = e
@@ -79,6 +82,12 @@ mutual
 
 pub self : (u : Spot) → within (num u) u ≡ true
 self (spot p b k m ks) = rw (eq-eqb p p refl) refl
+
+pub has-num : (u : Spot) (ks : Spots) → within (num u) u || withinIn (num u) ks ≡ true
+has-num u ks = or-left (within (num u) u) (withinIn (num u) ks) (self u)
+
+pub has-below : (q : ℕ) (u : Spot) → withinIn q (belowS u) ≡ true → within q u ≡ true
+has-below q (spot p b k m ks) e = or-right (eqb q p) (withinIn q ks) e
 
 -- the child that is found is below
 pub found : (q : ℕ) (s : Step) (ks : Spots) → has s (stepsS ks) ≡ true → within q (spotAt s ks) ≡ true → withinIn q ks ≡ true

@@ -1,18 +1,17 @@
 -- A part: its child is ensured and touched, its value is read there, and the parent stands as it should.
 use mathlib.Core.Path.{_≡_, refl, ap, sym, subst, _∙_}
 use mathlib.Core.List.{List, [], _∷_}
-use mathlib.Core.Bool.{Bool, true, false, _||_, false≢true}
-use Prim.Native.Nat.{ℕ, _+_, _*_, _<_, _≤_}
+use mathlib.Core.Bool.{Bool, true, false, _||_, false≢true, true≢false}
+use Prim.Native.Nat.{ℕ, _+_, _*_, _%_, _<_, _≤_}
 use native.Mathlib.Omega.{arith}
 use lib.ListN.{length}
 use lib.Dec.{eqb, ltb}
-use borrow.Author.Tests.{eqb-true, eqb-false, eq-eqb, ne-eqb, ltb-true, ltb-false, lt-leb, le-leb}
+use borrow.Author.Tests.{eqb-true, eqb-false, ne-eqb, lt-ltb, ltb-true, ltb-false, lt-leb, le-leb}
 use Rattle.logic.specs.Test.{if_then_else_, cases, both}
 use Rattle.refusal.specs.declared.Refusal.{Refusal}
 use Rattle.refusal.specs.Number.{numberOf}
-use Rattle.text.specs.Name.{bytesOf, tagOf}
-use Rattle.words.specs.Laws.{word-other}
 use Rattle.words.specs.Word.{word, withWord}
+use Rattle.words.specs.Laws.{word-other}
 use Rattle.model.specs.Result.{Result, refused}
 use Rattle.model.specs.Kinds.{Step, position, same}
 use Rattle.model.specs.Tracing.{one, has, clashes, placeLimit, Counted, counted}
@@ -20,14 +19,17 @@ use Rattle.shapes.specs.declared.Step as Flat
 use Rattle.shapes.specs.declared.Step.the-variants as S
 use Rattle.shapes.specs.Steps.{codeOf, noName, nameOf}
 use Rattle.places.specs.declared.Ensured.the-variants as E
+use Rattle.places.specs.Numbered.{entered}
 use Rattle.places.specs.Flat.{findIn, inBlock, childAt, Ensuring, ensuring, confirmed, ensuredBy, ensured, appended, tagged, onward, touched}
-use Rattle.places.specs.Layout.{kindWord, samplesWord, firstWord, blockWord, nextWord, heldWord, markWord, tagWord}
+use Rattle.places.specs.Layout.{kindWord, samplesWord, firstWord, rootWord, blockWord, leftWord, nextWord, stepWord, heldWord, markWord, rightWord}
 use Rattle.refine.specs.Spots.{Spot, spot, Spots, no-spots, child, num, belowS, stepsS, spotAt, putS, addS, makeS}
 use Rattle.refine.specs.Steps.{stepCodeOf, Stands}
-use Rattle.refine.specs.Numbers.{firstOf, lastFrom, within, withinIn, nearIn, Good, GoodIn, both-false, or-right, not-both, un-true, bounded, boundedIn, self, found, child-good, put-has, put-good, has-add, add-among, add-found, not-below, has-is, has-same}
-use Rattle.refine.specs.Rep.{size-with, cellWords, Row, Cell, Block, Rep, RepIn, same-cell, same-block, row-set, or-left, has-below, frame, frameIn, Fits, After, stays, and-then, set-tag}
+use Rattle.refine.specs.Numbers.{firstOf, lastFrom, within, withinIn, Good, GoodIn, both-false, or-right, not-both, un-true, bounded, boundedIn, self, found, child-good, put-has, put-good, add-among, add-found, not-below, has-is, has-same, or-left, has-below}
+use Rattle.refine.specs.Rep.{size-with, cellWords, Row, Cell, Block, Rep, RepIn, same-cell, same-block, row-set, frame, frameIn, Fits, After, stays}
+use Rattle.refine.specs.Numbered.{numIn, in-tree, index-kept, indexes-frame, indexes-at, child-apart, put-nums, indexes-put}
 use Rattle.refine.specs.Commands.{position-stands}
-use Rattle.refine.specs.Child.{far-has, far-clashes, Sought, absent, present, another, sought, append-after}
+use Rattle.refine.specs.Child.{far-has, far-clashes, Sought, absent, present, another, sought}
+use Rattle.refine.specs.Entered.{make-after, numbered-sought}
 
 -- ---- a child for a step
 pub data Ensures (text : List ℕ) (s : Step) (p : ℕ) (b : Bool) (k m : ℕ) (ks : Spots) (t : List ℕ) (n at : ℕ) : Result (Counted Spots) → Ensuring → Type 0 where
@@ -35,27 +37,16 @@ pub data Ensures (text : List ℕ) (s : Step) (p : ℕ) (b : Bool) (k m : ℕ) (
       → Ensures text s p b k m ks t n at (counted n′ ks′) (ensuring (E.Child (num (spotAt s ks′)) n′) t′)
   no-place : {x : Refusal} {t′ : List ℕ} → Ensures text s p b k m ks t n at (refused (numberOf x) at) (ensuring (E.Refused x) t′)
 
--- a new child has its tag, of which the tree says nothing
-tag-after : (text t : List ℕ) (n p : ℕ) (x : Flat.Step) (s : Step) (b : Bool) (k m : ℕ) (ks : Spots) → Stands text x s → nearIn s ks ≡ false → Fits text t n (spot p b k m ks) → n < placeLimit
-    → After text t n (spot p b k m ks) (tagged text (nameOf x) n (appended p (codeOf x) (nameOf x) n t)) (n + 1) (spot p b k m (addS s n ks))
-unfolding tagged
-tag-after text t n p x s b k m ks st far h l =
-    let u : List ℕ = appended p (codeOf x) (nameOf x) n t in
-    let a = append-after text t n p x s b k m ks st far h l in
-    let tag : ℕ = tagOf (bytesOf text (nameOf x)) in
-    and-then text t u (withWord u n tagWord tag) n (n + 1) (n + 1) (spot p b k m ks) (spot p b k m (addS s n ks)) (spot p b k m (addS s n ks)) a
-    (set-tag text u (n + 1) p b k m (addS s n ks) (a .fits) n tag (has-add n s n ks ∙ or-right (withinIn n ks) (eqb n n) (eq-eqb n n refl)))
-
 ensure-by : (text t : List ℕ) (n p : ℕ) (x : Flat.Step) (s : Step) (at : ℕ) (b : Bool) (k m : ℕ) (ks : Spots) → Stands text x s → Fits text t n (spot p b k m ks)
     → (c : ℕ) → Sought text t s ks c → Ensures text s p b k m ks t n at (makeS at s n ks) (ensuredBy text p (codeOf x) (nameOf x) n t c)
-unfolding ensuredBy tagged confirmed makeS if_then_else_
+unfolding ensuredBy confirmed makeS if_then_else_
 ensure-by text t n p x s at b k m ks st h c (absent z far) =
     rw (z, far-clashes s ks far, far-has s ks far)
     (cases (ltb n placeLimit)
     (λ i. let l : n < placeLimit = ltb-true n placeLimit i in
     rw (i, lt-leb placeLimit n l)
-    (subst (λ (c : ℕ). Ensures text s p b k m ks t n at (counted (n + 1) (addS s n ks)) (ensuring (E.Child c (n + 1)) (tagged text (nameOf x) n (appended p (codeOf x) (nameOf x) n t)))) (ap num (add-found s n ks (far-has s ks far)))
-    (there (add-among s n ks) (tag-after text t n p x s b k m ks st far h l))))
+    (subst (λ (c : ℕ). Ensures text s p b k m ks t n at (counted (n + 1) (addS s n ks)) (ensuring (E.Child c (n + 1)) (entered p (codeOf x) n (tagged text (nameOf x) n (appended p (codeOf x) (nameOf x) n t))))) (ap num (add-found s n ks (far-has s ks far)))
+    (there (add-among s n ks) (make-after text t n p x s b k m ks st far h l))))
     (λ i. rw (i, le-leb placeLimit n (ltb-false n placeLimit i)) no-place))
 ensure-by text t n p x s at b k m ks st h c (present z e f g) =
     let d = child-good n p s ks (h .good .2) e in
@@ -82,20 +73,39 @@ module _ (text t : List ℕ) (n p : ℕ) (b : Bool) (k m : ℕ) (ks : Spots) (h 
       go d (present z x y w) = sym (z ∙ d .1)
       go d (another z x y) = absurd (not-both (clashes (position i) (stepsS ks)) x (no-clash i ks))
 
-  child-is : (x : Flat.Step) → childAt text p x n t ≡ findIn text p (codeOf x) (nameOf x) t
+  -- a position that does not stand in the block is past it
+  past-block : (i : ℕ) → inBlock p i n t ≡ false → word t p blockWord ≤ i
+  unfolding inBlock
+  past-block i e =
+      cases (ltb i (word t p blockWord))
+      (λ a.
+      let d = h .rep .2 i (ltb-true i (word t p blockWord) a) in
+      let f : word t p firstWord ≡ firstOf ks = h .rep .0 3 (omega arith) in
+      let u : Spot = spotAt (position i) ks in
+      let l : num u < n = bounded n (num u) u (child-good n p (position i) ks (h .good .2) (d .0) .0) (self u) in
+      let l′ : word t p firstWord + i < n = omega (arith, d .1) in
+      absurd (true≢false (rw (a, lt-ltb (word t p firstWord + i) n l′) at e)))
+      (λ a. ltb-false i (word t p blockWord) a)
+
+  child-sought : (x : Flat.Step) (s : Step) → Stands text x s → Sought text t s ks (childAt text p x n t)
   unfolding childAt if_then_else_
-  child-is S.Element = refl
-  child-is S.Key = refl
-  child-is S.Value = refl
-  child-is (S.Field name) = refl
-  child-is (S.Position i) = cases (inBlock p i n t) (λ e. rw e (in-block i e)) (λ e. rw e refl)
-  child-is (S.Variant number name) = refl
+  child-sought S.Element s st = sought text t S.Element s st n p b k m ks h
+  child-sought S.Key s st = sought text t S.Key s st n p b k m ks h
+  child-sought S.Value s st = sought text t S.Value s st n p b k m ks h
+  child-sought (S.Field name) s st = sought text t (S.Field name) s st n p b k m ks h
+  child-sought (S.Position i) s st =
+      let c : 4 + 2 * i ≡ stepCodeOf s = st .code in
+      cases (inBlock p i n t)
+      (λ e. rw (e, in-block i e) (sought text t (S.Position i) s st n p b k m ks h))
+      (λ e. let l : word t p blockWord ≤ i = past-block i e in rw e (numbered-sought text t (S.Position i) s st n p b k m ks h (rw (← c) (omega arith), λ _. rw (← c) (omega arith))))
+  child-sought (S.Variant number name) s st =
+      let c : 5 + 2 * number ≡ stepCodeOf s = st .code in
+      numbered-sought text t (S.Variant number name) s st n p b k m ks h (rw (← c) (omega arith), λ z. absurd (let y : (5 + 2 * number) % 2 ≡ 0 = rw (← c) at z in omega arith))
 
 pub ensure-is : (text t : List ℕ) (n p : ℕ) (x : Flat.Step) (s : Step) (at : ℕ) (b : Bool) (k m : ℕ) (ks : Spots) → Stands text x s → Fits text t n (spot p b k m ks)
     → Ensures text s p b k m ks t n at (makeS at s n ks) (ensured text p x n t)
 unfolding ensured
-ensure-is text t n p x s at b k m ks st h =
-    rw (child-is text t n p b k m ks h x) (ensure-by text t n p x s at b k m ks st h (findIn text p (codeOf x) (nameOf x) t) (sought text t x s st n p b k m ks h))
+ensure-is text t n p x s at b k m ks st h = ensure-by text t n p x s at b k m ks st h (childAt text p x n t) (child-sought text t n p b k m ks h x s st)
 
 -- ---- the child's cell is touched
 -- the mark and the count of the samples that held it, in the parent's sample N
@@ -117,12 +127,12 @@ touch-row t c N x p r nm h m l w =
     go true e = subst (λ (y : ℕ). Row t c nextWord (cellWords x p r nm h y)) (eqb-true m N e) w
     go false e = row-set (withWord t c heldWord (onward h)) c 8 5 N (cellWords x p r nm (onward h) m) (rw size-with (omega arith)) (omega arith) (row-set t c 8 4 (onward h) (cellWords x p r nm h m) (omega arith) (omega arith) w)
 
-touch-other : (t : List ℕ) (c N q f : ℕ) → f < 16 → (q ≡ c → f < 12) → word (touch c N t) q f ≡ word t q f
+touch-other : (t : List ℕ) (c N q f : ℕ) → f < 16 → (q ≡ c → (f ≡ heldWord → ⊥) × (f ≡ markWord → ⊥)) → word (touch c N t) q f ≡ word t q f
 unfolding touch if_then_else_
 touch-other t c N q f l d =
     cases (eqb (word t c markWord) N)
     (λ e. rw e refl)
-    (λ e. rw e (word-other (withWord t c heldWord (onward (word t c heldWord))) c markWord N q f (λ a. let y : q ≡ c = omega arith in let z = d y in omega arith) ∙ word-other t c heldWord (onward (word t c heldWord)) q f (λ a. let y : q ≡ c = omega arith in let z = d y in omega arith)))
+    (λ e. rw e (word-other (withWord t c heldWord (onward (word t c heldWord))) c markWord N q f (λ a. let y : q ≡ c = omega arith in d y .1 (omega arith)) ∙ word-other t c heldWord (onward (word t c heldWord)) q f (λ a. let y : q ≡ c = omega arith in d y .0 (omega arith))))
 
 touch-size : (t : List ℕ) (c N : ℕ) → length (touch c N t) ≡ length t
 unfolding touch if_then_else_
@@ -181,7 +191,7 @@ module _ (s : Step) (N : ℕ) (v : Spot) where
         rw d (
           rw w′ (cell′ (firstOf ks) q h m (r .0)),
           rv,
-          frameIn text t t′ p ks (r .2) (λ a f l i. o′ a f (omega arith) (or-right (within a u) (withinIn a ks) i) (un-true (within a u) (λ j. not-both (withinIn a ks) i (g .2 a j)))),
+          frameIn text t t′ p ks (r .2) (λ a f l i. o′ a f (l .0) (or-right (within a u) (withinIn a ks) i) (un-true (within a u) (λ j. not-both (withinIn a ks) i (g .2 a j)))),
         ))
         (λ d.
         let e′ : has s (stepsS ks) ≡ true = rw d at e in
@@ -191,8 +201,8 @@ module _ (s : Step) (N : ℕ) (v : Spot) where
         let off : (a : ℕ) → within a u ≡ true → within a (spotAt s ks) ≡ false = λ a j. un-true (within a (spotAt s ks)) (λ i. not-both (withinIn a ks) (found a s ks e′ i) (g .2 a j)) in
         let in-u : (a f : ℕ) → f < 16 → within a u ≡ true → word t′ a f ≡ word t a f = λ a f l j. o′ a f l (or-left (within a u) (withinIn a ks) j) (off a j) in
         rw d (
-          subst (λ (y : ℕ). Cell text t′ (num u) y p q h m) (sym (put-first ks e′ w′)) (same-cell (r .0) (λ f l. in-u (num u) f (omega arith) (self u))),
-          frame text t t′ u (r .1) (λ f l. in-u (num u) f (omega arith) (self u)) (λ a f l i. in-u a f (omega arith) (has-below a u i)),
+          subst (λ (y : ℕ). Cell text t′ (num u) y p q h m) (sym (put-first ks e′ w′)) (same-cell (r .0) (λ f l. in-u (num u) f (l .0) (self u))),
+          frame text t t′ u (r .1) (λ f l. in-u (num u) f (omega arith) (self u)) (λ a f l i. in-u a f (l .0) (has-below a u i)),
           put-rep (num u) ks (g .3) (r .2) e′ w′ cell′ (λ a f l i j. o′ a f l (or-right (within a u) (withinIn a ks) i) j),
         ))
 
@@ -211,12 +221,16 @@ module _ (text t : List ℕ) (n p : ℕ) (s : Step) (b : Bool) (k m : ℕ) (ks :
       let i : num u < n = child-below in
       record {
         rep = frame text t (touch (num u) m t) u (child-rep text t p s ks (h .rep .1) e)
-            (λ f l. touch-other t (num u) m (num u) f (omega arith) (λ _. omega arith))
-            (λ q f l a. touch-other t (num u) m q f (omega arith) (λ d. absurd (not-both (withinIn q (belowS u)) a (rw d (not-below n u g)))));
+            (λ f l. touch-other t (num u) m (num u) f (omega arith) (λ _. ((λ e. omega arith), (λ e. omega arith))))
+            (λ q f l a. touch-other t (num u) m q f (l .0) (λ d. absurd (not-both (withinIn q (belowS u)) a (rw d (not-below n u g)))));
         good = g;
         room = rw touch-size (h .room);
         most = h .most;
         zeros = λ q f l y j. touch-other t (num u) m q f j (λ d. absurd (omega arith)) ∙ h .zeros q f l y j;
+        index = indexes-frame n t (touch (num u) m t) u g
+            (λ f l. touch-other t (num u) m (num u) f (omega arith) (λ _. ((λ e. omega arith), (λ e. omega arith))))
+            (λ q f l a. touch-other t (num u) m q f l (λ d. absurd (not-both (withinIn q (belowS u)) a (rw d (not-below n u g)))))
+            (indexes-at t s ks (h .index .1) e);
       }
 
   pub lift : (t′ : List ℕ) (n′ : ℕ) (v : Spot) → After text (touch (num (spotAt s ks)) m t) n (spotAt s ks) t′ n′ v → After text t n (spot p b k m ks) t′ n′ (spot p b k m (putS s m v ks))
@@ -235,6 +249,8 @@ module _ (text t : List ℕ) (n p : ℕ) (s : Step) (b : Bool) (k m : ℕ) (ks :
       let out : (q f : ℕ) → q < n → f < 16 → within q u ≡ false → word t′ q f ≡ word t q f
       = λ q f l i d. a .keeps q f l i (off-below q d) (λ x. absurd (off-num q d x)) ∙ touch-other t (num u) m q f i (λ x. absurd (off-num q d x)) in
       let p-out : within p u ≡ false = in-child p (h .good .1) in
+      let links : (q f : ℕ) → numIn q ks ≡ true → 7 ≤ f → f < 16 → (f ≡ heldWord → ⊥) × (f ≡ markWord → ⊥) → word t′ q f ≡ word t q f
+      = λ q f i l j d. a .keeps q f (boundedIn n p q ks (h .good .2) (in-tree q ks i)) j (child-apart n p q s ks (h .good .2) e i) (λ _. l) ∙ touch-other t (num u) m q f j (λ _. d) in
       record {
         fits = record {
           rep = (
@@ -253,6 +269,19 @@ module _ (text t : List ℕ) (n p : ℕ) (s : Step) (b : Bool) (k m : ℕ) (ks :
           room = a .fits .room;
           most = a .fits .most;
           zeros = a .fits .zeros;
+          index = (
+            index-kept t t′ p ks (putS s m v ks)
+                (record {
+                  root = out p rootWord pn (omega arith) p-out;
+                  block = out p blockWord pn (omega arith) p-out;
+                  left = λ q i. links q leftWord i (omega arith) (omega arith) ((λ d. omega arith), (λ d. omega arith));
+                  right = λ q i. links q rightWord i (omega arith) (omega arith) ((λ d. omega arith), (λ d. omega arith));
+                  step = λ q i. links q stepWord i (omega arith) (omega arith) ((λ d. omega arith), (λ d. omega arith));
+                })
+                (record { steps = put-steps s m v ks; nums = λ r. put-at s m v r ks w; all = λ q. put-nums s m v q ks w })
+                (h .index .0),
+            indexes-put s m v n p t t′ ks (h .good .2) e (a .fits .index) (λ q f l i d. out q f (boundedIn n p q ks (h .good .2) i) l d) (h .index .1),
+          );
         };
         grown = wider;
         same = refl;

@@ -1,7 +1,7 @@
 -- The words of the table say the numbered tree; what changes one place, and what is kept.
 use mathlib.Core.Path.{_≡_, refl, sym, subst, _∙_}
 use mathlib.Core.List.{List, [], _∷_}
-use mathlib.Core.Bool.{Bool, true, false, _||_}
+use mathlib.Core.Bool.{Bool, true, false}
 use Prim.Native.Nat.{ℕ, _+_, _*_, _<_, _≤_}
 use native.Mathlib.Omega.{arith}
 use lib.ListN.{length, getD, set, length-set}
@@ -16,10 +16,11 @@ use Rattle.model.specs.Kinds.{Step, position}
 use Rattle.model.specs.Answer.{tableWords}
 use Rattle.model.specs.Tracing.{one, placeLimit, has}
 use Rattle.shapes.specs.Steps.{Inside, unpackedName}
-use Rattle.places.specs.Layout.{kindWord, nullWord, samplesWord, blockWord, nextWord, tagWord}
+use Rattle.places.specs.Layout.{kindWord, nullWord, samplesWord, blockWord, leftWord, nextWord, rightWord}
 use Rattle.refine.specs.Spots.{Spot, spot, Spots, no-spots, child, num, belowS, stepsS, spotAt}
 use Rattle.refine.specs.Steps.{stepCodeOf, nameIn}
-use Rattle.refine.specs.Numbers.{firstOf, lastFrom, within, withinIn, Good, or-right, not-both, boundedIn, self}
+use Rattle.refine.specs.Numbers.{firstOf, lastFrom, within, withinIn, Good, or-left, or-right, not-both, has-num, has-below}
+use Rattle.refine.specs.Numbered.{Indexes, alike, index-kept, kept-all, indexes-frame-in}
 
 -- ---- one word
 pub size-with : (t : List ℕ) (p f v : ℕ) → length (withWord t p f v) ≡ length t
@@ -60,9 +61,13 @@ abbrev mutual
   RepIn text t p no-spots = Unit {0}
   RepIn text t p (child s h m u ks) = Cell text t (num u) (firstOf ks) p s h m × Rep text t u × RepIn text t p ks
 
--- a cell whose words are kept. The tag is none of the tree's: it is told by the name.
-pub same-cell : {text t t′ : List ℕ} {q x p : ℕ} {s : Step} {h m : ℕ} → Cell text t q x p s h m → ((f : ℕ) → f < tagWord → word t′ q f ≡ word t q f) → Cell text t′ q x p s h m
-same-cell c w = record { name = c .name; row = λ f l. w (8 + f) (omega arith) ∙ c .row f l; inside = c .inside; says = c .says }
+-- the words that say the tree stand below the right link, and the left one is none of them
+abbrev pub Said : ℕ → Type 0
+Said f = (f < 16) × (f < rightWord) × (f ≡ leftWord → ⊥)
+
+-- a cell whose words are kept
+pub same-cell : {text t t′ : List ℕ} {q x p : ℕ} {s : Step} {h m : ℕ} → Cell text t q x p s h m → ((f : ℕ) → Said f → word t′ q f ≡ word t q f) → Cell text t′ q x p s h m
+same-cell c w = record { name = c .name; row = λ f l. w (8 + f) (omega arith, omega arith, λ e. omega arith) ∙ c .row f l; inside = c .inside; says = c .says }
 
 pub same-block : (t t′ : List ℕ) (p : ℕ) (ks : Spots) → word t′ p blockWord ≡ word t p blockWord → Block (word t p blockWord) ks → Block (word t′ p blockWord) ks
 same-block t t′ p ks e r = subst (λ (b : ℕ). Block b ks) (sym e) r
@@ -75,27 +80,18 @@ row-set t p base f v xs l i r g j =
     (λ e. let d : g ≡ f → ⊥ = eqb-false g f e in
     word-other t p (base + f) v p (base + g) (λ x. d (omega arith)) ∙ r g (rw (length-set xs f v) at j) ∙ sym (getD-set-other xs f g v 0 d))
 
-pub or-left : (a b : Bool) → a ≡ true → a || b ≡ true
-or-left a b e = rw e refl
-
-pub has-num : (u : Spot) (ks : Spots) → within (num u) u || withinIn (num u) ks ≡ true
-has-num u ks = or-left (within (num u) u) (withinIn (num u) ks) (self u)
-
-pub has-below : (q : ℕ) (u : Spot) → withinIn q (belowS u) ≡ true → within q u ≡ true
-has-below q (spot p b k m ks) e = or-right (eqb q p) (withinIn q ks) e
-
 module _ (text : List ℕ) where
   -- words that are kept keep the tree
   mutual
     pub frame : (t t′ : List ℕ) (u : Spot) → Rep text t u → ((f : ℕ) → f < 7 → word t′ (num u) f ≡ word t (num u) f)
-        → ((q f : ℕ) → f < tagWord → withinIn q (belowS u) ≡ true → word t′ q f ≡ word t q f) → Rep text t′ u
+        → ((q f : ℕ) → Said f → withinIn q (belowS u) ≡ true → word t′ q f ≡ word t q f) → Rep text t′ u
     frame t t′ (spot p b k m ks) r o w = ((λ f l. o (0 + f) (omega arith) ∙ r .0 f l), frameIn t t′ p ks (r .1) w, same-block t t′ p ks (o blockWord (omega arith)) (r .2))
 
-    pub frameIn : (t t′ : List ℕ) (p : ℕ) (ks : Spots) → RepIn text t p ks → ((q f : ℕ) → f < tagWord → withinIn q ks ≡ true → word t′ q f ≡ word t q f) → RepIn text t′ p ks
+    pub frameIn : (t t′ : List ℕ) (p : ℕ) (ks : Spots) → RepIn text t p ks → ((q f : ℕ) → Said f → withinIn q ks ≡ true → word t′ q f ≡ word t q f) → RepIn text t′ p ks
     frameIn t t′ p no-spots r w = tt
     frameIn t t′ p (child s h m u ks) r w = (
       same-cell (r .0) (λ f l. w (num u) f l (has-num u ks)),
-      frame t t′ u (r .1) (λ f l. w (num u) f (omega arith) (has-num u ks)) (λ q f l a. w q f l (or-left (within q u) (withinIn q ks) (has-below q u a))),
+      frame t t′ u (r .1) (λ f l. w (num u) f (omega arith, omega arith, λ e. omega arith) (has-num u ks)) (λ q f l a. w q f l (or-left (within q u) (withinIn q ks) (has-below q u a))),
       frameIn t t′ p ks (r .2) (λ q f l a. w q f l (or-right (within q u) (withinIn q ks) a)),
     )
 
@@ -106,6 +102,7 @@ pub record Fits (text t : List ℕ) (n : ℕ) (u : Spot) : Type 0 where
   pub room : tableWords ≤ length t
   pub most : n ≤ placeLimit
   pub zeros : (q f : ℕ) → n ≤ q → q < placeLimit → f < 16 → word t q f ≡ 0
+  pub index : Indexes t u
 
 pub record After (text t : List ℕ) (n : ℕ) (u : Spot) (t′ : List ℕ) (n′ : ℕ) (u′ : Spot) : Type 0 where
   pub fits : Fits text t′ n′ u′
@@ -128,62 +125,40 @@ module _ (text : List ℕ) where
   }
 
   -- ---- a word of the place's own
-  pub own-with : (t t′ : List ℕ) (n p : ℕ) (b b′ : Bool) (k k′ m m′ : ℕ) (ks : Spots) → Fits text t n (spot p b k m ks) → tableWords ≤ length t′
-      → Row t′ p kindWord (ownWords b′ k′ m′ ks) → Block (word t′ p blockWord) ks → ((q f : ℕ) → f < 16 → (q ≡ p → 7 ≤ f) → word t′ q f ≡ word t q f) → After text t n (spot p b k m ks) t′ n (spot p b′ k′ m′ ks)
-  own-with t t′ n p b b′ k k′ m m′ ks h z o β w = record {
-    fits = record {
-      rep = (o, frameIn text t t′ p ks (h .rep .1) (λ q f l a. w q f (omega arith) (λ e. absurd (not-both (withinIn q ks) a (rw e (h .good .1))))), β);
-      good = h .good;
-      room = z;
-      most = h .most;
-      zeros = λ q f l y i. w q f i (λ e. let g : p < n = h .good .0 in absurd (omega arith)) ∙ h .zeros q f l y i;
-    };
-    grown = omega arith;
-    same = refl;
-    keeps = λ q f l i a y. w q f i y;
-    kept = λ q l. refl;
-  }
+  own-with : (t t′ : List ℕ) (n p : ℕ) (b b′ : Bool) (k k′ m m′ : ℕ) (ks : Spots) → Fits text t n (spot p b k m ks) → tableWords ≤ length t′
+      → Row t′ p kindWord (ownWords b′ k′ m′ ks) → ((q f : ℕ) → f < 16 → (q ≡ p → 5 ≤ f) → word t′ q f ≡ word t q f) → After text t n (spot p b k m ks) t′ n (spot p b′ k′ m′ ks)
+  own-with t t′ n p b b′ k k′ m m′ ks h z o w =
+      let below : (q f : ℕ) → f < 16 → withinIn q ks ≡ true → word t′ q f ≡ word t q f = λ q f l a. w q f l (λ e. absurd (not-both (withinIn q ks) a (rw e (h .good .1)))) in
+      record {
+        fits = record {
+          rep = (o, frameIn text t t′ p ks (h .rep .1) (λ q f l a. below q f (l .0) a), same-block t t′ p ks (w p blockWord (omega arith) (λ _. omega arith)) (h .rep .2));
+          good = h .good;
+          room = z;
+          most = h .most;
+          zeros = λ q f l y i. w q f i (λ e. let g : p < n = h .good .0 in absurd (omega arith)) ∙ h .zeros q f l y i;
+          index = (
+            index-kept t t′ p ks ks (kept-all t t′ p ks (λ f l i. w p f (omega arith) (λ _. l)) below) (alike ks) (h .index .0),
+            indexes-frame-in n p t t′ ks (h .good .2) (λ q f l a _. below q f l a) (h .index .1),
+          );
+        };
+        grown = omega arith;
+        same = refl;
+        keeps = λ q f l i a y. w q f i (λ e. let x = y e in omega arith);
+        kept = λ q l. refl;
+      }
 
   module _ (t : List ℕ) (n p : ℕ) (b : Bool) (k m : ℕ) (ks : Spots) (h : Fits text t n (spot p b k m ks)) where
     pub in-row : (f : ℕ) → f < 16 → p * 16 + f < length t
     in-row f l = omega (arith, h .good .0, h .room, h .most)
 
-    others : (f v : ℕ) → f < 7 → (q g : ℕ) → g < 16 → (q ≡ p → 7 ≤ g) → word (withWord t p f v) q g ≡ word t q g
+    others : (f v : ℕ) → f < 5 → (q g : ℕ) → g < 16 → (q ≡ p → 5 ≤ g) → word (withWord t p f v) q g ≡ word t q g
     others f v i q g j y = word-other t p f v q g (λ e. let d : q ≡ p = omega arith in let x = y d in omega arith)
 
-    block-kept : (f v : ℕ) → f < 5 → Block (word (withWord t p f v) p blockWord) ks
-    block-kept f v i = same-block t (withWord t p f v) p ks (word-other t p f v p blockWord (λ e. omega arith)) (h .rep .2)
-
     pub set-kind : (j : ℕ) → After text t n (spot p b k m ks) (withWord t p kindWord j) n (spot p b j m ks)
-    set-kind j = own-with t (withWord t p kindWord j) n p b b k j m m ks h (rw size-with (h .room)) (row-set t p 0 0 j (ownWords b k m ks) (in-row 0 (omega arith)) (omega arith) (h .rep .0)) (block-kept 0 j (omega arith)) (others 0 j (omega arith))
+    set-kind j = own-with t (withWord t p kindWord j) n p b b k j m m ks h (rw size-with (h .room)) (row-set t p 0 0 j (ownWords b k m ks) (in-row 0 (omega arith)) (omega arith) (h .rep .0)) (others 0 j (omega arith))
 
     pub set-null : After text t n (spot p b k m ks) (withWord t p nullWord 1) n (spot p true k m ks)
-    set-null = own-with t (withWord t p nullWord 1) n p b true k k m m ks h (rw size-with (h .room)) (row-set t p 0 1 1 (ownWords b k m ks) (in-row 1 (omega arith)) (omega arith) (h .rep .0)) (block-kept 1 1 (omega arith)) (others 1 1 (omega arith))
+    set-null = own-with t (withWord t p nullWord 1) n p b true k k m m ks h (rw size-with (h .room)) (row-set t p 0 1 1 (ownWords b k m ks) (in-row 1 (omega arith)) (omega arith) (h .rep .0)) (others 1 1 (omega arith))
 
     pub set-samples : (v : ℕ) → After text t n (spot p b k m ks) (withWord t p samplesWord v) n (spot p b k v ks)
-    set-samples v = own-with t (withWord t p samplesWord v) n p b b k k m v ks h (rw size-with (h .room)) (row-set t p 0 2 v (ownWords b k m ks) (in-row 2 (omega arith)) (omega arith) (h .rep .0)) (block-kept 2 v (omega arith)) (others 2 v (omega arith))
-
-    -- the block
-    pub set-block : (v : ℕ) → Block v ks → After text t n (spot p b k m ks) (withWord t p blockWord v) n (spot p b k m ks)
-    set-block v β =
-        own-with t (withWord t p blockWord v) n p b b k k m m ks h (rw size-with (h .room))
-        (λ f l. word-other t p blockWord v p (0 + f) (λ e. omega arith) ∙ h .rep .0 f l)
-        (subst (λ (x : ℕ). Block x ks) (sym (word-same t p blockWord v (in-row blockWord (omega arith)))) β)
-        (others blockWord v (omega arith))
-
-    -- the tag of a child
-    pub set-tag : (c v : ℕ) → withinIn c ks ≡ true → After text t n (spot p b k m ks) (withWord t c tagWord v) n (spot p b k m ks)
-    set-tag c v i =
-        let l : c < n = boundedIn n p c ks (h .good .2) i in record {
-          fits = record {
-            rep = frame text t (withWord t c tagWord v) (spot p b k m ks) (h .rep) (λ f j. word-other t c tagWord v p f (λ e. omega arith)) (λ q f j a. word-other t c tagWord v q f (λ e. omega arith));
-            good = h .good;
-            room = rw size-with (h .room);
-            most = h .most;
-            zeros = λ q f y z j. word-other t c tagWord v q f (λ e. omega arith) ∙ h .zeros q f y z j;
-          };
-          grown = omega arith;
-          same = refl;
-          keeps = λ q f y j a z. word-other t c tagWord v q f (λ e. let d : c ≡ q = omega arith in not-both (withinIn c ks) i (rw d a));
-          kept = λ q y. refl;
-        }
+    set-samples v = own-with t (withWord t p samplesWord v) n p b b k k m v ks h (rw size-with (h .room)) (row-set t p 0 2 v (ownWords b k m ks) (in-row 2 (omega arith)) (omega arith) (h .rep .0)) (others 2 v (omega arith))

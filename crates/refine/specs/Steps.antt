@@ -113,7 +113,7 @@ number-code value e = absurd (false≢true e)
 number-code (variant k name) e = refl
 
 -- ---- near steps
-near-codes : (s r : Step) → near s r ≡ true → stepCodeOf s ≡ stepCodeOf r
+pub near-codes : (s r : Step) → near s r ≡ true → stepCodeOf s ≡ stepCodeOf r
 unfolding near
 near-codes s r e = both (eqb (stepCodeOf s) (stepCodeOf r)) (eqName (nameSought s) (nameSought r)) e λ p q. eqb-true (stepCodeOf s) (stepCodeOf r) p
 
@@ -131,6 +131,10 @@ near-same s r e = rw (same-true s r e) (near-refl r)
 near-by : (s r : Step) → stepCodeOf s ≡ stepCodeOf r → nameSought s ≡ nameSought r → near s r ≡ true
 unfolding near
 near-by s r e f = rw (e, f) (near-refl r)
+
+-- numbered steps are near by their codes alone
+pub near-number : (s r : Step) → stepCodeOf s ≡ stepCodeOf r → fieldCode < stepCodeOf s → near s r ≡ true
+near-number s r e l = near-by s r e (sought-other s (λ d. omega arith) ∙ sym (sought-other r (λ d. omega arith)))
 
 pub near-sym : (s r : Step) → near s r ≡ near r s
 near-sym s r = same-test (near s r) (near r s) (λ e. near-by r s (sym (near-codes s r e)) (sym (near-names s r e))) (λ e. near-by s r (sym (near-codes r s e)) (sym (near-names r s e)))

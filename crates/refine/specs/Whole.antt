@@ -1,13 +1,14 @@
 -- The flat run on the words is the walk over the values of the batch, on the numbered tree: a whole value, and the records.
-use mathlib.Core.Path.{_≡_, refl, sym, ap, _∙_}
+use mathlib.Core.Path.{_≡_, refl, sym, ap, subst, _∙_}
 use mathlib.Core.List.{List, [], _∷_}
 use mathlib.Core.Option.{Option, none, some}
-use mathlib.Core.Bool.{Bool, or-true, or-false, true, false, not, _||_, _&&_}
+use mathlib.Core.Bool.{Bool, or-true, or-false, true, false, not, _||_, _&&_, false≢true}
 use Prim.Native.Nat.{_-_, ℕ, zero, suc, _+_, _*_, _<_, _≤_}
 use native.Mathlib.Nat.{le-refl}
 use native.Mathlib.Numerals.{add-one}
 use native.Mathlib.Omega.{arith}
 use lib.ListN.{length, getD, replicate, drop, length-replicate, length-append, getD-replicate, List·getD-append}
+use lib.Seq.{set-getD, set-set, set-comm}
 use lib.Dec.{eqb, ltb, leb}
 use borrow.Author.Tests.{eqb-true, eqb-false, eq-eqb, ne-eqb, ltb-true, ltb-false, leb-true, leb-false, le-leb, lt-leb, le-ltb}
 use Rattle.logic.specs.Test.{if_then_else_, cases, same-test}
@@ -19,6 +20,7 @@ use Rattle.refusal.specs.Number.{numberOf, noJoint}
 use Rattle.text.specs.declared.Name.{Name}
 use Rattle.text.specs.Name.{bytesOf}
 use Rattle.words.specs.Word.{word, withWord, cleared}
+use Rattle.words.specs.Laws.{word-same, word-other}
 use Rattle.coerce.specs.Joint.{joint}
 use Rattle.commands.specs.declared.Due.the-variants as D
 use Rattle.commands.specs.Commands.{readCommand}
@@ -32,7 +34,7 @@ use Rattle.equality.specs.ReadCommand.{reads-on, reads-inside}
 use Rattle.equality.specs.Reads.{read-cases, value-command, value-refused}
 use Rattle.shapes.specs.declared.Step as Flat
 use Rattle.shapes.specs.declared.Step.the-variants as S
-use Rattle.shapes.specs.Steps.{codeOf, noName}
+use Rattle.shapes.specs.Steps.{codeOf, noName, packedName}
 use Rattle.shapes.specs.declared.Contents.{Contents}
 use Rattle.shapes.specs.declared.Contents.the-variants as N
 use Rattle.shapes.specs.declared.Shape as FlatShape
@@ -40,16 +42,18 @@ use Rattle.places.specs.declared.Met.{Met}
 use Rattle.places.specs.declared.Met.the-variants as M
 use Rattle.places.specs.declared.Made.the-variants as L
 use Rattle.places.specs.Flat as Places
-use Rattle.places.specs.Flat.{ofJoint, meeting, appended, Ensuring, Making, making, ofEnsuring, madeOne, thenMade, madeAll, appendedFrom, positionsMade, onward, sampled}
+use Rattle.places.specs.Flat.{ofJoint, meeting, linked, described, appended, Ensuring, Making, making, ofEnsuring, madeOne, thenMade, madeAll, appendedFrom, positionsMade, onward, sampled}
 use Rattle.samples.specs.declared.Traced.the-variants as T
 use Rattle.samples.specs.Flat as Samples
 use Rattle.samples.specs.Flat.{someByte, newtypeByte, chain, pastTurn, pastMarks, Out, out, onMet, onMade, stored, observed, Readers, State, state, afterPart, partsFrom, partsBy, opened, containerBy, variantBy, atShape, atRead, afterChain, valueBy, none-left, readers, levelLimit, recordTurn, recordStop, recordsAt, fromSamples}
-use Rattle.places.specs.Layout.{kindWord, nullWord, samplesWord, firstWord, blockWord}
+use Rattle.places.specs.Layout.{kindWord, nullWord, samplesWord, firstWord, lastWord, rootWord, blockWord, nextWord, parentWord, stepWord, nameWord}
 use Rattle.refine.specs.Spots.{Spot, spot, Spots, no-spots, child, num, stepsS, newSpot, spotAt, addS, makeS, makeAllS, walk, walkParts, walkAll}
 use Rattle.refine.specs.Steps.{near, Stands}
 use Rattle.refine.specs.Numbers.{firstOf, nearIn, near-add, add-among, add-found}
-use Rattle.refine.specs.Rep.{Block, no-block, Fits, After, stays, and-then, set-kind, set-null, set-samples, set-block}
-use Rattle.refine.specs.Child.{far-has, far-clashes, still-has, still-at, still-first, zero-row, append-after}
+use Rattle.refine.specs.Rep.{size-with, Block, no-block, Fits, After, stays, and-then, in-row, set-kind, set-null, set-samples}
+use Rattle.refine.specs.Child.{far-has, far-clashes, still-has, still-at, still-first, zero-row, append-grown}
+use Rattle.refine.specs.Numbered.{index-none}
+use Rattle.refine.specs.Entered.{block-after}
 use Rattle.refine.specs.Part.{Ensures, there, no-place, ensure-is}
 use Rattle.refine.specs.Commands.{Bytes, choices, command-name, element-stands, key-stands, value-stands, position-stands, shapeIn, Shapes, leaves, opens, chooses, nothing, shape-says, byte-is, starts, some-read, newtype-read}
 use Rattle.refine.specs.Sim.{Agrees, went, balked, agrees-after, wrap, readIn, Fuel, low, Reads, after-ensure, parts-sim}
@@ -153,41 +157,90 @@ one-more c i n ks a = record {
 in-a-block : (c positions n : ℕ) (ks : Spots) → Appended c positions n ks → Block positions ks
 in-a-block c positions n ks a i l = let d = a .there i l in (d .0, d .1 ∙ ap (λ (x : ℕ). x + i) (sym (a .first (λ z. omega arith))))
 
-module _ (text : List ℕ) (p : ℕ) (b : Bool) (k m at c last : ℕ) where
-  -- both append the positions up to the last, or both are refused (11)
-  data Appends (t : List ℕ) (n : ℕ) (ks : Spots) : Result (Counted Spots) → Making → Type 0 where
-    appends : {n′ : ℕ} {ks′ : Spots} {t′ : List ℕ} → After text t n (spot p b k m ks) t′ n′ (spot p b k m ks′) → Appended c last n′ ks′ → Appends t n ks (counted n′ ks′) (making (L.Places n′) t′)
-    no-room : {t′ : List ℕ} → Appends t n ks (refused (numberOf F.TooManyPlaces) at) (making (L.Refused F.TooManyPlaces) t′)
+-- the count of the block may as well be stored before a child is appended
+module _ (p v : ℕ) where
+  swap : (t : List ℕ) (q f w : ℕ) → f < 16 → (f ≡ blockWord → ⊥) → withWord (withWord t p blockWord v) q f w ≡ withWord (withWord t q f w) p blockWord v
+  swap t q f w l d = set-comm t (p * 16 + blockWord) (q * 16 + f) v w (λ e. d (omega arith))
 
-  appends-after : {t t₁ : List ℕ} {n n₁ : ℕ} {ks ks₁ : Spots} {x : Result (Counted Spots)} {y : Making} → After text t n (spot p b k m ks) t₁ n₁ (spot p b k m ks₁) → Appends t₁ n₁ ks₁ x y → Appends t n ks x y
-  appends-after {t = t} {t₁ = t₁} {n = n} {n₁ = n₁} {ks = ks} {ks₁ = ks₁} a (appends {n′ = n′} {ks′ = ks′} {t′ = t′} d e) = appends (and-then text t t₁ t′ n n₁ n′ (spot p b k m ks) (spot p b k m ks₁) (spot p b k m ks′) a d) e
+  linked-block : (n : ℕ) (t : List ℕ) → linked p n (withWord t p blockWord v) ≡ withWord (linked p n t) p blockWord v
+  unfolding linked if_then_else_
+  linked-block n t =
+      let f : word (withWord t p blockWord v) p firstWord ≡ word t p firstWord = word-other t p blockWord v p firstWord (λ e. omega arith) in
+      let l : word (withWord t p blockWord v) p lastWord ≡ word t p lastWord = word-other t p blockWord v p lastWord (λ e. omega arith) in
+      rw (f, l)
+      (cases (eqb (word t p firstWord) 0)
+      (λ e. rw e (swap t p firstWord n (omega arith) (λ d. omega arith)))
+      (λ e. rw e (swap t (word t p lastWord) nextWord n (omega arith) (λ d. omega arith))))
+
+  appended-block : (code n : ℕ) (name : Name) (t : List ℕ) → appended p code name n (withWord t p blockWord v) ≡ withWord (appended p code name n t) p blockWord v
+  unfolding appended described
+  appended-block code n name t =
+      let t₀ : List ℕ = linked p n t in
+      let t₁ : List ℕ = withWord t₀ p lastWord n in
+      let t₂ : List ℕ = withWord t₁ n parentWord p in
+      let t₃ : List ℕ = withWord t₂ n stepWord code in
+      rw (
+        linked-block n t,
+        swap t₀ p lastWord n (omega arith) (λ d. omega arith),
+        swap t₁ n parentWord p (omega arith) (λ d. omega arith),
+        swap t₂ n stepWord code (omega arith) (λ d. omega arith),
+        swap t₃ n nameWord (packedName name) (omega arith) (λ d. omega arith),
+      ) refl
+
+module _ (text : List ℕ) (p : ℕ) (b : Bool) (k m at c last : ℕ) where
+  -- both append the positions up to the last, or both are refused (11); the block is stored at the end, and is told here as if it were at each of them
+  data Appends (i : ℕ) (t : List ℕ) (n : ℕ) (ks : Spots) : Result (Counted Spots) → Making → Type 0 where
+    appends : {n′ : ℕ} {ks′ : Spots} {t′ : List ℕ} → After text (withWord t p blockWord i) n (spot p b k m ks) (withWord t′ p blockWord last) n′ (spot p b k m ks′) → Appends i t n ks (counted n′ ks′) (making (L.Places n′) t′)
+    no-room : {t′ : List ℕ} → Appends i t n ks (refused (numberOf F.TooManyPlaces) at) (making (L.Refused F.TooManyPlaces) t′)
+
+  appends-after : {i i₁ : ℕ} {t t₁ : List ℕ} {n n₁ : ℕ} {ks ks₁ : Spots} {x : Result (Counted Spots)} {y : Making} → After text (withWord t p blockWord i) n (spot p b k m ks) (withWord t₁ p blockWord i₁) n₁ (spot p b k m ks₁) → Appends i₁ t₁ n₁ ks₁ x y → Appends i t n ks x y
+  appends-after {i = i} {i₁ = i₁} {t = t} {t₁ = t₁} {n = n} {n₁ = n₁} {ks = ks} {ks₁ = ks₁} a (appends {n′ = n′} {ks′ = ks′} {t′ = t′} d) =
+      appends (and-then text (withWord t p blockWord i) (withWord t₁ p blockWord i₁) (withWord t′ p blockWord last) n n₁ n′ (spot p b k m ks) (spot p b k m ks₁) (spot p b k m ks′) a d)
   appends-after a no-room = no-room
 
-  append-all : (left i : ℕ) (t : List ℕ) (n : ℕ) (ks : Spots) → i + left ≡ last → Fits text t n (spot p b k m ks) → Appended c i n ks → Appends t n ks (makeAllS at (positionsFrom i left) n ks) (appendedFrom p i left n t)
+  append-all : (left i : ℕ) (t : List ℕ) (n : ℕ) (ks : Spots) → i + left ≡ last → Fits text (withWord t p blockWord i) n (spot p b k m ks) → Appended c i n ks → Appends i t n ks (makeAllS at (positionsFrom i left) n ks) (appendedFrom p i left n t)
   unfolding makeAllS makeS appendedFrom if_then_else_
-  append-all zero i t n ks e h a = let d : i ≡ last = omega arith in appends (stays text t n (spot p b k m ks) h) (rw d at a)
+  append-all zero i t n ks e h a =
+      let d : i ≡ last = omega arith in
+      let u : Spot = spot p b k m ks in
+      appends (subst (λ (j : ℕ). After text (withWord t p blockWord i) n u (withWord t p blockWord j) n u) d (stays text (withWord t p blockWord i) n u h))
   append-all (suc left) i t n ks e h a =
       let far : nearIn (position i) ks ≡ false = a .free i (le-refl i) in
       rw (far-clashes (position i) ks far, far-has (position i) ks far)
       (cases (ltb n placeLimit)
       (λ d.
       let l : n < placeLimit = ltb-true n placeLimit d in
-      let A = append-after text t n p (S.Position i) (position i) b k m ks (position-stands text i) far h l in
-      rw (d, lt-leb placeLimit n l) (appends-after A (append-all left (suc i) (appended p (codeOf (S.Position i)) noName n t) (n + 1) (addS (position i) n ks) (omega arith) (A .fits) (one-more c i n ks a))))
+      let g : List ℕ = withWord t p blockWord i in
+      let t₁ : List ℕ = appended p (codeOf (S.Position i)) noName n t in
+      let t₂ : List ℕ = appended p (codeOf (S.Position i)) noName n g in
+      let long : p * 16 + blockWord < length t = rw (size-with t p blockWord i) at (in-row text g n p b k m ks h blockWord (omega arith)) in
+      let more = one-more c i n ks a in
+      let G = append-grown text g n p (S.Position i) (position i) b k m ks (position-stands text i) far h l in
+      let B = block-after text g n p b k m ks h (position i) far l t₂ G i refl (word-same t p blockWord i long) (in-a-block c (suc i) (n + 1) (addS (position i) n ks) more) in
+      let same-table : withWord t₂ p blockWord (suc i) ≡ withWord t₁ p blockWord (suc i) = ap (λ (x : List ℕ). withWord x p blockWord (suc i)) (appended-block p i (codeOf (S.Position i)) n noName t) ∙ set-set t₁ (p * 16 + blockWord) i (suc i) in
+      let A : After text g n (spot p b k m ks) (withWord t₁ p blockWord (suc i)) (n + 1) (spot p b k m (addS (position i) n ks)) = subst (λ (x : List ℕ). After text g n (spot p b k m ks) x (n + 1) (spot p b k m (addS (position i) n ks))) same-table B in
+      rw (d, lt-leb placeLimit n l) (appends-after A (append-all left (suc i) t₁ (n + 1) (addS (position i) n ks) (omega arith) (A .fits) more)))
       (λ d. rw (d, le-leb placeLimit n (ltb-false n placeLimit d)) no-room))
 
+-- a place without children has no block
+no-positions : (v : ℕ) → Block v no-spots → v ≡ 0
+unfolding has stepsS
+no-positions zero β = refl
+no-positions (suc v) β = absurd (false≢true (β 0 (omega arith) .0))
+
 module _ (text t : List ℕ) (n p : ℕ) (b : Bool) (k m at : ℕ) where
-  block-all : (positions : ℕ) (ks : Spots) {x : Result (Counted Spots)} {y : Making} → Appends text p b k m at n positions t n ks x y
+  block-all : (positions : ℕ) (ks : Spots) {x : Result (Counted Spots)} {y : Making} → withWord t p blockWord 0 ≡ t → Appends text p b k m at n positions 0 t n ks x y
       → EnsuresAll text p b k m ks t n at x (thenMade y (λ j u. making (L.Places j) (withWord u p blockWord positions)))
-  block-all positions ks (appends {n′ = n′} {ks′ = ks′} {t′ = t′} d e) =
-      all-there (and-then text t t′ (withWord t′ p blockWord positions) n n′ n′ (spot p b k m ks) (spot p b k m ks′) (spot p b k m ks′) d (set-block text t′ n′ p b k m ks′ (d .fits) positions (in-a-block n positions n′ ks′ e)))
-  block-all positions ks no-room = not-all
+  block-all positions ks e (appends {n′ = n′} {ks′ = ks′} {t′ = t′} d) = all-there (subst (λ (x : List ℕ). After text x n (spot p b k m ks) (withWord t′ p blockWord positions) n′ (spot p b k m ks′)) e d)
+  block-all positions ks e no-room = not-all
 
   ensure-positions : (positions : ℕ) (ks : Spots) → Fits text t n (spot p b k m ks) → EnsuresAll text p b k m ks t n at (makeAllS at (positionsFrom 0 positions) n ks) (positionsMade text p positions n t)
   unfolding positionsMade if_then_else_
   ensure-positions positions no-spots h =
       let e : word t p firstWord ≡ 0 = h .rep .0 3 (omega arith) in
-      rw e (block-all positions no-spots (append-all text p b k m at n positions positions 0 t n no-spots (omega arith) h (none-yet n)))
+      let z : withWord t p blockWord 0 ≡ t = subst (λ (v : ℕ). withWord t p blockWord v ≡ t) (no-positions (word t p blockWord) (h .rep .2)) (set-getD t (p * 16 + blockWord) 0) in
+      let h′ : Fits text (withWord t p blockWord 0) n (spot p b k m no-spots) = subst (λ (x : List ℕ). Fits text x n (spot p b k m no-spots)) (sym z) h in
+      rw e (block-all positions no-spots z (append-all text p b k m at n positions positions 0 t n no-spots (omega arith) h′ (none-yet n)))
   ensure-positions positions (child r x y u ks) h =
       let e : word t p firstWord ≡ num u = h .rep .0 3 (omega arith) in
       rw (e, ne-eqb (num u) 0 (omega (arith, h .good .2 .0))) (ensure-all text p b k m at (Places.positionsFrom 0 positions) (positionsFrom 0 positions) (positions-stand text 0 positions) t n (child r x y u ks) h)
@@ -414,6 +467,7 @@ module _ (text t : List ℕ) (long : tableWords ≤ length t) where
     room = rw (length-append, length-replicate {A = ℕ} tableWords 0) (omega arith);
     most = omega arith;
     zeros = λ q f _ l i. zero-word q f l i;
+    index = (index-none (cleared t tableWords) 0 (omega arith) (zero-word 0 rootWord (omega arith) (omega arith)), tt);
   }
 
 -- The flat run over a cleared table and the walk over the values of the batch are refused alike, or leave the same count of places and a
