@@ -108,6 +108,9 @@ takesValue D.KeyOrEnd = false
 unfoldable pub namedAt : List ℕ → List ℕ → ℕ → ℕ → Bool
 namedAt commands text byte at = leb (at + 5) (length commands) && eqb (getD commands at 0) byte && inside text (nameAt commands (at + 1))
 
--- a struct begins there
-unfoldable pub structAt : List ℕ → ℕ → Bool
-structAt commands at = ltb at (length commands) && eqb (getD commands at 0) structByte
+-- a command with that byte begins there
+unfoldable pub beginsAt : List ℕ → ℕ → ℕ → Bool
+beginsAt commands byte at = ltb at (length commands) && eqb (getD commands at 0) byte
+
+abbrev pub structAt : List ℕ → ℕ → Bool
+structAt commands at = beginsAt commands structByte at

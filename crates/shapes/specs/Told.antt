@@ -18,22 +18,28 @@ use Rattle.commands.specs.declared.Command.the-variants as C
 use Rattle.commands.specs.declared.Due.{Due}
 use Rattle.commands.specs.declared.Due.the-variants as D
 use Rattle.commands.specs.declared.Read.the-variants as R
-use Rattle.commands.specs.Commands.{nameAt, named, forms, formOf, operands, width, made, nameIn, stands, badName, badKey, readCommand}
+use Rattle.commands.specs.Commands.{nameAt, named, forms, formOf, operands, width, made, nameIn, stands, badName, badKey, endByte, readCommand}
 use Rattle.commands.specs.Laws.{nameOf, Good, good, name-inside, read-made, read-misnamed}
 use Rattle.shapes.specs.Steps.{Inside}
-use Rattle.shapes.specs.Shapes.{structByte, structAt, namedAt}
+use Rattle.shapes.specs.Shapes.{structByte, beginsAt, structAt, namedAt}
 
--- ---- a struct
+-- ---- a command without operands, by its byte
+begun : {P : Type 0} (commands : List ℕ) (byte at : ℕ) (flag : Bool) → flag ≡ beginsAt commands byte at → flag ≡ true → (at < length commands → getD commands at 0 ≡ byte → P) → P
+unfolding beginsAt
+begun commands byte at flag f e k =
+    both (ltb at (length commands)) (eqb (getD commands at 0) byte) (sym f ∙ e) λ l b.
+    k (ltb-true at (length commands) l) (eqb-true (getD commands at 0) byte b)
+
 pub struct-read : (commands text : List ℕ) (at : ℕ) → structAt commands at ≡ true → readCommand commands text at D.Value ≡ R.Command C.Struct (at + 1)
-unfolding structAt formOf operands made nameIn badName
-struct-read commands text at e =
-    both (ltb at (length commands)) (eqb (getD commands at 0) structByte) e λ l b.
-    let there : at < length commands = ltb-true at (length commands) l in
-    read-made commands text at D.Value structByte (eqb-true (getD commands at 0) structByte b) (omega arith) (omega arith) refl refl refl
+unfolding formOf operands made nameIn badName
+struct-read commands text at e = begun commands structByte at _ refl e λ there is. read-made commands text at D.Value structByte is (omega arith) (omega arith) refl refl refl
 
 pub struct-inside : (commands : List ℕ) (at : ℕ) (flag : Bool) → flag ≡ structAt commands at → flag ≡ true → at < length commands
-unfolding structAt
-struct-inside commands at flag f e = both (ltb at (length commands)) (eqb (getD commands at 0) structByte) (sym f ∙ e) λ l b. ltb-true at (length commands) l
+struct-inside commands at flag f e = begun commands structByte at flag f e λ there is. there
+
+pub end-read : (commands text : List ℕ) (at : ℕ) (due : Due) (flag : Bool) → stands due endByte ≡ true → badKey due endByte ≡ false → flag ≡ beginsAt commands endByte at → flag ≡ true → readCommand commands text at due ≡ R.Command C.End (at + 1)
+unfolding formOf operands made nameIn badName
+end-read commands text at due flag s k f e = begun commands endByte at flag f e λ there is. read-made commands text at due endByte is (omega arith) (omega arith) s refl k
 
 -- ---- a command with a name
 module _ (commands text : List ℕ) (byte at : ℕ) (flag : Bool) (f : flag ≡ namedAt commands text byte at) (e : flag ≡ true) where

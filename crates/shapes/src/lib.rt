@@ -10,7 +10,7 @@ ghost use Rattle.commands.specs.Commands.{readCommand, textByte};
 ghost use Rattle.commands.specs.declared.Due.the-variants.{FieldOrEnd, KeyOrEnd};
 ghost use Rattle.model.specs.Kinds.{mapKind};
 ghost use Rattle.shapes.specs.Steps.{codeOf, nameOf, packedName, unpackedName, Inside};
-ghost use Rattle.shapes.specs.Shapes.{mapKindOf, shapeAt, valuePart, fieldPart, partAt, plainByte, plainAt, takesValue, namedAt, structAt};
+ghost use Rattle.shapes.specs.Shapes.{mapKindOf, shapeAt, valuePart, partAt, plainByte, plainAt, takesValue, beginsAt, structAt, namedAt};
 ghost use Rattle.shapes.specs.Leaf.{plainKind, leafAt};
 ghost use Rattle.shapes.specs.Field.{openerOf, dueOf, fieldAt};
 ghost use mathlib.Core.Bool.{true};
@@ -265,14 +265,21 @@ fn is_named(commands: &[u8], text: &[u8], byte: u8, at: usize) -> bool
     commands::read_name(commands, at + 1).is_inside(text)
 }
 
-// Whether a struct begins at an offset.
-pub fn is_struct_at(commands: &[u8], at: usize) -> bool
-    ensures { λ r. ⌜ r ≡ structAt (now (commands .entry)) at ⌝ }
+// Whether a command with that byte begins at an offset.
+fn begins_at(commands: &[u8], byte: u8, at: usize) -> bool
+    ensures { λ r. ⌜ r ≡ beginsAt (now (commands .entry)) byte at ⌝ }
 {
     if commands.len() <= at {
         return false;
     }
-    commands::read_byte(commands, at) == STRUCT_BYTE
+    commands::read_byte(commands, at) == byte
+}
+
+// Whether a struct does.
+pub fn is_struct_at(commands: &[u8], at: usize) -> bool
+    ensures { λ r. ⌜ r ≡ structAt (now (commands .entry)) at ⌝ }
+{
+    begins_at(commands, STRUCT_BYTE, at)
 }
 
 // The type of a value before text, by its byte: the byte itself, but a char is a UInt32.
@@ -343,6 +350,9 @@ pub fn field_at(commands: &[u8], text: &[u8], kind: u32, at: usize) -> Field
 {
     if is_named(commands, text, opener(kind), at) {
         return Field::Named(commands::read_name(commands, at + 1));
+    }
+    if begins_at(commands, END, at) {
+        return Field::Ended;
     }
     let read = commands::read_command(commands, text, at, due_in(kind));
     let Read::Command(_, _) = read else {
