@@ -1,11 +1,9 @@
 -- The codes of types and strategies, as in document 01's "Field records".
 use mathlib.Core.Path.{_≡_, refl, ap}
-use Prim.Native.Nat.{ℕ, zero, suc, _<_, _≤_}
-use native.Mathlib.Nat.{le-of-suc-le-suc, not-suc-le-zero}
+use Prim.Native.Nat.{ℕ}
 use mathlib.Core.List.{List, [], _∷_}
 use mathlib.Core.Option.{Option, none, some}
-use lib.ListN.{length, getD, getElem?}
-use Rattle.datatype.specs.declared.Zone.{Zone}
+use lib.ListN.{getElem?}
 use Rattle.datatype.specs.declared.Zone.the-variants as Z
 use Rattle.datatype.specs.declared.DataType.{DataType}
 use Rattle.datatype.specs.declared.DataType.the-variants as D

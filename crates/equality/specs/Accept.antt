@@ -1,19 +1,18 @@
 -- What an accepted answer tells, and when an answer is accepted.
-use mathlib.Core.Path.{_≡_, refl, ap, sym, _∙_}
-use mathlib.Core.Bool.{Bool, true, false, _||_, true≢false}
-use mathlib.Core.List.{List, _++_}
-use Prim.Native.Nat.{ℕ, _*_, _≤_, _<_}
+use mathlib.Core.Path.{_≡_, refl}
+use mathlib.Core.Bool.{false, _||_}
+use Prim.Native.Nat.{_*_, _≤_}
 use native.Mathlib.Omega.{arith}
 use lib.Dec.{ltb}
-use lib.ListN.{length, take, drop}
+use lib.ListN.{length}
 use lib.Seq.{take-at}
 use borrow.Author.Tests.{ltb-false, le-ltb}
 use Rattle.logic.specs.Test.{if_then_else_, cases}
 use Rattle.options.specs.Word.{unknownBit}
 use Rattle.model.specs.Result.{Result, accepted, refused}
 use Rattle.model.specs.Emission.{Fields, recordsIn, namesIn, countIn}
-use Rattle.model.specs.Answer.{Batch, Buffers, Answer, tableWords, inputLimit, recordBytes, schemaOf, turnedDown, withSchema, isShort, answerOf, answer}
-use Rattle.model.specs.Demand3.{Accepted, SameSchema, Holds}
+use Rattle.model.specs.Answer.{Batch, Buffers, tableWords, inputLimit, recordBytes, schemaOf, withSchema, isShort, answerOf, answer}
+use Rattle.model.specs.Demand3.{Accepted, Holds}
 use Rattle.equality.specs.Base.{or-left-false, or-right-false}
 use Rattle.equality.specs.Encode.{length-records}
 use Rattle.equality.specs.Refusals.{Between, schemaOf-between}

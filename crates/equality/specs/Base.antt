@@ -4,8 +4,7 @@ use mathlib.Core.Bool.{Bool, true, false, not, _&&_, _||_, false≢true, true≢
 use mathlib.Core.List.{List, [], _∷_}
 use Prim.Native.Nat.{ℕ, zero, suc}
 use native.Mathlib.Omega.{arith}
-use Rattle.logic.specs.Test.{if_then_else_, cases, same-test}
-use Rattle.text.specs.Name.{eqName}
+use Rattle.logic.specs.Test.{if_then_else_, same-test}
 use Rattle.text.specs.NameLaws.{eqName-true, eqName-refl}
 use Rattle.model.specs.Result.{Result, accepted, refused, _>>=_}
 use Rattle.model.specs.Kinds.{Step, field, element, position, key, value, variant, stepCode, same}

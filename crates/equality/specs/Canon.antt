@@ -1,6 +1,4 @@
 -- A place with the places below it in one order where their order is not said: below a struct they stay as they are.
-use mathlib.Core.Bool.{Bool, true, false}
-use Prim.Native.Nat.{ℕ}
 use lib.Dec.{eqb}
 use Rattle.logic.specs.Test.{if_then_else_}
 use Rattle.text.specs.Name.{ltName}

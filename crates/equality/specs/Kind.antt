@@ -1,29 +1,29 @@
 -- The kind that the values at a place leave there is the one that the census reads off the kinds seen.
 use mathlib.Core.Path.{_≡_, refl, ap, sym, subst, _∙_}
-use mathlib.Core.Bool.{Bool, true, false, not, _&&_, _||_, true≢false, false≢true, or-true}
+use mathlib.Core.Bool.{true, false, true≢false, false≢true}
 use mathlib.Core.List.{List, [], _∷_}
 use mathlib.Core.Option.{Option, none, some}
-use Prim.Native.Nat.{ℕ, zero, suc, _≤_, _<_}
+use Prim.Native.Nat.{ℕ, _<_}
 use native.Mathlib.Omega.{arith}
-use lib.Dec.{eqb, leb, ltb}
+use lib.Dec.{eqb, ltb}
 use borrow.Author.Tests.{eqb-true, ltb-true, leb-false, lt-leb}
-use Rattle.logic.specs.Test.{if_then_else_, cases, both}
+use Rattle.logic.specs.Test.{if_then_else_, cases}
 use Rattle.logic.specs.All.{All}
 use Rattle.logic.specs.Maybe.{andThen}
-use Rattle.datatype.specs.Codes.{null, union, dictionaryUtf8}
+use Rattle.datatype.specs.Codes.{null, dictionaryUtf8}
 use Rattle.options.specs.Word.{allowToString, stringType}
 use Rattle.coerce.specs.Joint.{joint, joinedFrom, joined, isString}
-use Rattle.coerce.specs.Census.{typeSeen, nonNull, Fits}
+use Rattle.coerce.specs.Census.{Fits}
 use Rattle.coerce.specs.Checked.{string-fits, other-fits}
 use Rattle.coerce.specs.Laws.{joint-below, joined-seen}
-use Rattle.model.specs.Result.{Result, accepted}
+use Rattle.model.specs.Result.{accepted}
 use Rattle.model.specs.Kinds.{sequenceKind, structKind, mapKind, unionKind, tupleKind, mapModeKind, isContainer, isStruct}
 use Rattle.model.specs.Reading.{Value, val, cut}
 use Rattle.model.specs.Tracing.{Tree, kindOf, fresh, sameContainer}
 use Rattle.model.specs.Census.{kindIn, kindsSeen, containerSeen, kindSeen}
 use Rattle.equality.specs.Base.{and-left, and-right, or-cases}
 use Rattle.model.specs.Unbounded.{seeAll}
-use Rattle.equality.specs.Proper.{isContainerKind, isBinary, typeFits, kindFits, isProper, areProper, allProper}
+use Rattle.equality.specs.Proper.{isContainerKind, typeFits, kindFits, isProper, areProper, allProper}
 use Rattle.equality.specs.Readings.{together, onward, togetherAll, all-kind}
 
 onward-some : {A B P : Type 0} (o : Option A) (f : A → Option B) (b : B) → onward o f ≡ some b → ((a : A) → o ≡ some a → f a ≡ some b → P) → P

@@ -1,6 +1,6 @@
 -- What reading guarantees of values, and tracing of places: kinds are those that the options let a batch show, and steps those of their
 -- container.
-use mathlib.Core.Bool.{Bool, true, false, not, _&&_, _||_}
+use mathlib.Core.Bool.{Bool, true, not, _&&_, _||_}
 use mathlib.Core.List.{List, [], _∷_}
 use Prim.Native.Nat.{ℕ, suc}
 use lib.Dec.{eqb, ltb}

@@ -1,28 +1,28 @@
 -- What the places of the schema say, step by step, is what the census says; and places that say the same everywhere are equal.
 use mathlib.Core.Path.{_≡_, refl, ap, ap₂, sym, _∙_}
-use mathlib.Core.Bool.{Bool, true, false, not, _&&_, _||_, false≢true, true≢false, or-false, or-assoc}
+use mathlib.Core.Bool.{Bool, true, false, not, _&&_, _||_, or-false}
 use mathlib.Core.List.{List, [], _∷_, _++_}
 use mathlib.Core.Option.{Option, none, some}
-use Prim.Native.Nat.{ℕ, zero, suc, _+_, _<_}
+use Prim.Native.Nat.{ℕ, _+_}
 use native.Mathlib.Omega.{arith}
 use lib.Dec.{eqb, ltb}
 use borrow.Author.Tests.{eqb-true}
 use Rattle.logic.specs.Test.{if_then_else_, cases}
 use Rattle.logic.specs.Maybe.{andThen}
 use Rattle.options.specs.Word.{allowToString}
-use Rattle.model.specs.Result.{Result, accepted}
+use Rattle.model.specs.Result.{accepted}
 use Rattle.model.specs.Kinds.{structKind, unionKind, isStruct, Step, same}
 use Rattle.model.specs.Reading.{Value}
-use Rattle.model.specs.Tracing.{Tree, node, Kids, no-kids, kid, kidsOf, kindOf, samplesOf, fresh, stepsOf, has, kidAt, dotsOf}
+use Rattle.model.specs.Tracing.{Tree, node, Kids, no-kids, kid, kidsOf, samplesOf, fresh, stepsOf, has, kidAt, dotsOf}
 use Rattle.model.specs.Emission.{Place, shown, Places, none-below, below, byNumber, isMissing, placeOf, placesOf}
 use Rattle.model.specs.Census.{Said, census, childrenOf, asSet, stepsSeen, stepsIn, partsOf, kindIn, fixedSteps, sight, sights, kindsSeen, kindSeen, samples, holders, isLacking, anyNull}
 use Rattle.model.specs.Census as Census
-use Rattle.equality.specs.Base.{and-left, and-right, and-both, or-left-false, or-right-false, not-is-true, same-true, same-refl, same-sym}
+use Rattle.equality.specs.Base.{and-left, and-right, or-left-false, or-right-false, not-is-true, same-true, same-refl, same-sym}
 use Rattle.model.specs.Unbounded.{seeAll}
 use Rattle.equality.specs.Proper.{stepsBelow, allProper}
 use Rattle.equality.specs.Canon.{canon, canons, inOrder}
 use Rattle.equality.specs.Standing.{kid-of-values}
-use Rattle.equality.specs.Sorting.{distinct, find, find-in-order, find-by-number, steps-in-order, set-by-number, distinct-by-number, distinct-set}
+use Rattle.equality.specs.Sorting.{distinct, find, find-in-order, find-by-number, steps-in-order, set-by-number, distinct-set}
 use Rattle.equality.specs.Readings.{heldAt, has-snoc, all-null, all-samples, all-held, all-steps, below-proper}
 use Rattle.equality.specs.Kind.{kind-seen}
 

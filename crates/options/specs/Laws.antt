@@ -1,11 +1,11 @@
 -- An unknown bit, read off the word's size, is a bit above 9.
-use mathlib.Core.Path.{_≡_, refl, ap, sym, _∙_}
-use mathlib.Core.Bool.{Bool, true, false, not, _&&_, _||_}
-use Prim.Native.Nat.{ℕ, _/_, _%_, _^_, _*_, _<_}
+use mathlib.Core.Path.{_≡_, refl, sym}
+use mathlib.Core.Bool.{Bool, true, false, not, _||_}
+use Prim.Native.Nat.{ℕ, _/_, _%_, _^_, _<_}
 use native.Mathlib.Omega.{arith}
 use native.Mathlib.Nat.{div-div-eq-div-mul}
 use lib.Dec.{eqb, leb}
-use borrow.Author.Tests.{leb-true, leb-false, eqb-true, eq-eqb, ne-eqb}
+use borrow.Author.Tests.{leb-true, leb-false, ne-eqb}
 use Rattle.logic.specs.Test.{cases}
 use Rattle.logic.specs.Table.{allBelow, below-at}
 use Rattle.options.specs.Word.{bit, unknownBit}

@@ -2,8 +2,8 @@
 // call on itself, with the levels left falling from 20: a level for each step down, and one for each dot of its name.
 ghost use mathlib.Core.Path.{_≡_};
 ghost use mathlib.Core.Bool.{true};
-ghost use Prim.Native.Nat.{_+_, _-_, _<_, _≤_};
-ghost use lib.ListN.{length, getD};
+ghost use Prim.Native.Nat.{_-_, _<_, _≤_};
+ghost use lib.ListN.{length};
 ghost use Rattle.words.specs.Word.{word};
 ghost use Rattle.model.specs.Kinds.{sequenceKind, mapKind, tupleKind, isStruct};
 ghost use Rattle.shapes.specs.Steps.{fieldCode, noName, nameOf, Inside, Good};

@@ -1,7 +1,7 @@
 // The second walk of emission, which writes field records and names, and the schema as a whole with refusals 15 to 18
 // (Tracer::to_schema). Nothing is written before everything is decided.
 ghost use mathlib.Core.Path.{_≡_};
-ghost use mathlib.Core.Bool.{true, false, not, _&&_, _||_};
+ghost use mathlib.Core.Bool.{false, not, _&&_, _||_};
 ghost use Prim.Native.Nat.{_%_, _<_, _≤_};
 ghost use lib.Dec.{eqb};
 ghost use lib.ListN.{length};

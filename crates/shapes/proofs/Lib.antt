@@ -1,2 +1,1 @@
 pub mod AtOnce
-pub mod Named

@@ -7,7 +7,6 @@ ghost use Rattle.text.specs.Name.{bytesOf};
 ghost use Rattle.chrono.specs.Text.{textType};
 ghost use Rattle.commands.specs.declared.Command.the-variants.{Text};
 ghost use Rattle.commands.specs.Commands.{readCommand, textByte};
-ghost use Rattle.commands.specs.declared.Due.the-variants.{FieldOrEnd, KeyOrEnd};
 ghost use Rattle.model.specs.Kinds.{mapKind};
 ghost use Rattle.shapes.specs.Steps.{codeOf, nameOf, packedName, unpackedName, Inside};
 ghost use Rattle.shapes.specs.Shapes.{mapKindOf, shapeAt, valuePart, partAt, plainByte, plainAt, takesValue, beginsAt, structAt, namedAt};

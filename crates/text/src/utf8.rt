@@ -1,6 +1,6 @@
 // UTF-8, by the Unicode standard's table of well-formed byte sequences.
 ghost use mathlib.Core.Path.{_≡_};
-ghost use Prim.Native.Nat.{_+_, _≤_, _<_};
+ghost use Prim.Native.Nat.{_≤_};
 ghost use mathlib.Core.Bool.{_&&_};
 ghost use mathlib.Core.List.{_∷_};
 ghost use lib.Dec.{ltb};

@@ -275,71 +275,54 @@ read-value-claims t = (past-marks-reads.Asked, past-marks-reads.Learnt, leaf-at-
 abbrev read-variant-claims : ℕ → read-variant-lts.Claims
 read-variant-claims t = (open-variant-reads.Asked, open-variant-reads.Learnt, lower-reads.Asked, lower-reads.Learnt, read-contents-below t, read-contents.Post)
 
--- src/lib.rt:552:11
 read-container-open-container-requires : (t : ℕ) → read-container-lts.Need-open-container-requires (read-container-claims t) (read-container-at t) read-container.Post
 read-container-open-container-requires t c κs = search needs
 
--- src/lib.rt:562:22
 read-container-enum-known-more : (t : ℕ) → read-container-lts.Need-enum-known-more (read-container-claims t) (read-container-at t) read-container.Post
 read-container-enum-known-more t c = search needs
 
--- src/lib.rt:569:13
 read-container-sub-read-parts : (t : ℕ) → read-container-lts.Need-sub-read-parts (read-container-claims t) (read-container-at t) read-container.Post
 read-container-sub-read-parts t c = search (opened-left, needs)
 
--- src/lib.rt:562:31
 read-container-read-parts-requires : (t : ℕ) → read-container-lts.Need-read-parts-requires (read-container-claims t) (read-container-at t) read-container.Post
 read-container-read-parts-requires t c κs = (search (falls-parts, opened-left, needs), (search (opened-ready, needs), search needs))
 
--- src/lib.rt:574:23
 read-container-enum-known-refusal : (t : ℕ) → read-container-lts.Need-enum-known-refusal (read-container-claims t) (read-container-at t) read-container.Post
 read-container-enum-known-refusal t c = search needs
 
--- src/lib.rt:535:1
 read-container-same-length : (t : ℕ) → read-container-lts.Need-same-length (read-container-claims t) (read-container-at t) read-container.Post
 read-container-same-length t c = search needs
 
--- src/lib.rt:535:1
 read-container-returns : (t : ℕ) → read-container-lts.Need-returns (read-container-claims t) (read-container-at t) read-container.Post
 read-container-returns t c = (search (container-parts, opened-left, needs), search (opened-from, needs))
 
--- src/lib.rt:535:1
 read-container-same-length-2 : (t : ℕ) → read-container-lts.Need-same-length-2 (read-container-claims t) (read-container-at t) read-container.Post
 read-container-same-length-2 t c = search needs
 
--- src/lib.rt:535:1
 read-container-returns-2 : (t : ℕ) → read-container-lts.Need-returns-2 (read-container-claims t) (read-container-at t) read-container.Post
 read-container-returns-2 t c = (search (container-refused, needs), search needs)
 
--- src/lib.rt:950:13
 read-contents-enum-told : (t : ℕ) → read-contents-lts.Need-enum-told (read-contents-claims t) (read-contents-at t) read-contents.Post
 read-contents-enum-told t c = search needs
 
--- src/lib.rt:941:27
 read-contents-observe-requires : (t : ℕ) → read-contents-lts.Need-observe-requires (read-contents-claims t) (read-contents-at t) read-contents.Post
 read-contents-observe-requires t c κs = search (is-place, has-room, needs)
 
--- src/lib.rt:952:90
 read-contents-enum-told-2 : (t : ℕ) → read-contents-lts.Need-enum-told-2 (read-contents-claims t) (read-contents-at t) read-contents.Post
 read-contents-enum-told-2 t c = search needs
 
--- src/lib.rt:952:28
 read-contents-read-value-requires : (t : ℕ) → read-contents-lts.Need-read-value-requires (read-contents-claims t) (read-contents-at t) read-contents.Post
 read-contents-read-value-requires t c κs = search needs
 
--- src/lib.rt:953:29
 read-contents-enum-known-contents : (t : ℕ) → read-contents-lts.Need-enum-known-contents (read-contents-claims t) (read-contents-at t) read-contents.Post
 read-contents-enum-known-contents t c = search needs
 
--- src/lib.rt:953:35
 read-contents-read-container-requires : (t : ℕ) → read-contents-lts.Need-read-container-requires (read-contents-claims t) (read-contents-at t) read-contents.Post
 read-contents-read-container-requires t c κs = search (tuple-parted, needs)
 
--- src/lib.rt:977:13
 read-contents-enum-told-3 : (t : ℕ) → read-contents-lts.Need-enum-told-3 (read-contents-claims t) (read-contents-at t) read-contents.Post
 read-contents-enum-told-3 t c = search needs
 
--- src/lib.rt:966:29
 read-contents-read-container-requires-2 :
     (t : ℕ) → read-contents-lts.Need-read-container-requires-2 (
       observe-reads.Asked,
@@ -351,35 +334,27 @@ read-contents-read-container-requires-2 :
     ) (read-contents-at t) read-contents.Post
 read-contents-read-container-requires-2 t c κs = search (struct-parted, needs)
 
--- src/lib.rt:925:1
 read-contents-same-length : (t : ℕ) → read-contents-lts.Need-same-length (read-contents-claims t) (read-contents-at t) read-contents.Post
 read-contents-same-length t c = search needs
 
--- src/lib.rt:925:1
 read-contents-returns : (t : ℕ) → read-contents-lts.Need-returns (read-contents-claims t) (read-contents-at t) read-contents.Post
 read-contents-returns t c = (search (contents-unit, needs), search (observed-sound, needs))
 
--- src/lib.rt:925:1
 read-contents-same-length-2 : (t : ℕ) → read-contents-lts.Need-same-length-2 (read-contents-claims t) (read-contents-at t) read-contents.Post
 read-contents-same-length-2 t c = search needs
 
--- src/lib.rt:925:1
 read-contents-returns-2 : (t : ℕ) → read-contents-lts.Need-returns-2 (read-contents-claims t) (read-contents-at t) read-contents.Post
 read-contents-returns-2 t c = (search (contents-value, needs), search needs)
 
--- src/lib.rt:925:1
 read-contents-same-length-3 : (t : ℕ) → read-contents-lts.Need-same-length-3 (read-contents-claims t) (read-contents-at t) read-contents.Post
 read-contents-same-length-3 t c = search needs
 
--- src/lib.rt:925:1
 read-contents-returns-3 : (t : ℕ) → read-contents-lts.Need-returns-3 (read-contents-claims t) (read-contents-at t) read-contents.Post
 read-contents-returns-3 t c = (search (contents-positions, needs), search needs)
 
--- src/lib.rt:925:1
 read-contents-same-length-4 : (t : ℕ) → read-contents-lts.Need-same-length-4 (read-contents-claims t) (read-contents-at t) read-contents.Post
 read-contents-same-length-4 t c = search needs
 
--- src/lib.rt:925:1
 read-contents-returns-4 : (t : ℕ) → read-contents-lts.Need-returns-4 (read-contents-claims t) (read-contents-at t) read-contents.Post
 read-contents-returns-4 t c = (search (contents-fields, needs), search needs)
 
@@ -391,71 +366,54 @@ read-elements-Inv-loop commands text options start levels place count table₀ a
 abbrev read-elements-μ-loop : read-elements-lts.MeasureT-loop
 read-elements-μ-loop commands text options start levels place count table₀ at₀ places₀ table at places = length commands - at
 
--- src/lib.rt:710:5
 read-elements-loop-holds : (t : ℕ) → read-elements-lts.Need-loop-holds (read-elements-claims t) (read-elements-at t) read-elements.Post read-elements-Inv-loop read-elements-μ-loop
 read-elements-loop-holds t c = search needs
 
--- src/lib.rt:711:15
 read-elements-value-part-requires : (t : ℕ) → read-elements-lts.Need-value-part-requires (read-elements-claims t) (read-elements-at t) read-elements.Post read-elements-Inv-loop read-elements-μ-loop
 read-elements-value-part-requires t c κs = search needs
 
--- src/lib.rt:712:25
 read-elements-enum-known-behind : (t : ℕ) → read-elements-lts.Need-enum-known-behind (read-elements-claims t) (read-elements-at t) read-elements.Post read-elements-Inv-loop read-elements-μ-loop
 read-elements-enum-known-behind t c = search needs
 
--- src/lib.rt:713:17
 read-elements-same-length : (t : ℕ) → read-elements-lts.Need-same-length (read-elements-claims t) (read-elements-at t) read-elements.Post read-elements-Inv-loop read-elements-μ-loop
 read-elements-same-length t c = search needs
 
--- src/lib.rt:713:17
 read-elements-returns : (t : ℕ) → read-elements-lts.Need-returns (read-elements-claims t) (read-elements-at t) read-elements.Post read-elements-Inv-loop read-elements-μ-loop
 read-elements-returns t c = (search (parts-end, element-part, needs), search needs)
 
--- src/lib.rt:715:27
 read-elements-enum-known-refusal : (t : ℕ) → read-elements-lts.Need-enum-known-refusal (read-elements-claims t) (read-elements-at t) read-elements.Post read-elements-Inv-loop read-elements-μ-loop
 read-elements-enum-known-refusal t c = search needs
 
--- src/lib.rt:716:17
 read-elements-same-length-2 : (t : ℕ) → read-elements-lts.Need-same-length-2 (read-elements-claims t) (read-elements-at t) read-elements.Post read-elements-Inv-loop read-elements-μ-loop
 read-elements-same-length-2 t c = search needs
 
--- src/lib.rt:716:17
 read-elements-returns-2 : (t : ℕ) → read-elements-lts.Need-returns-2 (read-elements-claims t) (read-elements-at t) read-elements.Post read-elements-Inv-loop read-elements-μ-loop
 read-elements-returns-2 t c = (search (parts-refused, element-part, needs), search needs)
 
--- src/lib.rt:718:24
 read-elements-enum-known-step : (t : ℕ) → read-elements-lts.Need-enum-known-step (read-elements-claims t) (read-elements-at t) read-elements.Post read-elements-Inv-loop read-elements-μ-loop
 read-elements-enum-known-step t c = search needs
 
--- src/lib.rt:718:46
 read-elements-read-part-requires : (t : ℕ) → read-elements-lts.Need-read-part-requires (read-elements-claims t) (read-elements-at t) read-elements.Post read-elements-Inv-loop read-elements-μ-loop
 read-elements-read-part-requires t c κs = (search needs, (search needs, search (part-unnamed, needs)))
 
--- src/lib.rt:730:30
 read-elements-enum-known-behind-2 : (t : ℕ) → read-elements-lts.Need-enum-known-behind-2 (read-elements-claims t) (read-elements-at t) read-elements.Post read-elements-Inv-loop read-elements-μ-loop
 read-elements-enum-known-behind-2 t c = search needs
 
--- src/lib.rt:731:21
 read-elements-past-same-requires : (t : ℕ) → read-elements-lts.Need-past-same-requires (read-elements-claims t) (read-elements-at t) read-elements.Post read-elements-Inv-loop read-elements-μ-loop
 read-elements-past-same-requires t c κs = traced-first _ _ _ _ (c .before .before .before .before .before .before .read-part .ensures .1) _ _ (c .before .before .behind2 .given .1) _ (c .before .before .before .before .before .before .before .before .before .before .before .before .loop .inv .1 .here)
 
--- src/lib.rt:710:5
 read-elements-loop-less : (t : ℕ) → read-elements-lts.Need-loop-less (read-elements-claims t) (read-elements-at t) read-elements.Post read-elements-Inv-loop read-elements-μ-loop
 read-elements-loop-less t c = parts-less _ _ _ _ _ _ _ _ _ _ _ _ (c .before .before .before .before .before .before .before .before .before .before .before .before .before .loop .inv .0) _ (element-part _ _ _ _ (c .before .before .before .before .before .before .before .before .before .before .before .before .value-part .ensures)) _ _ (c .before .before .before .before .before .before .before .before .before .before .step .given .1) _ _ (c .before .before .before .before .before .before .before .read-part .ensures .0) _ _ (c .before .before .before .behind2 .given .1) _ (same-above _ _ _ _ _ (c .past-same .ensures))
 
--- src/lib.rt:710:5
 read-elements-loop-again : (t : ℕ) → read-elements-lts.Need-loop-again (read-elements-claims t) (read-elements-at t) read-elements.Post read-elements-Inv-loop read-elements-μ-loop
 read-elements-loop-again t c = (elements-same _ _ _ _ _ _ _ _ _ _ (c .past-same .ensures) (elements-more _ _ _ _ _ _ _ _ _ (c .before .before .before .before .before .before .before .before .before .before .before .before .before .loop .inv .0) _ (element-part _ _ _ _ (c .before .before .before .before .before .before .before .before .before .before .before .before .value-part .ensures)) _ _ (c .before .before .before .before .before .before .before .before .before .before .step .given .1) _ _ (c .before .before .before .before .before .before .before .read-part .ensures .0) _ _ (c .before .before .before .behind2 .given .1)), search (traced-ready, needs), le-trans (c .before .before .before .before .before .before .before .before .before .before .before .before .before .loop .inv .2) (traced-grows _ _ _ _ (c .before .before .before .before .before .before .before .read-part .ensures .1) _ _ (c .before .before .before .behind2 .given .1)), search needs)
 
--- src/lib.rt:734:33
 read-elements-enum-known-refusal-2 : (t : ℕ) → read-elements-lts.Need-enum-known-refusal-2 (read-elements-claims t) (read-elements-at t) read-elements.Post read-elements-Inv-loop read-elements-μ-loop
 read-elements-enum-known-refusal-2 t c = search needs
 
--- src/lib.rt:735:21
 read-elements-same-length-3 : (t : ℕ) → read-elements-lts.Need-same-length-3 (read-elements-claims t) (read-elements-at t) read-elements.Post read-elements-Inv-loop read-elements-μ-loop
 read-elements-same-length-3 t c = search needs
 
--- src/lib.rt:735:21
 read-elements-returns-3 : (t : ℕ) → read-elements-lts.Need-returns-3 (read-elements-claims t) (read-elements-at t) read-elements.Post read-elements-Inv-loop read-elements-μ-loop
 read-elements-returns-3 t c = (search (parts-stopped, element-part, needs), search needs)
 
@@ -467,71 +425,54 @@ read-entries-Inv-loop commands text options start levels place count table₀ i�
 abbrev read-entries-μ-loop : read-entries-lts.MeasureT-loop
 read-entries-μ-loop commands text options start levels place count table₀ i₀ at₀ places₀ table i at places = length commands - at
 
--- src/lib.rt:759:5
 read-entries-loop-holds : (t : ℕ) → read-entries-lts.Need-loop-holds (read-entries-claims t) (read-entries-at t) read-entries.Post read-entries-Inv-loop read-entries-μ-loop
 read-entries-loop-holds t c = search needs
 
--- src/lib.rt:760:15
 read-entries-entry-part-requires : (t : ℕ) → read-entries-lts.Need-entry-part-requires (read-entries-claims t) (read-entries-at t) read-entries.Post read-entries-Inv-loop read-entries-μ-loop
 read-entries-entry-part-requires t c κs = search needs
 
--- src/lib.rt:761:25
 read-entries-enum-known-behind : (t : ℕ) → read-entries-lts.Need-enum-known-behind (read-entries-claims t) (read-entries-at t) read-entries.Post read-entries-Inv-loop read-entries-μ-loop
 read-entries-enum-known-behind t c = search needs
 
--- src/lib.rt:762:17
 read-entries-same-length : (t : ℕ) → read-entries-lts.Need-same-length (read-entries-claims t) (read-entries-at t) read-entries.Post read-entries-Inv-loop read-entries-μ-loop
 read-entries-same-length t c = search needs
 
--- src/lib.rt:762:17
 read-entries-returns : (t : ℕ) → read-entries-lts.Need-returns (read-entries-claims t) (read-entries-at t) read-entries.Post read-entries-Inv-loop read-entries-μ-loop
 read-entries-returns t c = (search (parts-end, needs), search needs)
 
--- src/lib.rt:764:27
 read-entries-enum-known-refusal : (t : ℕ) → read-entries-lts.Need-enum-known-refusal (read-entries-claims t) (read-entries-at t) read-entries.Post read-entries-Inv-loop read-entries-μ-loop
 read-entries-enum-known-refusal t c = search needs
 
--- src/lib.rt:765:17
 read-entries-same-length-2 : (t : ℕ) → read-entries-lts.Need-same-length-2 (read-entries-claims t) (read-entries-at t) read-entries.Post read-entries-Inv-loop read-entries-μ-loop
 read-entries-same-length-2 t c = search needs
 
--- src/lib.rt:765:17
 read-entries-returns-2 : (t : ℕ) → read-entries-lts.Need-returns-2 (read-entries-claims t) (read-entries-at t) read-entries.Post read-entries-Inv-loop read-entries-μ-loop
 read-entries-returns-2 t c = (search (parts-refused, needs), search needs)
 
--- src/lib.rt:767:24
 read-entries-enum-known-step : (t : ℕ) → read-entries-lts.Need-enum-known-step (read-entries-claims t) (read-entries-at t) read-entries.Post read-entries-Inv-loop read-entries-μ-loop
 read-entries-enum-known-step t c = search needs
 
--- src/lib.rt:767:46
 read-entries-read-part-requires : (t : ℕ) → read-entries-lts.Need-read-part-requires (read-entries-claims t) (read-entries-at t) read-entries.Post read-entries-Inv-loop read-entries-μ-loop
 read-entries-read-part-requires t c κs = (search needs, (search needs, search (entry-unnamed, needs)))
 
--- src/lib.rt:779:30
 read-entries-enum-known-behind-2 : (t : ℕ) → read-entries-lts.Need-enum-known-behind-2 (read-entries-claims t) (read-entries-at t) read-entries.Post read-entries-Inv-loop read-entries-μ-loop
 read-entries-enum-known-behind-2 t c = search needs
 
--- src/lib.rt:783:33
 read-entries-enum-known-refusal-2 : (t : ℕ) → read-entries-lts.Need-enum-known-refusal-2 (read-entries-claims t) (read-entries-at t) read-entries.Post read-entries-Inv-loop read-entries-μ-loop
 read-entries-enum-known-refusal-2 t c = search needs
 
--- src/lib.rt:784:21
 read-entries-same-length-3 : (t : ℕ) → read-entries-lts.Need-same-length-3 (read-entries-claims t) (read-entries-at t) read-entries.Post read-entries-Inv-loop read-entries-μ-loop
 read-entries-same-length-3 t c = search needs
 
--- src/lib.rt:784:21
 read-entries-returns-3 : (t : ℕ) → read-entries-lts.Need-returns-3 (read-entries-claims t) (read-entries-at t) read-entries.Post read-entries-Inv-loop read-entries-μ-loop
 read-entries-returns-3 t c = (search (parts-stopped, needs), search needs)
 
--- src/lib.rt:788:9
 read-entries-add-i : (t : ℕ) → read-entries-lts.Need-add-i (read-entries-claims t) (read-entries-at t) read-entries.Post read-entries-Inv-loop read-entries-μ-loop
 read-entries-add-i t c = record { fits = count-fits _ _ _ _ _ _ _ _ _ _ _ _ (c .before .before .before .before .before .before .before .before .before .before .before .loop .inv .0) _ (c .before .before .before .before .before .before .before .before .before .before .entry-part .ensures) _ _ (c .before .before .before .before .before .before .before .before .step .given .1) _ _ (c .before .before .before .before .before .read-part .ensures .0) _ _ (c .before .behind2 .given .1) _ (c .before .before .before .before .before .before .before .before .before .before .before .loop .inv .3) (search needs) }
 
--- src/lib.rt:759:5
 read-entries-loop-less : (t : ℕ) → read-entries-lts.Need-loop-less (read-entries-claims t) (read-entries-at t) read-entries.Post read-entries-Inv-loop read-entries-μ-loop
 read-entries-loop-less t c = parts-less _ _ _ _ _ _ _ _ _ _ _ _ (c .before .before .before .before .before .before .before .before .before .before .before .loop .inv .0) _ (c .before .before .before .before .before .before .before .before .before .before .entry-part .ensures) _ _ (c .before .before .before .before .before .before .before .before .step .given .1) _ _ (c .before .before .before .before .before .read-part .ensures .0) _ _ (c .before .behind2 .given .1) _ (le-refl _)
 
--- src/lib.rt:759:5
 read-entries-loop-again : (t : ℕ) → read-entries-lts.Need-loop-again (read-entries-claims t) (read-entries-at t) read-entries.Post read-entries-Inv-loop read-entries-μ-loop
 read-entries-loop-again t c = (parts-more _ _ _ _ _ _ _ _ _ _ _ _ (c .before .before .before .before .before .before .before .before .before .before .before .loop .inv .0) _ (c .before .before .before .before .before .before .before .before .before .before .entry-part .ensures) _ _ (c .before .before .before .before .before .before .before .before .step .given .1) _ _ (c .before .before .before .before .before .read-part .ensures .0) _ _ (c .before .behind2 .given .1), search (traced-ready, needs), le-trans (c .before .before .before .before .before .before .before .before .before .before .before .loop .inv .2) (traced-grows _ _ _ _ (c .before .before .before .before .before .read-part .ensures .1) _ _ (c .before .behind2 .given .1)), parts-counted _ _ _ _ _ _ _ _ _ _ _ _ (c .before .before .before .before .before .before .before .before .before .before .before .loop .inv .0) _ (c .before .before .before .before .before .before .before .before .before .before .entry-part .ensures) _ _ (c .before .before .before .before .before .before .before .before .step .given .1) _ _ (c .before .before .before .before .before .read-part .ensures .0) _ _ (c .before .behind2 .given .1) _ (le-refl _) (c .before .before .before .before .before .before .before .before .before .before .before .loop .inv .3), search needs)
 
@@ -543,315 +484,237 @@ read-fields-Inv-loop commands text options kind start levels place count table�
 abbrev read-fields-μ-loop : read-fields-lts.MeasureT-loop
 read-fields-μ-loop commands text options kind start levels place count table₀ at₀ places₀ table at places = length commands - at
 
--- src/lib.rt:663:5
 read-fields-loop-holds : (t : ℕ) → read-fields-lts.Need-loop-holds (read-fields-claims t) (read-fields-at t) read-fields.Post read-fields-Inv-loop read-fields-μ-loop
 read-fields-loop-holds t c = search needs
 
--- src/lib.rt:664:15
 read-fields-open-field-requires : (t : ℕ) → read-fields-lts.Need-open-field-requires (read-fields-claims t) (read-fields-at t) read-fields.Post read-fields-Inv-loop read-fields-μ-loop
 read-fields-open-field-requires t c κs = search needs
 
--- src/lib.rt:666:37
 read-fields-enum-told : (t : ℕ) → read-fields-lts.Need-enum-told (read-fields-claims t) (read-fields-at t) read-fields.Post read-fields-Inv-loop read-fields-μ-loop
 read-fields-enum-told t c = search needs
 
--- src/lib.rt:666:37
 read-fields-add-t22 : (t : ℕ) → read-fields-lts.Need-add-t22 (read-fields-claims t) (read-fields-at t) read-fields.Post read-fields-Inv-loop read-fields-μ-loop
 read-fields-add-t22 t c = search (end-fits, needs)
 
--- src/lib.rt:666:17
 read-fields-same-length : (t : ℕ) → read-fields-lts.Need-same-length (read-fields-claims t) (read-fields-at t) read-fields.Post read-fields-Inv-loop read-fields-μ-loop
 read-fields-same-length t c = search needs
 
--- src/lib.rt:666:17
 read-fields-returns : (t : ℕ) → read-fields-lts.Need-returns (read-fields-claims t) (read-fields-at t) read-fields.Post read-fields-Inv-loop read-fields-μ-loop
 read-fields-returns t c = (search (fields-ended, needs), search (field-ends, traced-from, needs))
 
--- src/lib.rt:668:29
 read-fields-enum-known-refusal : (t : ℕ) → read-fields-lts.Need-enum-known-refusal (read-fields-claims t) (read-fields-at t) read-fields.Post read-fields-Inv-loop read-fields-μ-loop
 read-fields-enum-known-refusal t c = search needs
 
--- src/lib.rt:669:17
 read-fields-same-length-2 : (t : ℕ) → read-fields-lts.Need-same-length-2 (read-fields-claims t) (read-fields-at t) read-fields.Post read-fields-Inv-loop read-fields-μ-loop
 read-fields-same-length-2 t c = search needs
 
--- src/lib.rt:669:17
 read-fields-returns-2 : (t : ℕ) → read-fields-lts.Need-returns-2 (read-fields-claims t) (read-fields-at t) read-fields.Post read-fields-Inv-loop read-fields-μ-loop
 read-fields-returns-2 t c = (search (fields-refused, needs), search needs)
 
--- src/lib.rt:671:27
 read-fields-enum-known-child : (t : ℕ) → read-fields-lts.Need-enum-known-child (read-fields-claims t) (read-fields-at t) read-fields.Post read-fields-Inv-loop read-fields-μ-loop
 read-fields-enum-known-child t c = search needs
 
--- src/lib.rt:675:37
 read-fields-add-read-name : (t : ℕ) → read-fields-lts.Need-add-read-name (read-fields-claims t) (read-fields-at t) read-fields.Post read-fields-Inv-loop read-fields-μ-loop
 read-fields-add-read-name t c = search (name-fits, needs)
 
--- src/lib.rt:675:17
 read-fields-read-name-requires : (t : ℕ) → read-fields-lts.Need-read-name-requires (read-fields-claims t) (read-fields-at t) read-fields.Post read-fields-Inv-loop read-fields-μ-loop
 read-fields-read-name-requires t c κs = search (name-whole, needs)
 
--- src/lib.rt:676:17
 read-fields-add-read-named : (t : ℕ) → read-fields-lts.Need-add-read-named (read-fields-claims t) (read-fields-at t) read-fields.Post read-fields-Inv-loop read-fields-μ-loop
 read-fields-add-read-named t c = search (whole-fits, needs)
 
--- src/lib.rt:671:49
 read-fields-read-named-requires : (t : ℕ) → read-fields-lts.Need-read-named-requires (read-fields-claims t) (read-fields-at t) read-fields.Post read-fields-Inv-loop read-fields-μ-loop
 read-fields-read-named-requires t c κs = (search needs, (search (field-ready, needs), search (name-inside, needs)))
 
--- src/lib.rt:682:30
 read-fields-enum-known-behind : (t : ℕ) → read-fields-lts.Need-enum-known-behind (read-fields-claims t) (read-fields-at t) read-fields.Post read-fields-Inv-loop read-fields-μ-loop
 read-fields-enum-known-behind t c = search needs
 
--- src/lib.rt:663:5
 read-fields-loop-less : (t : ℕ) → read-fields-lts.Need-loop-less (read-fields-claims t) (read-fields-at t) read-fields.Post read-fields-Inv-loop read-fields-μ-loop
 read-fields-loop-less t c = fields-less _ _ _ _ _ _ _ _ _ (c .before .before .before .before .before .before .before .before .before .before .before .before .before .before .before .before .before .before .before .pre .1 .1) _ (c .before .before .before .before .before .before .before .before .before .before .before .before .before .before .before .loop .inv .0) _ _ (c .before .before .before .before .before .before .before .before .before .before .before .before .before .open-field .ensures .0) _ _ (c .before .before .before .before .before .before .before .before .before .child .given .1) _ (c .before .before .before .before .before .before .before .read-name .ensures) _ _ (c .before .before .before .before .before .read-named .ensures .0) _ _ (c .before .behind .given .1)
 
--- src/lib.rt:663:5
 read-fields-loop-again : (t : ℕ) → read-fields-lts.Need-loop-again (read-fields-claims t) (read-fields-at t) read-fields.Post read-fields-Inv-loop read-fields-μ-loop
 read-fields-loop-again t c = (fields-more _ _ _ _ _ _ _ _ _ (c .before .before .before .before .before .before .before .before .before .before .before .before .before .before .before .before .before .before .before .pre .1 .1) _ (c .before .before .before .before .before .before .before .before .before .before .before .before .before .before .before .loop .inv .0) _ _ (c .before .before .before .before .before .before .before .before .before .before .before .before .before .open-field .ensures .0) _ _ (c .before .before .before .before .before .before .before .before .before .child .given .1) _ (c .before .before .before .before .before .before .before .read-name .ensures) _ _ (c .before .before .before .before .before .read-named .ensures .0) _ _ (c .before .behind .given .1), traced-ready _ _ _ _ (c .before .before .before .before .before .read-named .ensures .1) _ _ (c .before .behind .given .1) _ (field-still _ _ _ _ (c .before .before .before .before .before .before .before .before .before .before .before .before .before .open-field .ensures .1) _ _ _ (c .before .before .before .before .before .before .before .before .before .child .given .1) (c .before .before .before .before .before .before .before .before .before .before .before .before .before .before .before .loop .inv .1 .here)), le-trans (c .before .before .before .before .before .before .before .before .before .before .before .before .before .before .before .loop .inv .2) (le-trans (field-grows _ _ _ _ (c .before .before .before .before .before .before .before .before .before .before .before .before .before .open-field .ensures .1) _ _ (c .before .before .before .before .before .before .before .before .before .child .given .1)) (traced-grows _ _ _ _ (c .before .before .before .before .before .read-named .ensures .1) _ _ (c .before .behind .given .1))), search needs)
 
--- src/lib.rt:686:33
 read-fields-enum-known-refusal-2 : (t : ℕ) → read-fields-lts.Need-enum-known-refusal-2 (read-fields-claims t) (read-fields-at t) read-fields.Post read-fields-Inv-loop read-fields-μ-loop
 read-fields-enum-known-refusal-2 t c = search needs
 
--- src/lib.rt:687:21
 read-fields-same-length-3 : (t : ℕ) → read-fields-lts.Need-same-length-3 (read-fields-claims t) (read-fields-at t) read-fields.Post read-fields-Inv-loop read-fields-μ-loop
 read-fields-same-length-3 t c = search needs
 
--- src/lib.rt:687:21
 read-fields-returns-3 : (t : ℕ) → read-fields-lts.Need-returns-3 (read-fields-claims t) (read-fields-at t) read-fields.Post read-fields-Inv-loop read-fields-μ-loop
 read-fields-returns-3 t c = (fields-stopped _ _ _ _ _ _ _ _ _ (c .before .before .before .before .before .before .before .before .before .before .before .before .before .before .before .before .before .before .before .pre .1 .1) _ (c .before .before .before .before .before .before .before .before .before .before .before .before .before .before .before .loop .inv .0) _ _ (c .before .before .before .before .before .before .before .before .before .before .before .before .before .open-field .ensures .0) _ _ (c .before .before .before .before .before .before .before .before .before .child .given .1) _ (c .before .before .before .before .before .before .before .read-name .ensures) _ _ (c .before .before .before .before .before .read-named .ensures .0) _ _ (c .before .refusal2 .given .1), search needs)
 
--- src/lib.rt:429:9
 read-named-past-marks-requires : (t : ℕ) → read-named-lts.Need-past-marks-requires (read-named-claims t) (read-named-at t) read-named.Post
 read-named-past-marks-requires t c κs = search (is-place, has-room, needs)
 
--- src/lib.rt:430:11
 read-named-leaf-at-requires : (t : ℕ) → read-named-lts.Need-leaf-at-requires (read-named-claims t) (read-named-at t) read-named.Post
 read-named-leaf-at-requires t c κs = search needs
 
--- src/lib.rt:431:21
 read-named-enum-known-null : (t : ℕ) → read-named-lts.Need-enum-known-null (read-named-claims t) (read-named-at t) read-named.Post
 read-named-enum-known-null t c = search needs
 
--- src/lib.rt:431:42
 read-named-observe-requires : (t : ℕ) → read-named-lts.Need-observe-requires (read-named-claims t) (read-named-at t) read-named.Post
 read-named-observe-requires t c κs = search (is-place, has-room, past-ready, needs)
 
--- src/lib.rt:443:17
 read-named-enum-told : (t : ℕ) → read-named-lts.Need-enum-told (read-named-claims t) (read-named-at t) read-named.Post
 read-named-enum-told t c = search needs
 
--- src/lib.rt:443:17
 read-named-lower-requires : (t : ℕ) → read-named-lts.Need-lower-requires (read-named-claims t) (read-named-at t) read-named.Post
 read-named-lower-requires t c κs = search needs
 
--- src/lib.rt:444:13
 read-named-read-parted-requires : (t : ℕ) → read-named-lts.Need-read-parted-requires (read-named-claims t) (read-named-at t) read-named.Post
 read-named-read-parted-requires t c κs = (search (falls-named, needs), search (past-ready, needs))
 
--- src/lib.rt:414:1
 read-named-same-length : (t : ℕ) → read-named-lts.Need-same-length (read-named-claims t) (read-named-at t) read-named.Post
 read-named-same-length t c = search needs
 
--- src/lib.rt:414:1
 read-named-returns : (t : ℕ) → read-named-lts.Need-returns (read-named-claims t) (read-named-at t) read-named.Post
 read-named-returns t c = (search (value-leaf, needs), search (observed-sound, past-ready, needs))
 
--- src/lib.rt:414:1
 read-named-same-length-2 : (t : ℕ) → read-named-lts.Need-same-length-2 (read-named-claims t) (read-named-at t) read-named.Post
 read-named-same-length-2 t c = search needs
 
--- src/lib.rt:414:1
 read-named-returns-2 : (t : ℕ) → read-named-lts.Need-returns-2 (read-named-claims t) (read-named-at t) read-named.Post
 read-named-returns-2 t c = (search (named-parted, needs), search needs)
 
--- src/lib.rt:861:11
 read-part-hold-requires : (t : ℕ) → read-part-lts.Need-hold-requires (read-part-claims t) (read-part-at t) read-part.Post
 read-part-hold-requires t c κs = search (unnamed, needs)
 
--- src/lib.rt:862:24
 read-part-enum-known-child : (t : ℕ) → read-part-lts.Need-enum-known-child (read-part-claims t) (read-part-at t) read-part.Post
 read-part-enum-known-child t c = search needs
 
--- src/lib.rt:862:40
 read-part-read-value-requires : (t : ℕ) → read-part-lts.Need-read-value-requires (read-part-claims t) (read-part-at t) read-part.Post
 read-part-read-value-requires t c κs = (search needs, search (held-ready, needs))
 
--- src/lib.rt:872:26
 read-part-enum-known-refusal : (t : ℕ) → read-part-lts.Need-enum-known-refusal (read-part-claims t) (read-part-at t) read-part.Post
 read-part-enum-known-refusal t c = search needs
 
--- src/lib.rt:845:1
 read-part-same-length : (t : ℕ) → read-part-lts.Need-same-length (read-part-claims t) (read-part-at t) read-part.Post
 read-part-same-length t c = search needs
 
--- src/lib.rt:845:1
 read-part-returns : (t : ℕ) → read-part-lts.Need-returns (read-part-claims t) (read-part-at t) read-part.Post
 read-part-returns t c = (search (part-child, needs), search (held-from, needs))
 
--- src/lib.rt:845:1
 read-part-same-length-2 : (t : ℕ) → read-part-lts.Need-same-length-2 (read-part-claims t) (read-part-at t) read-part.Post
 read-part-same-length-2 t c = search needs
 
--- src/lib.rt:845:1
 read-part-returns-2 : (t : ℕ) → read-part-lts.Need-returns-2 (read-part-claims t) (read-part-at t) read-part.Post
 read-part-returns-2 t c = (search (part-refused, needs), search needs)
 
--- src/lib.rt:472:8
 read-parted-is-struct-at-requires : (t : ℕ) → read-parted-lts.Need-is-struct-at-requires (read-parted-claims t) (read-parted-at t) read-parted.Post
 read-parted-is-struct-at-requires t c κs = search needs
 
--- src/lib.rt:480:13
 read-parted-add-read-container : (t : ℕ) → read-parted-lts.Need-add-read-container (read-parted-claims t) (read-parted-at t) read-parted.Post
 read-parted-add-read-container t c = search (struct-fits, needs)
 
--- src/lib.rt:473:9
 read-parted-read-container-requires : (t : ℕ) → read-parted-lts.Need-read-container-requires (read-parted-claims t) (read-parted-at t) read-parted.Post
 read-parted-read-container-requires t c κs = (search needs, (search needs, search struct-parted))
 
--- src/lib.rt:473:9
 read-parted-same-length : (t : ℕ) → read-parted-lts.Need-same-length (read-parted-claims t) (read-parted-at t) read-parted.Post
 read-parted-same-length t c = search needs
 
--- src/lib.rt:473:9
 read-parted-returns : (t : ℕ) → read-parted-lts.Need-returns (read-parted-claims t) (read-parted-at t) read-parted.Post
 read-parted-returns t c = (search (parted-struct, flagged, needs), search needs)
 
--- src/lib.rt:487:9
 read-parted-read-command-requires : (t : ℕ) → read-parted-lts.Need-read-command-requires (read-parted-claims t) (read-parted-at t) read-parted.Post
 read-parted-read-command-requires t c κs = search needs
 
--- src/lib.rt:488:23
 read-parted-enum-known-read : (t : ℕ) → read-parted-lts.Need-enum-known-read (read-parted-claims t) (read-parted-at t) read-parted.Post
 read-parted-enum-known-read t c = search needs
 
--- src/lib.rt:489:32
 read-parted-enum-told : (t : ℕ) → read-parted-lts.Need-enum-told (read-parted-claims t) (read-parted-at t) read-parted.Post
 read-parted-enum-told t c = search needs
 
--- src/lib.rt:489:32
 read-parted-refusal-requires : (t : ℕ) → read-parted-lts.Need-refusal-requires (read-parted-claims t) (read-parted-at t) read-parted.Post
 read-parted-refusal-requires t c κs = search needs
 
--- src/lib.rt:489:48
 read-parted-place-requires : (t : ℕ) → read-parted-lts.Need-place-requires (read-parted-claims t) (read-parted-at t) read-parted.Post
 read-parted-place-requires t c κs = search needs
 
--- src/lib.rt:489:9
 read-parted-returns-2 : (t : ℕ) → read-parted-lts.Need-returns-2 (read-parted-claims t) (read-parted-at t) read-parted.Post
 read-parted-returns-2 t c = (search (parted-refused, needs), search needs)
 
--- src/lib.rt:491:11
 read-parted-shape-of-requires : (t : ℕ) → read-parted-lts.Need-shape-of-requires (read-parted-claims t) (read-parted-at t) read-parted.Post
 read-parted-shape-of-requires t c κs = search (text-inside, needs)
 
--- src/lib.rt:492:21
 read-parted-enum-known-null : (t : ℕ) → read-parted-lts.Need-enum-known-null (read-parted-claims t) (read-parted-at t) read-parted.Post
 read-parted-enum-known-null t c = search needs
 
--- src/lib.rt:492:36
 read-parted-observe-requires : (t : ℕ) → read-parted-lts.Need-observe-requires (read-parted-claims t) (read-parted-at t) read-parted.Post
 read-parted-observe-requires t c κs = search (is-place, has-room, needs)
 
--- src/lib.rt:503:22
 read-parted-enum-known-kind : (t : ℕ) → read-parted-lts.Need-enum-known-kind (read-parted-claims t) (read-parted-at t) read-parted.Post
 read-parted-enum-known-kind t c = search needs
 
--- src/lib.rt:503:34
 read-parted-read-container-requires-2 : (t : ℕ) → read-parted-lts.Need-read-container-requires-2 (read-parted-claims t) (read-parted-at t) read-parted.Post
 read-parted-read-container-requires-2 t c κs = (search needs, (search needs, search (parts-parted, needs)))
 
--- src/lib.rt:516:24
 read-parted-enum-known-number : (t : ℕ) → read-parted-lts.Need-enum-known-number (read-parted-claims t) (read-parted-at t) read-parted.Post
 read-parted-enum-known-number t c = search needs
 
--- src/lib.rt:516:51
 read-parted-read-variant-requires : (t : ℕ) → read-parted-lts.Need-read-variant-requires (read-parted-claims t) (read-parted-at t) read-parted.Post
 read-parted-read-variant-requires t c κs = (search needs, (search needs, search (variant-good, needs)))
 
--- src/lib.rt:530:43
 read-parted-enum-told-2 : (t : ℕ) → read-parted-lts.Need-enum-told-2 (read-parted-claims t) (read-parted-at t) read-parted.Post
 read-parted-enum-told-2 t c = search needs
 
--- src/lib.rt:459:1
 read-parted-same-length-2 : (t : ℕ) → read-parted-lts.Need-same-length-2 (read-parted-claims t) (read-parted-at t) read-parted.Post
 read-parted-same-length-2 t c = search needs
 
--- src/lib.rt:459:1
 read-parted-returns-3 : (t : ℕ) → read-parted-lts.Need-returns-3 (read-parted-claims t) (read-parted-at t) read-parted.Post
 read-parted-returns-3 t c = (search (parted-leaf, needs), search (observed-sound, needs))
 
--- src/lib.rt:459:1
 read-parted-same-length-3 : (t : ℕ) → read-parted-lts.Need-same-length-3 (read-parted-claims t) (read-parted-at t) read-parted.Post
 read-parted-same-length-3 t c = search needs
 
--- src/lib.rt:459:1
 read-parted-returns-4 : (t : ℕ) → read-parted-lts.Need-returns-4 (read-parted-claims t) (read-parted-at t) read-parted.Post
 read-parted-returns-4 t c = (search (parted-parts, needs), search needs)
 
--- src/lib.rt:459:1
 read-parted-same-length-4 : (t : ℕ) → read-parted-lts.Need-same-length-4 (read-parted-claims t) (read-parted-at t) read-parted.Post
 read-parted-same-length-4 t c = search needs
 
--- src/lib.rt:459:1
 read-parted-returns-5 : (t : ℕ) → read-parted-lts.Need-returns-5 (read-parted-claims t) (read-parted-at t) read-parted.Post
 read-parted-returns-5 t c = (search (parted-variant, needs), search needs)
 
--- src/lib.rt:459:1
 read-parted-returns-6 : (t : ℕ) → read-parted-lts.Need-returns-6 (read-parted-claims t) (read-parted-at t) read-parted.Post
 read-parted-returns-6 t c = (search (parted-none, needs), search needs)
 
--- src/lib.rt:595:8
 read-parts-is-struct-requires : (t : ℕ) → read-parts-lts.Need-is-struct-requires (read-parts-claims t) (read-parts-at t) read-parts.Post
 read-parts-is-struct-requires t c κs = search needs
 
--- src/lib.rt:596:9
 read-parts-read-fields-requires : (t : ℕ) → read-parts-lts.Need-read-fields-requires (read-parts-claims t) (read-parts-at t) read-parts.Post
 read-parts-read-fields-requires t c κs = (search needs, (search needs, search (flagged, needs)))
 
--- src/lib.rt:596:9
 read-parts-same-length : (t : ℕ) → read-parts-lts.Need-same-length (read-parts-claims t) (read-parts-at t) read-parts.Post
 read-parts-same-length t c = search needs
 
--- src/lib.rt:596:9
 read-parts-returns : (t : ℕ) → read-parts-lts.Need-returns (read-parts-claims t) (read-parts-at t) read-parts.Post
 read-parts-returns t c = (search (by-fields, flagged, needs), search needs)
 
--- src/lib.rt:609:9
 read-parts-read-elements-requires : (t : ℕ) → read-parts-lts.Need-read-elements-requires (read-parts-claims t) (read-parts-at t) read-parts.Post
 read-parts-read-elements-requires t c κs = (search needs, search needs)
 
--- src/lib.rt:609:9
 read-parts-same-length-2 : (t : ℕ) → read-parts-lts.Need-same-length-2 (read-parts-claims t) (read-parts-at t) read-parts.Post
 read-parts-same-length-2 t c = search needs
 
--- src/lib.rt:609:9
 read-parts-returns-2 : (t : ℕ) → read-parts-lts.Need-returns-2 (read-parts-claims t) (read-parts-at t) read-parts.Post
 read-parts-returns-2 t c = (search (by-elements, needs), search needs)
 
--- src/lib.rt:621:9
 read-parts-read-entries-requires : (t : ℕ) → read-parts-lts.Need-read-entries-requires (read-parts-claims t) (read-parts-at t) read-parts.Post
 read-parts-read-entries-requires t c κs = (search needs, search needs)
 
--- src/lib.rt:621:9
 read-parts-same-length-3 : (t : ℕ) → read-parts-lts.Need-same-length-3 (read-parts-claims t) (read-parts-at t) read-parts.Post
 read-parts-same-length-3 t c = search needs
 
--- src/lib.rt:621:9
 read-parts-returns-3 : (t : ℕ) → read-parts-lts.Need-returns-3 (read-parts-claims t) (read-parts-at t) read-parts.Post
 read-parts-returns-3 t c = (search (by-entries, needs), search needs)
 
--- src/lib.rt:632:5
 read-parts-read-positions-requires : (t : ℕ) → read-parts-lts.Need-read-positions-requires (read-parts-claims t) (read-parts-at t) read-parts.Post
 read-parts-read-positions-requires t c κs = (search needs, search needs)
 
--- src/lib.rt:579:1
 read-parts-same-length-4 : (t : ℕ) → read-parts-lts.Need-same-length-4 (read-parts-claims t) (read-parts-at t) read-parts.Post
 read-parts-same-length-4 t c = search needs
 
--- src/lib.rt:579:1
 read-parts-returns-4 : (t : ℕ) → read-parts-lts.Need-returns-4 (read-parts-claims t) (read-parts-at t) read-parts.Post
 read-parts-returns-4 t c = (search (by-positions, needs), search needs)
 
@@ -863,159 +726,120 @@ read-positions-Inv-loop commands text options positions start levels place count
 abbrev read-positions-μ-loop : read-positions-lts.MeasureT-loop
 read-positions-μ-loop commands text options positions start levels place count table₀ i₀ at₀ places₀ table i at places = length commands - at
 
--- src/lib.rt:810:5
 read-positions-loop-holds : (t : ℕ) → read-positions-lts.Need-loop-holds (read-positions-claims t) (read-positions-at t) read-positions.Post read-positions-Inv-loop read-positions-μ-loop
 read-positions-loop-holds t c = search needs
 
--- src/lib.rt:811:15
 read-positions-value-part-requires : (t : ℕ) → read-positions-lts.Need-value-part-requires (read-positions-claims t) (read-positions-at t) read-positions.Post read-positions-Inv-loop read-positions-μ-loop
 read-positions-value-part-requires t c κs = search needs
 
--- src/lib.rt:812:25
 read-positions-enum-known-behind : (t : ℕ) → read-positions-lts.Need-enum-known-behind (read-positions-claims t) (read-positions-at t) read-positions.Post read-positions-Inv-loop read-positions-μ-loop
 read-positions-enum-known-behind t c = search needs
 
--- src/lib.rt:813:17
 read-positions-same-length : (t : ℕ) → read-positions-lts.Need-same-length (read-positions-claims t) (read-positions-at t) read-positions.Post read-positions-Inv-loop read-positions-μ-loop
 read-positions-same-length t c = search needs
 
--- src/lib.rt:813:17
 read-positions-returns : (t : ℕ) → read-positions-lts.Need-returns (read-positions-claims t) (read-positions-at t) read-positions.Post read-positions-Inv-loop read-positions-μ-loop
 read-positions-returns t c = (search (parts-end, position-part, needs), search needs)
 
--- src/lib.rt:815:27
 read-positions-enum-known-refusal : (t : ℕ) → read-positions-lts.Need-enum-known-refusal (read-positions-claims t) (read-positions-at t) read-positions.Post read-positions-Inv-loop read-positions-μ-loop
 read-positions-enum-known-refusal t c = search needs
 
--- src/lib.rt:816:17
 read-positions-same-length-2 : (t : ℕ) → read-positions-lts.Need-same-length-2 (read-positions-claims t) (read-positions-at t) read-positions.Post read-positions-Inv-loop read-positions-μ-loop
 read-positions-same-length-2 t c = search needs
 
--- src/lib.rt:816:17
 read-positions-returns-2 : (t : ℕ) → read-positions-lts.Need-returns-2 (read-positions-claims t) (read-positions-at t) read-positions.Post read-positions-Inv-loop read-positions-μ-loop
 read-positions-returns-2 t c = (search (parts-refused, position-part, needs), search needs)
 
--- src/lib.rt:818:24
 read-positions-enum-known-step : (t : ℕ) → read-positions-lts.Need-enum-known-step (read-positions-claims t) (read-positions-at t) read-positions.Post read-positions-Inv-loop read-positions-μ-loop
 read-positions-enum-known-step t c = search needs
 
--- src/lib.rt:818:46
 read-positions-read-part-requires : (t : ℕ) → read-positions-lts.Need-read-part-requires (read-positions-claims t) (read-positions-at t) read-positions.Post read-positions-Inv-loop read-positions-μ-loop
 read-positions-read-part-requires t c κs = (search needs, (search needs, search (part-unnamed, needs)))
 
--- src/lib.rt:830:30
 read-positions-enum-known-behind-2 : (t : ℕ) → read-positions-lts.Need-enum-known-behind-2 (read-positions-claims t) (read-positions-at t) read-positions.Post read-positions-Inv-loop read-positions-μ-loop
 read-positions-enum-known-behind-2 t c = search needs
 
--- src/lib.rt:834:33
 read-positions-enum-known-refusal-2 : (t : ℕ) → read-positions-lts.Need-enum-known-refusal-2 (read-positions-claims t) (read-positions-at t) read-positions.Post read-positions-Inv-loop read-positions-μ-loop
 read-positions-enum-known-refusal-2 t c = search needs
 
--- src/lib.rt:835:21
 read-positions-same-length-3 : (t : ℕ) → read-positions-lts.Need-same-length-3 (read-positions-claims t) (read-positions-at t) read-positions.Post read-positions-Inv-loop read-positions-μ-loop
 read-positions-same-length-3 t c = search needs
 
--- src/lib.rt:835:21
 read-positions-returns-3 : (t : ℕ) → read-positions-lts.Need-returns-3 (read-positions-claims t) (read-positions-at t) read-positions.Post read-positions-Inv-loop read-positions-μ-loop
 read-positions-returns-3 t c = (search (parts-stopped, position-part, needs), search needs)
 
--- src/lib.rt:839:9
 read-positions-add-i : (t : ℕ) → read-positions-lts.Need-add-i (read-positions-claims t) (read-positions-at t) read-positions.Post read-positions-Inv-loop read-positions-μ-loop
 read-positions-add-i t c = search needs
 
--- src/lib.rt:810:5
 read-positions-loop-less : (t : ℕ) → read-positions-lts.Need-loop-less (read-positions-claims t) (read-positions-at t) read-positions.Post read-positions-Inv-loop read-positions-μ-loop
 read-positions-loop-less t c = parts-less _ _ _ _ _ _ _ _ _ _ _ _ (c .before .before .before .before .before .before .before .before .before .before .before .before .loop .inv .0) _ (position-part _ _ _ _ _ _ (c .before .before .before .before .before .before .before .before .before .before .before .loop-test .taken) (c .before .before .before .before .before .before .before .before .before .before .value-part .ensures)) _ _ (c .before .before .before .before .before .before .before .before .step .given .1) _ _ (c .before .before .before .before .before .read-part .ensures .0) _ _ (c .before .behind2 .given .1) _ (le-refl _)
 
--- src/lib.rt:810:5
 read-positions-loop-again : (t : ℕ) → read-positions-lts.Need-loop-again (read-positions-claims t) (read-positions-at t) read-positions.Post read-positions-Inv-loop read-positions-μ-loop
 read-positions-loop-again t c = (parts-more _ _ _ _ _ _ _ _ _ _ _ _ (c .before .before .before .before .before .before .before .before .before .before .before .before .loop .inv .0) _ (position-part _ _ _ _ _ _ (c .before .before .before .before .before .before .before .before .before .before .before .loop-test .taken) (c .before .before .before .before .before .before .before .before .before .before .value-part .ensures)) _ _ (c .before .before .before .before .before .before .before .before .step .given .1) _ _ (c .before .before .before .before .before .read-part .ensures .0) _ _ (c .before .behind2 .given .1), search (traced-ready, needs), le-trans (c .before .before .before .before .before .before .before .before .before .before .before .before .loop .inv .2) (traced-grows _ _ _ _ (c .before .before .before .before .before .read-part .ensures .1) _ _ (c .before .behind2 .given .1)), search needs, search needs)
 
--- src/lib.rt:793:1
 read-positions-same-length-4 : (t : ℕ) → read-positions-lts.Need-same-length-4 (read-positions-claims t) (read-positions-at t) read-positions.Post read-positions-Inv-loop read-positions-μ-loop
 read-positions-same-length-4 t c = search needs
 
--- src/lib.rt:793:1
 read-positions-returns-4 : (t : ℕ) → read-positions-lts.Need-returns-4 (read-positions-claims t) (read-positions-at t) read-positions.Post read-positions-Inv-loop read-positions-μ-loop
 read-positions-returns-4 t c = (parts-end _ _ _ _ _ _ _ _ _ _ _ _ (c .before .loop .inv .0) _ (positions-end _ _ _ _ _ (search needs)) _ refl, search needs)
 
--- src/lib.rt:387:9
 read-value-past-marks-requires : (t : ℕ) → read-value-lts.Need-past-marks-requires (read-value-claims t) (read-value-at t) read-value.Post
 read-value-past-marks-requires t c κs = search (is-place, has-room, needs)
 
--- src/lib.rt:388:11
 read-value-leaf-at-requires : (t : ℕ) → read-value-lts.Need-leaf-at-requires (read-value-claims t) (read-value-at t) read-value.Post
 read-value-leaf-at-requires t c κs = search needs
 
--- src/lib.rt:389:21
 read-value-enum-known-null : (t : ℕ) → read-value-lts.Need-enum-known-null (read-value-claims t) (read-value-at t) read-value.Post
 read-value-enum-known-null t c = search needs
 
--- src/lib.rt:389:42
 read-value-observe-requires : (t : ℕ) → read-value-lts.Need-observe-requires (read-value-claims t) (read-value-at t) read-value.Post
 read-value-observe-requires t c κs = search (is-place, has-room, past-ready, needs)
 
--- src/lib.rt:408:13
 read-value-enum-told : (t : ℕ) → read-value-lts.Need-enum-told (read-value-claims t) (read-value-at t) read-value.Post
 read-value-enum-told t c = search needs
 
--- src/lib.rt:400:24
 read-value-read-parted-requires : (t : ℕ) → read-value-lts.Need-read-parted-requires (read-value-claims t) (read-value-at t) read-value.Post
 read-value-read-parted-requires t c κs = (search needs, search (past-ready, needs))
 
--- src/lib.rt:374:1
 read-value-same-length : (t : ℕ) → read-value-lts.Need-same-length (read-value-claims t) (read-value-at t) read-value.Post
 read-value-same-length t c = search needs
 
--- src/lib.rt:374:1
 read-value-returns : (t : ℕ) → read-value-lts.Need-returns (read-value-claims t) (read-value-at t) read-value.Post
 read-value-returns t c = (search (value-leaf, needs), search (observed-sound, past-ready, needs))
 
--- src/lib.rt:374:1
 read-value-same-length-2 : (t : ℕ) → read-value-lts.Need-same-length-2 (read-value-claims t) (read-value-at t) read-value.Post
 read-value-same-length-2 t c = search needs
 
--- src/lib.rt:374:1
 read-value-returns-2 : (t : ℕ) → read-value-lts.Need-returns-2 (read-value-claims t) (read-value-at t) read-value.Post
 read-value-returns-2 t c = (search (value-parted, needs), search needs)
 
--- src/lib.rt:895:11
 read-variant-open-variant-requires : (t : ℕ) → read-variant-lts.Need-open-variant-requires (read-variant-claims t) (read-variant-at t) read-variant.Post
 read-variant-open-variant-requires t c κs = search needs
 
--- src/lib.rt:905:24
 read-variant-enum-known-child : (t : ℕ) → read-variant-lts.Need-enum-known-child (read-variant-claims t) (read-variant-at t) read-variant.Post
 read-variant-enum-known-child t c = search needs
 
--- src/lib.rt:906:31
 read-variant-sub-lower : (t : ℕ) → read-variant-lts.Need-sub-lower (read-variant-claims t) (read-variant-at t) read-variant.Post
 read-variant-sub-lower t c = search (chosen-left, needs)
 
--- src/lib.rt:906:17
 read-variant-lower-requires : (t : ℕ) → read-variant-lts.Need-lower-requires (read-variant-claims t) (read-variant-at t) read-variant.Post
 read-variant-lower-requires t c κs = search needs
 
--- src/lib.rt:907:13
 read-variant-read-contents-requires : (t : ℕ) → read-variant-lts.Need-read-contents-requires (read-variant-claims t) (read-variant-at t) read-variant.Post
 read-variant-read-contents-requires t c κs = (search (falls-contents, chosen-left, needs), search (held-ready, needs))
 
--- src/lib.rt:920:26
 read-variant-enum-known-refusal : (t : ℕ) → read-variant-lts.Need-enum-known-refusal (read-variant-claims t) (read-variant-at t) read-variant.Post
 read-variant-enum-known-refusal t c = search needs
 
--- src/lib.rt:877:1
 read-variant-same-length : (t : ℕ) → read-variant-lts.Need-same-length (read-variant-claims t) (read-variant-at t) read-variant.Post
 read-variant-same-length t c = search needs
 
--- src/lib.rt:877:1
 read-variant-returns : (t : ℕ) → read-variant-lts.Need-returns (read-variant-claims t) (read-variant-at t) read-variant.Post
 read-variant-returns t c = (search (variant-child, chosen-left, needs), search (chosen-from, needs))
 
--- src/lib.rt:877:1
 read-variant-same-length-2 : (t : ℕ) → read-variant-lts.Need-same-length-2 (read-variant-claims t) (read-variant-at t) read-variant.Post
 read-variant-same-length-2 t c = search needs
 
--- src/lib.rt:877:1
 read-variant-returns-2 : (t : ℕ) → read-variant-lts.Need-returns-2 (read-variant-claims t) (read-variant-at t) read-variant.Post
 read-variant-returns-2 t c = (search (variant-refused, needs), search needs)
 

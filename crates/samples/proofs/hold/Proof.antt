@@ -1,38 +1,31 @@
+-- `hold`: a child held, or a refusal.
 use borrow.Author.Needs.{needs}
 use Rattle.samples.specs.Ways.{held-child, held-refused}
 use Rattle.samples.specs.Table.{is-place, child-place, child-room, child-held}
 use Rattle.samples.proofs.hold.Statement.{statement}
 use Rattle.samples.proofs.hold.Tie as tie
 
--- src/lib.rt:256:11
 ensure-requires : tie.Need-ensure-requires
 ensure-requires c κs = search needs
 
--- src/lib.rt:257:24
 enum-known-child : tie.Need-enum-known-child
 enum-known-child c = search needs
 
--- src/lib.rt:258:13
 touch-requires : tie.Need-touch-requires
 touch-requires c κs = search (is-place, child-place, child-room, needs)
 
--- src/lib.rt:261:26
 enum-known-refusal : tie.Need-enum-known-refusal
 enum-known-refusal c = search needs
 
--- src/lib.rt:252:1
 same-length : tie.Need-same-length
 same-length c = search needs
 
--- src/lib.rt:252:1
 returns : tie.Need-returns
 returns c = (search (held-child, needs), child-held _ _ _ (c .before .before .before .before .before .before .before .before .before .ensure .ensures .1) _ _ (c .before .before .before .before .before .child .given .1) _ _ (c .before .before .touch .ensures))
 
--- src/lib.rt:252:1
 same-length-2 : tie.Need-same-length-2
 same-length-2 c = search needs
 
--- src/lib.rt:252:1
 returns-2 : tie.Need-returns-2
 returns-2 c = (search (held-refused, needs), search needs)
 

@@ -1,42 +1,34 @@
+-- `open_field`: a name, the end, or a refusal.
 use borrow.Author.Needs.{needs}
 use Rattle.shapes.specs.Field.{field-inside}
 use Rattle.samples.specs.Ways.{opened-named, opened-ended, opened-refused}
 use Rattle.samples.proofs.open_field.Statement.{statement}
 use Rattle.samples.proofs.open_field.Tie as tie
 
--- src/lib.rt:366:11
 field-at-requires : tie.Need-field-at-requires
 field-at-requires c κs = search needs
 
--- src/lib.rt:367:22
 enum-known-name : tie.Need-enum-known-name
 enum-known-name c = search needs
 
--- src/lib.rt:367:31
 hold-field-requires : tie.Need-hold-field-requires
 hold-field-requires c κs = search (field-inside, needs)
 
--- src/lib.rt:368:25
 enum-told : tie.Need-enum-told
 enum-told c = search needs
 
--- src/lib.rt:369:24
 enum-known-refusal : tie.Need-enum-known-refusal
 enum-known-refusal c = search needs
 
--- src/lib.rt:354:1
 same-length : tie.Need-same-length
 same-length c = search needs
 
--- src/lib.rt:354:1
 returns : tie.Need-returns
 returns c = (search (opened-named, needs), search needs)
 
--- src/lib.rt:354:1
 returns-2 : tie.Need-returns-2
 returns-2 c = (search (opened-ended, needs), search needs)
 
--- src/lib.rt:354:1
 returns-3 : tie.Need-returns-3
 returns-3 c = (search (opened-refused, needs), search needs)
 

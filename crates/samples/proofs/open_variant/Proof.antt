@@ -1,46 +1,37 @@
+-- `open_variant`: kinds that meet, or a refusal.
 use borrow.Author.Needs.{needs}
 use Rattle.samples.specs.Ways.{holds-met, holds-unmet}
 use Rattle.samples.specs.Table.{sampled-ready}
 use Rattle.samples.proofs.open_variant.Statement.{statement}
 use Rattle.samples.proofs.open_variant.Tie as tie
 
--- src/lib.rt:304:9
 get-requires : tie.Need-get-requires
 get-requires c κs = search needs
 
--- src/lib.rt:305:11
 meet-requires : tie.Need-meet-requires
 meet-requires c κs = search needs
 
--- src/lib.rt:306:19
 enum-known-joint : tie.Need-enum-known-joint
 enum-known-joint c = search needs
 
--- src/lib.rt:307:13
 sample-requires : tie.Need-sample-requires
 sample-requires c κs = search needs
 
--- src/lib.rt:308:13
 hold-requires : tie.Need-hold-requires
 hold-requires c κs = (sampled-ready _ _ _ _ (c .before .before .before .before .before .before .before .before .before .before .before .before .before .pre .0) _ _ (c .before .before .before .sample .ensures), search needs)
 
--- src/lib.rt:310:22
 enum-known-refusal : tie.Need-enum-known-refusal
 enum-known-refusal c = search needs
 
--- src/lib.rt:290:1
 same-length : tie.Need-same-length
 same-length c = search needs
 
--- src/lib.rt:290:1
 returns : tie.Need-returns
 returns c = (search (holds-met, needs), search needs)
 
--- src/lib.rt:290:1
 same-length-2 : tie.Need-same-length-2
 same-length-2 c = search needs
 
--- src/lib.rt:290:1
 returns-2 : tie.Need-returns-2
 returns-2 c = (search (holds-unmet, needs), search needs)
 

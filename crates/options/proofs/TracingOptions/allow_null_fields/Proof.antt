@@ -1,5 +1,4 @@
 -- `TracingOptions::allow_null_fields` reads bit 0: a word divided by one is the word.
-use borrow.Author.Needs.{needs}
 use native.Mathlib.Nat.{div-one}
 use Rattle.options.proofs.TracingOptions.allow_null_fields.Statement.{statement}
 use Rattle.options.proofs.TracingOptions.allow_null_fields.Tie as tie
