@@ -154,7 +154,7 @@ pub fn read_byte(commands: &[u8], at: usize) -> u8
 }
 
 // An operand.
-pub fn read_operand(commands: &[u8], at: usize) -> u16
+fn read_operand(commands: &[u8], at: usize) -> u16
     requires { ⌜ at + 2 ≤ length (now commands) ⌝ }
     ensures { λ r. ⌜ r ≡ operandAt (now (commands .entry)) at ⌝ }
 {

@@ -44,8 +44,8 @@ bytes-known [] h = tt
 bytes-known (x ∷ xs) h = (h 0, bytes-known xs (λ i. h (suc i)))
 
 -- a sound table with fewer places is linked with more
-pub sound-more : (text t : List ℕ) (n : ℕ) → Sound text t n → Linked text t 1024
-sound-more text t n s =
+pub linked-more : (text t : List ℕ) (n : ℕ) → Sound text t n → Linked text t 1024
+linked-more text t n s =
     let k = s .linked in
     record {
       most = omega arith;

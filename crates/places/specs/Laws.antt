@@ -470,7 +470,7 @@ module _ (text t : List ℕ) (n place : ℕ) (step : Step) where
       (λ e. rw e (if-either (λ r. OnChild P (ensuring r t)) (eqName (bytesOf text (unpackedName (word t sought nameWord))) (bytesOf text (nameOf step))) (found (eqb-false sought 0 e)) tt))
 
   -- there are never fewer places than before
-  ensured-more : OnChild (λ child m. n ≤ m) (ensured text place step n t)
+  pub ensured-more : OnChild (λ child m. n ≤ m) (ensured text place step n t)
   ensured-more = ensured-says (λ child m. n ≤ m) (λ z. le-refl n) (omega arith)
 
   module _ (r : Ensured) (u : List ℕ) (child m : ℕ) (e : ensuring r u ≡ ensured text place step n t) (p : r ≡ E.Child child m) where
@@ -500,7 +500,7 @@ appended-more place i (suc left) n t =
     up (making (D.Places m) u) l = omega arith
     up (making (D.Refused refusal) u) l = tt
 
-all-more : (text t : List ℕ) (place kind positions before n : ℕ) → OnPlaces (λ m. n ≤ m) (made text place kind positions before n t)
+pub all-more : (text t : List ℕ) (place kind positions before n : ℕ) → OnPlaces (λ m. n ≤ m) (made text place kind positions before n t)
 unfolding made positionsMade
 all-more text t place kind positions before n =
     if-either More (eqb kind sequenceKind) (made-more text place _ n t) (

@@ -25,7 +25,7 @@ use Rattle.shapes.specs.declared.Step.the-variants as S
 use Rattle.shapes.specs.declared.Contents.the-variants as N
 use Rattle.shapes.specs.declared.Part.{Part}
 use Rattle.shapes.specs.declared.Part.the-variants as P
-use Rattle.shapes.specs.Steps.{noName, nameOf, Inside}
+use Rattle.shapes.specs.Steps.{Unnamed, Inside}
 use Rattle.shapes.specs.Shapes.{isParted, valuePart, partAt}
 use Rattle.shapes.specs.Laws.{step-above, step-within, sequence-part, tuple-part, map-part}
 use Rattle.places.specs.declared.Ensured.the-variants as E
@@ -184,15 +184,21 @@ step-given commands at step (R.Command command behind) other value e =
     (λ q. let d : P.Step step at ≡ P.Step other value = rw q at e in cc)
 step-given commands at step (R.Refused refusal place) other value e = let z : _≡_ {A = ℕ} 0 1 = cc in absurd (omega arith)
 
-pub part-unnamed : (commands : List ℕ) (at : ℕ) (given : Step) (answer : Read) (part : Part) → part ≡ valuePart commands given at answer → nameOf given ≡ noName → (step : Step) (value : ℕ) → part ≡ P.Step step value → nameOf step ≡ noName
-part-unnamed commands at given answer part p none step value s = ap nameOf (step-given commands at given answer step value (sym p ∙ s)) ∙ none
+pub part-unnamed : (commands : List ℕ) (at : ℕ) (given : Step) (answer : Read) (part : Part) → part ≡ valuePart commands given at answer → Unnamed given → (step : Step) (value : ℕ) → part ≡ P.Step step value → Unnamed step
+part-unnamed commands at given answer part p none step value s = rw (step-given commands at given answer step value (sym p ∙ s)) none
 
-pub entry-unnamed : (commands text : List ℕ) (i at : ℕ) (part : Part) → part ≡ partAt commands text mapKind 0 i at → (step : Step) (value : ℕ) → part ≡ P.Step step value → nameOf step ≡ noName
+pub element-unnamed : Unnamed S.Element
+element-unnamed = record { name = refl; field = λ e. omega arith }
+
+pub position-unnamed : (i : ℕ) → Unnamed (S.Position i)
+position-unnamed i = record { name = refl; field = λ e. omega arith }
+
+pub entry-unnamed : (commands text : List ℕ) (i at : ℕ) (part : Part) → part ≡ partAt commands text mapKind 0 i at → (step : Step) (value : ℕ) → part ≡ P.Step step value → Unnamed step
 unfolding partAt if_then_else_
 entry-unnamed commands text i at part p step value s =
     cases (eqb (i % 2) 0)
-    (λ q. part-unnamed commands at S.Key (readCommand commands text at D.ValueOrEnd) part (rw q at p) refl step value s)
-    (λ q. part-unnamed commands at S.Value (readCommand commands text at D.Value) part (rw q at p) refl step value s)
+    (λ q. part-unnamed commands at S.Key (readCommand commands text at D.ValueOrEnd) part (rw q at p) (record { name = refl; field = λ e. omega arith }) step value s)
+    (λ q. part-unnamed commands at S.Value (readCommand commands text at D.Value) part (rw q at p) (record { name = refl; field = λ e. omega arith }) step value s)
 
 -- ---- the fields of a struct
 -- a turn by what is opened

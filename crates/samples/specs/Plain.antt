@@ -1,4 +1,4 @@
--- A value whose command is one byte, before text: it is observed at once.
+-- A value whose command is one byte, before text, is observed where it stands.
 use mathlib.Core.Path.{_≡_, refl}
 use mathlib.Core.Bool.{false, not}
 use mathlib.Core.List.{List}

@@ -31,7 +31,7 @@ use Rattle.places.specs.Flat.{meeting, isAt, findTurn, findFrom, confirmed, ens
 use Rattle.samples.specs.declared.Traced.the-variants as T
 use Rattle.samples.specs.Flat.{Out, out, stored, observed, partRead, partsFrom, readers}
 use Rattle.samples.specs.Ways.{observe-kind, held-child, part-child}
-use Rattle.samples.specs.Loops.{elements-more}
+use Rattle.samples.specs.Loops.{element-unnamed, elements-more}
 use Rattle.shapes.specs.Leaf.{charByte, plainKind, plain-read}
 use Rattle.samples.specs.Plain.{value-plain}
 
@@ -224,7 +224,7 @@ module _ (commands text : List ℕ) (options levels place n : ℕ) (t : List ℕ
     element =
         part-child commands text options levels S.Element at at place n t t (E.Child (word t place firstWord) n)
         (held-child text t t n place S.Element (E.Child (word t place firstWord) n) (held-ensured place t held text n) (word t place firstWord) n t refl (held-touched place t held))
-        (word t place firstWord) n (out (T.Next (at + 1) n) t) refl refl
+        (word t place firstWord) n (out (T.Next (at + 1) n) t) refl element-unnamed
         (let h : kind < charByte = small in
         value-plain commands text at kind options levels (word t place firstWord) n t (out (T.Next (at + 1) n) t) byte inside (omega arith)
         (own-observed options kind levels at (at + 1) (word t place firstWord) n t own has))

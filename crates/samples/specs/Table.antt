@@ -27,7 +27,7 @@ use Rattle.places.specs.declared.Made.{Made}
 use Rattle.places.specs.declared.Made.the-variants as D
 use Rattle.places.specs.Layout.{kindWord, nullWord, firstWord, Sound, Ready}
 use Rattle.shapes.specs.Steps.{fieldCode}
-use Rattle.places.specs.Flat.{meeting, findIn, Ensuring, ensuring, ensuredBy, ensured, touched, sampled, Making, making, made, SoundEnsured, SoundMade}
+use Rattle.places.specs.Flat.{meeting, findIn, Ensuring, ensuring, ensuredBy, ensured, touched, sampled, making, made, SoundEnsured, SoundMade}
 use Rattle.places.specs.Laws.{sound-plain, sound-sampled, sound-touched, ensured-grows}
 use Rattle.places.specs.Laws as L
 use Rattle.samples.specs.declared.Opened.{Opened}
@@ -144,29 +144,13 @@ module _ (text t : List ℕ) (n : ℕ) (r : Traced) (s : SoundTraced text t n r)
         (is, ready .sound .linked .room, omega arith)
 
 -- ---- what was opened: no place is lost, and there was a level left
-module _ (n : ℕ) where
-  abbrev GrowsChild : Ensuring → Type 0
-  GrowsChild (ensuring (E.Child c k) v) = n ≤ k
-  GrowsChild (ensuring (E.Refused refusal) v) = Unit {0}
-
-  abbrev GrowsMade : Making → Type 0
-  GrowsMade (making (D.Places k) v) = n ≤ k
-  GrowsMade (making (D.Refused refusal) v) = Unit {0}
-
-  all-held : (text : List ℕ) (place : ℕ) (step : Step) (t : List ℕ) → GrowsChild (held text place step n t)
-  unfolding held
-  all-held text place step t = go (ensured text place step n t) (λ r v c k q p. ensured-grows text t n place step r v c k q p)
-    where
-      go : (x : Ensuring) → ((r : Ensured) (v : List ℕ) (c k : ℕ) → ensuring r v ≡ x → r ≡ E.Child c k → n ≤ k) → GrowsChild (holding place x)
-      go (ensuring (E.Child c k) v) h = h (E.Child c k) v c k refl refl
-      go (ensuring (E.Refused refusal) v) h = tt
-
-  all-made : (text : List ℕ) (place kind positions before : ℕ) (t : List ℕ) → GrowsMade (made text place kind positions before n t)
-  all-made text place kind positions before t = go (made text place kind positions before n t) (λ r v k q p. L.made-grows text t v n k place kind positions before r q p)
-    where
-      go : (x : Making) → ((r : Made) (v : List ℕ) (k : ℕ) → making r v ≡ x → r ≡ D.Places k → n ≤ k) → GrowsMade x
-      go (making (D.Places k) v) h = h (D.Places k) v k refl refl
-      go (making (D.Refused refusal) v) h = tt
+all-held : (n : ℕ) (text : List ℕ) (place : ℕ) (step : Step) (t : List ℕ) → L.OnChild (λ child m. n ≤ m) (held text place step n t)
+unfolding held
+all-held n text place step t = go (ensured text place step n t) (L.ensured-more text t n place step)
+  where
+    go : (x : Ensuring) → L.OnChild (λ child m. n ≤ m) x → L.OnChild (λ child m. n ≤ m) (holding place x)
+    go (ensuring (E.Child c k) v) h = h
+    go (ensuring (E.Refused refusal) v) h = tt
 
 -- a container where no level is left
 too-deep : (options kind other : ℕ) → isContainer other ≡ true → meeting options 0 kind other ≡ M.Refused F.TooDeep
@@ -185,8 +169,8 @@ module _ (text t u : List ℕ) (options levels kind positions place n : ℕ) (di
   unfolding containerMade
   opened-grows = rw (← d, e) at (go (meeting options levels (word t place kindWord) kind))
     where
-      go : (met : Met) → GrowsMade n (madeWhere t (λ joint. made text place kind positions (word t place kindWord) n (sampled place joint t)) met)
-      go (M.Kind joint) = all-made n text place kind positions (word t place kindWord) (sampled place joint t)
+      go : (met : Met) → L.OnPlaces (λ k. n ≤ k) (madeWhere t (λ joint. made text place kind positions (word t place kindWord) n (sampled place joint t)) met)
+      go (M.Kind joint) = L.all-more text (sampled place joint t) place kind positions (word t place kindWord) n
       go (M.Refused refusal) = tt
 
   pub opened-from : (r : Traced) (v : List ℕ) → SoundTraced text v m r → SoundTraced text v n r
@@ -211,7 +195,7 @@ module _ (text t u : List ℕ) (options levels number : ℕ) (name : Name) (plac
   unfolding variantHeld
   chosen-grows = rw (← d, e) at (go (meeting options levels (word t place kindWord) unionKind))
     where
-      go : (met : Met) → GrowsChild n (heldWhere t (λ joint. held text place (S.Variant number name) n (sampled place joint t)) met)
+      go : (met : Met) → L.OnChild (λ c k. n ≤ k) (heldWhere t (λ joint. held text place (S.Variant number name) n (sampled place joint t)) met)
       go (M.Kind joint) = all-held n text place (S.Variant number name) (sampled place joint t)
       go (M.Refused refusal) = tt
 

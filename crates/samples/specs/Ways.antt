@@ -27,7 +27,7 @@ use Rattle.shapes.specs.declared.Contents.{Contents}
 use Rattle.shapes.specs.declared.Contents.the-variants as N
 use Rattle.shapes.specs.declared.Shape.{Shape}
 use Rattle.shapes.specs.declared.Shape.the-variants as H
-use Rattle.shapes.specs.Steps.{fieldCode, noName, nameOf, Inside, Good}
+use Rattle.shapes.specs.Steps.{fieldCode, noName, nameOf, Unnamed, Inside, Good}
 use Rattle.shapes.specs.Laws.{no-name-good}
 use Rattle.shapes.specs.Shapes.{shapeAt, structAt}
 use Rattle.shapes.specs.Told.{struct-read, struct-inside}
@@ -227,9 +227,9 @@ unfolding dots
 no-dots text = refl
 
 module _ (commands text : List ℕ) (options levels : ℕ) (step : Step) (here at place n : ℕ) (t u : List ℕ) (did : Ensured) (d : ensuring did u ≡ held text place step n t) where
-  pub part-child : (child m : ℕ) (o : Out) → did ≡ E.Child child m → nameOf step ≡ noName → o ≡ valueAt commands text options levels at child m u → o ≡ partRead text (readers commands text options levels) step here at place n t
+  pub part-child : (child m : ℕ) (o : Out) → did ≡ E.Child child m → Unnamed step → o ≡ valueAt commands text options levels at child m u → o ≡ partRead text (readers commands text options levels) step here at place n t
   part-child child m o e k p =
-      rw (part-is text (readers commands text options levels) step here at place n t, ← d, e, k, no-dots text) (p ∙ value-here commands text options levels here at child m u)
+      rw (part-is text (readers commands text options levels) step here at place n t, ← d, e, k .name, no-dots text) (p ∙ value-here commands text options levels here at child m u)
 
   pub part-refused : (refusal : Refusal) → did ≡ E.Refused refusal → out (T.Refused refusal here) u ≡ partRead text (readers commands text options levels) step here at place n t
   part-refused refusal e = rw (part-is text (readers commands text options levels) step here at place n t, ← d, e) refl
@@ -284,8 +284,8 @@ module _ (commands text : List ℕ) (options at place n : ℕ) (t : List ℕ) (h
     value-leaf levels lower o p = p ∙ any-level levels lower ∙ leaf-parted lower ∙ value-is lower
 
 -- a step without a name has a good one
-pub unnamed : (text : List ℕ) (step : Step) → nameOf step ≡ noName → Good text (nameOf step)
-unnamed text step e = rw e (no-name-good text)
+pub unnamed : (text : List ℕ) (step : Step) → Unnamed step → Good text (nameOf step)
+unnamed text step u = rw (u .name) (no-name-good text)
 
 -- a name that was tested is good
 pub tested : (text : List ℕ) (name : Name) (good : Bool) → Inside text name → good ≡ isUtf8 (bytesOf text name) → good ≡ true → Good text name

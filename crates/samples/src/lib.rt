@@ -6,7 +6,7 @@ ghost use Prim.Native.Nat.{_-_, _<_, _≤_};
 ghost use lib.ListN.{length};
 ghost use Rattle.words.specs.Word.{word};
 ghost use Rattle.model.specs.Kinds.{sequenceKind, mapKind, tupleKind, isStruct};
-ghost use Rattle.shapes.specs.Steps.{fieldCode, noName, nameOf, Inside, Good};
+ghost use Rattle.shapes.specs.Steps.{fieldCode, codeOf, nameOf, Unnamed, Inside, Good};
 ghost use Rattle.places.specs.Layout.{firstWord, Ready, Sound};
 ghost use Rattle.places.specs.Flat.{Ensuring, Making, findIn, SoundEnsured, SoundMade};
 ghost use Rattle.samples.specs.Flat.{Chain, isMark, marked, pastMarks, Out, stored, observed, dotsIn, partRead, partsBy, containerBy, variantBy, readers, innerOf, valueAt, parted, held, containerMade, variantHeld, Opening, fieldHeld, fieldOpened, fromSamples, SoundTraced, SoundOpened};
@@ -199,9 +199,9 @@ fn past_same(commands: &[u8], at: usize, place: usize, table: &[u32]) -> usize
     past_held(commands, words::get(table, child, places::KIND), at)
 }
 
-// The child at a step, which the present sample holds.
+// The child at a step that is no field, which the present sample holds.
 fn hold(text: &[u8], place: usize, step: Step, count: usize, table: &mut [u32]) -> Ensured
-    requires { ⌜ Ready (now text) (now table) count place × Good (now text) (nameOf step) ⌝ }
+    requires { ⌜ Ready (now text) (now table) count place × Good (now text) (nameOf step) × (codeOf step ≡ fieldCode → ⊥) ⌝ }
     ensures { λ r. ⌜ (Ensuring.ensuring r (now (table .exit)) ≡ held (now (text .entry)) place step count (now (table .entry))) × SoundEnsured (now (text .entry)) (now (table .exit)) r ⌝ }
 {
     match places::ensure(text, place, step, count, table) {
@@ -322,7 +322,7 @@ fn open_field(
 }
 
 // One value at a place, with so many levels left for containers.
-pub fn read_value(
+fn read_value(
     commands: &[u8],
     text: &[u8],
     options: TracingOptions,
@@ -352,7 +352,8 @@ pub fn read_value(
     }
 }
 
-// The value of a field with that name. Only below a container do the dots of the name count.
+// The value of a field with that name. Only below a container do the dots of the name count. It is `read_value` but for
+// them, and stands apart because there it is read in the loop over the fields, with no call for a primitive.
 fn read_named(
     commands: &[u8],
     text: &[u8],
@@ -388,7 +389,8 @@ fn read_named(
     }
 }
 
-// A value past its marks, mostly a container or a variant.
+// A value past its marks: a container or a variant, or what cannot stand there. Whoever calls this has seen that it is no
+// primitive, but the contract does not ask it.
 fn read_parted(
     commands: &[u8],
     text: &[u8],
@@ -747,7 +749,7 @@ fn read_positions(
     Traced::Next(at, places)
 }
 
-// The value of a part, at the child that its step leads to. Only fields and variants have names.
+// The value of a part that is no field, at the child that its step leads to.
 fn read_part(
     commands: &[u8],
     text: &[u8],
@@ -761,7 +763,7 @@ fn read_part(
     table: &mut [u32],
 ) -> Traced
     requires { ⌜ Ready (now text) (now table) count place ⌝ }
-    requires { ⌜ nameOf step ≡ noName ⌝ }
+    requires { ⌜ Unnamed step ⌝ }
     ensures { λ r. ⌜ (Out.out r (now (table .exit)) ≡ partRead (now (text .entry)) (readers (now (commands .entry)) (now (text .entry)) (options .word) levels) step here at place count (now (table .entry))) × SoundTraced (now (text .entry)) (now (table .exit)) count r ⌝ }
 {
     match hold(text, place, step, count, table) {

@@ -43,6 +43,7 @@ abbrev pub endOr : Read → Field
 endOr (R.Command command behind) = O.Ended
 endOr (R.Refused refusal place) = O.Refused refusal
 
+-- the name that stands behind the opening byte, if it ends inside the text; else the end, or a refusal
 unfoldable pub fieldAt : List ℕ → List ℕ → ℕ → ℕ → Field
 fieldAt commands text kind at = if namedAt commands text (openerOf kind) at then O.Named (nameAt commands (at + 1)) else endOr (readCommand commands text at (dueOf kind))
 

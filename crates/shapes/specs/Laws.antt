@@ -92,9 +92,6 @@ module _ (commands text : List ℕ) (kind positions i at : ℕ) (part : Part) (e
   known : KnownPart commands text at part
   known = rw e (part-known commands text at kind positions i)
 
-  pub step-good : (step : Step) (value : ℕ) → part ≡ P.Step step value → Good text (nameOf step)
-  step-good step value h = (rw h at known) .0
-
   pub step-above : (step : Step) (value : ℕ) → part ≡ P.Step step value → at ≤ value
   step-above step value h = (rw h at known) .1
 

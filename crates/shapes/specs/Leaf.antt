@@ -45,6 +45,7 @@ abbrev pub leafRead : ℕ → List ℕ → Read → Leaf
 leafRead options text (R.Command command behind) = leafBy behind (shapeAt options text command)
 leafRead options text (R.Refused refusal place) = O.Other
 
+-- the primitive that stands where a value is due
 unfoldable pub leafAt : ℕ → List ℕ → List ℕ → ℕ → Leaf
 leafAt options commands text at = leafRead options text (readCommand commands text at D.Value)
 

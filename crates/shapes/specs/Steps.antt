@@ -34,6 +34,11 @@ nameOf (S.Field name) = name
 nameOf (S.Position i) = noName
 nameOf (S.Variant number name) = name
 
+-- a step to an element, key, value or position: it has no name
+pub record Unnamed (step : Step) : Type 0 where
+  pub name : nameOf step ≡ noName
+  pub field : codeOf step ≡ fieldCode → ⊥
+
 -- a name in one word
 abbrev pub packedName : Name → ℕ
 packedName name = name .offset * 65536 + name .length

@@ -282,7 +282,7 @@ pub fn is_struct_at(commands: &[u8], at: usize) -> bool
 }
 
 // The type of a value before text, by its byte: the byte itself, but a char is a UInt32.
-pub fn plain_kind(byte: u8) -> u32
+fn plain_kind(byte: u8) -> u32
     ensures { λ r. ⌜ r ≡ plainKind byte ⌝ }
 {
     if byte == CHAR { 8 } else { byte as u32 }

@@ -1,4 +1,4 @@
--- Laws of names: equality is equality of bytes, the order is strict and total, dots add up.
+-- Laws of names: equality is equality of bytes, the order is strict and total, dots add up; and what a tag is, by the length.
 use mathlib.Core.Path.{_≡_, refl, sym, ap, _∙_}
 use Prim.Native.Nat.{ℕ, suc, _+_, _*_, _-_, _%_, _≤_, _<_}
 use native.Mathlib.Nat.{le-refl}

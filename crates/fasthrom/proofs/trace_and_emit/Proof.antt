@@ -15,13 +15,13 @@ use Rattle.schema.specs.declared.Emitted.the-variants as E
 use Rattle.schema.specs.Emit.{answered, toSchemaAt}
 use Rattle.fasthrom.specs.declared.Outcome.the-variants as O
 use Rattle.fasthrom.specs.Call.{given, emittedFrom}
-use Rattle.fasthrom.specs.Laws.{sound-more}
+use Rattle.fasthrom.specs.Laws.{linked-more}
 use Rattle.fasthrom.proofs.trace_and_emit.Statement.{statement}
 use Rattle.fasthrom.proofs.trace_and_emit.Tie as tie
 
 module _ (text u : List ℕ) (r : Traced) (behind n : ℕ) (next : r ≡ T.Next behind n) (after : SoundTraced text u 1 r) where
   linked-after : Linked text u 1024
-  linked-after = let s : SoundTraced text u 1 (T.Next behind n) = rw next at after in sound-more text u n (s .0)
+  linked-after = let s : SoundTraced text u 1 (T.Next behind n) = rw next at after in linked-more text u n (s .0)
 
   few-after : n ≤ 1024
   few-after = let s : SoundTraced text u 1 (T.Next behind n) = rw next at after in s .0 .linked .most

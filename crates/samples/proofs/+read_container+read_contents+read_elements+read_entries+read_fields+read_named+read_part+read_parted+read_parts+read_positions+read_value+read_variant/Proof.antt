@@ -10,7 +10,7 @@ use Rattle.places.specs.Layout.{Ready}
 use Rattle.samples.specs.Flat.{partsFrom, partsBy, readers}
 use Rattle.samples.specs.Ways.{contents-unit, contents-value, contents-positions, contents-fields, value-leaf, value-parted, named-parted, unnamed, part-child, part-refused, struct-fits, parted-struct, parted-refused, parted-leaf, parted-parts, parted-variant, parted-none, container-parts, container-refused, variant-child, variant-refused}
 use Rattle.samples.specs.Same.{elements-same, same-above}
-use Rattle.samples.specs.Loops.{parts-end, parts-refused, parts-stopped, parts-more, parts-less, parts-counted, count-fits, element-part, elements-more, part-unnamed, entry-unnamed, position-part, positions-end, whole-fits, name-fits, name-whole, name-inside, end-fits, fields-ended, fields-refused, fields-stopped, fields-more, fields-less, by-fields, by-elements, by-entries, by-positions}
+use Rattle.samples.specs.Loops.{parts-end, parts-refused, parts-stopped, parts-more, parts-less, parts-counted, count-fits, element-part, elements-more, part-unnamed, element-unnamed, position-unnamed, entry-unnamed, position-part, positions-end, whole-fits, name-fits, name-whole, name-inside, end-fits, fields-ended, fields-refused, fields-stopped, fields-more, fields-less, by-fields, by-elements, by-entries, by-positions}
 use Rattle.samples.specs.Table.{is-place, has-room, past-ready, observed-sound, held-ready, held-from, opened-left, opened-ready, opened-from, chosen-left, chosen-from, field-ready, field-grows, field-still, field-ends, traced-from, traced-grows, traced-ready, traced-first, falls-parts, falls-contents, falls-named, struct-parted, tuple-parted}
 use Prim.Native.Nat.{_-_, ℕ, _+_, _*_, _<_, _≤_}
 use borrow.Fn.Kinds.{In}
@@ -394,7 +394,7 @@ read-elements-enum-known-step : (t : ℕ) → read-elements-lts.Need-enum-known-
 read-elements-enum-known-step t c = search needs
 
 read-elements-read-part-requires : (t : ℕ) → read-elements-lts.Need-read-part-requires (read-elements-claims t) (read-elements-at t) read-elements.Post read-elements-Inv-loop read-elements-μ-loop
-read-elements-read-part-requires t c κs = (search needs, (search needs, search (part-unnamed, needs)))
+read-elements-read-part-requires t c κs = (search needs, (search needs, search (part-unnamed, element-unnamed, needs)))
 
 read-elements-enum-known-behind-2 : (t : ℕ) → read-elements-lts.Need-enum-known-behind-2 (read-elements-claims t) (read-elements-at t) read-elements.Post read-elements-Inv-loop read-elements-μ-loop
 read-elements-enum-known-behind-2 t c = search needs
@@ -578,7 +578,7 @@ read-named-returns-2 : (t : ℕ) → read-named-lts.Need-returns-2 (read-named-c
 read-named-returns-2 t c = (search (named-parted, needs), search needs)
 
 read-part-hold-requires : (t : ℕ) → read-part-lts.Need-hold-requires (read-part-claims t) (read-part-at t) read-part.Post
-read-part-hold-requires t c κs = search (unnamed, needs)
+read-part-hold-requires t c κs = (search needs, search (unnamed, needs), search needs)
 
 read-part-enum-known-child : (t : ℕ) → read-part-lts.Need-enum-known-child (read-part-claims t) (read-part-at t) read-part.Post
 read-part-enum-known-child t c = search needs
@@ -754,7 +754,7 @@ read-positions-enum-known-step : (t : ℕ) → read-positions-lts.Need-enum-know
 read-positions-enum-known-step t c = search needs
 
 read-positions-read-part-requires : (t : ℕ) → read-positions-lts.Need-read-part-requires (read-positions-claims t) (read-positions-at t) read-positions.Post read-positions-Inv-loop read-positions-μ-loop
-read-positions-read-part-requires t c κs = (search needs, (search needs, search (part-unnamed, needs)))
+read-positions-read-part-requires t c κs = (search needs, (search needs, search (part-unnamed, position-unnamed, needs)))
 
 read-positions-enum-known-behind-2 : (t : ℕ) → read-positions-lts.Need-enum-known-behind-2 (read-positions-claims t) (read-positions-at t) read-positions.Post read-positions-Inv-loop read-positions-μ-loop
 read-positions-enum-known-behind-2 t c = search needs

@@ -1,5 +1,6 @@
 -- `open_variant`: kinds that meet, or a refusal.
 use borrow.Author.Needs.{needs}
+use native.Mathlib.Omega.{arith}
 use Rattle.samples.specs.Ways.{holds-met, holds-unmet}
 use Rattle.samples.specs.Table.{sampled-ready}
 use Rattle.samples.proofs.open_variant.Statement.{statement}
@@ -18,7 +19,7 @@ sample-requires : tie.Need-sample-requires
 sample-requires c κs = search needs
 
 hold-requires : tie.Need-hold-requires
-hold-requires c κs = (sampled-ready _ _ _ _ (c .before .before .before .before .before .before .before .before .before .before .before .before .before .pre .0) _ _ (c .before .before .before .sample .ensures), search needs)
+hold-requires c κs = (sampled-ready _ _ _ _ (c .before .before .before .before .before .before .before .before .before .before .before .before .before .pre .0) _ _ (c .before .before .before .sample .ensures), search needs, λ e. omega arith)
 
 enum-known-refusal : tie.Need-enum-known-refusal
 enum-known-refusal c = search needs
