@@ -64,6 +64,17 @@ impl Batch {
         self.operands(offset, name.len());
     }
 
+    /// A newtype variant, whose value follows.
+    pub fn variant(&mut self, number: usize, name: &str) {
+        let offset = match self.known.get(name) {
+            Some(&offset) => offset,
+            None => self.add(name),
+        };
+        self.value(0x19);
+        self.commands.extend(u16::try_from(number).expect("at most 65,535").to_le_bytes());
+        self.operands(offset, name.len());
+    }
+
     /// A text of its own, or an equal one before it once the text slice is full.
     pub fn text(&mut self, text: &str) {
         let offset = if self.text.len() + text.len() <= MOST {
@@ -132,6 +143,8 @@ pub enum Shape {
     Wide(usize),
     /// So many fields of names that are equally long and begin alike.
     Alike(usize),
+    /// One of so many variants a record, by turns.
+    Variants(usize),
 }
 
 impl std::fmt::Display for Shape {
@@ -144,6 +157,7 @@ impl std::fmt::Display for Shape {
             Shape::Deep => write!(f, "19 deep"),
             Shape::Wide(width) => write!(f, "{width} wide"),
             Shape::Alike(width) => write!(f, "{width} wide, names alike"),
+            Shape::Variants(width) => write!(f, "{width} variants"),
         }
     }
 }
@@ -207,6 +221,14 @@ fn deep(b: &mut Batch, _: usize) {
     }
 }
 
+fn variants(b: &mut Batch, i: usize, width: usize) {
+    b.structure();
+    b.field("event");
+    b.variant(i % width, &name(i % width));
+    b.value(0x04);
+    b.end();
+}
+
 fn numbers(b: &mut Batch, i: usize) {
     native::Soundings::new(i).write(b);
 }
@@ -221,6 +243,7 @@ impl Shape {
             Shape::Deep => batch(DEFAULT, size, deep),
             Shape::Wide(width) => batch(DEFAULT, size, |b, _| wide(b, width, name)),
             Shape::Alike(width) => batch(DEFAULT, size, |b, _| wide(b, width, |i| format!("column_{i:04}"))),
+            Shape::Variants(width) => batch(DEFAULT, size, |b, i| variants(b, i, width)),
         }
     }
 }
@@ -244,5 +267,6 @@ pub fn all() -> Vec<(Shape, Size)> {
     }
     all.extend([2, 4, 16, 64, 128, 256, 512, 1_000].map(|width| (Shape::Wide(width), Size::KiB(64))));
     all.extend([8, 32, 64, 128, 256, 512, 1_000].map(|width| (Shape::Alike(width), Size::KiB(64))));
+    all.extend([4, 32, 128].map(|width| (Shape::Variants(width), Size::KiB(64))));
     all
 }
