@@ -23,7 +23,7 @@ use Rattle.shapes.specs.declared.Part.{Part}
 use Rattle.shapes.specs.Steps.{nameOf}
 use Rattle.places.specs.Flat.{Ensuring}
 use Rattle.samples.specs.declared.Traced.the-variants as T
-use Rattle.samples.specs.Flat.{Out, out, Reader, Readers, atChild, dotsIn, partRead, State, state, afterPart, onPart, partTurn, partStop}
+use Rattle.samples.specs.Flat.{Out, out, Reader, Readers, onHeld, holding, held, dotsIn, partRead, State, state, afterPart, onPart, partTurn, partStop}
 use Rattle.places.specs.Layout.{samplesWord}
 use Rattle.refine.specs.Spots.{Spot, spot, Spots, num, stepsS, spotAt, putS, walk, walkParts}
 use Rattle.refine.specs.Steps.{nameIn, dots-of, Stands}
@@ -89,7 +89,7 @@ module _ (options : ℕ) (commands text : List ℕ) (bytes : Bytes commands) (de
     pub after-ensure : (f : ℕ) → a ≤ length commands → Fuel commands c f a → (t : List ℕ) (n : ℕ) (ks : Spots) {x₁ : Result (Counted Spots)} {y : Ensuring} → Ensures text s p b j m ks t n at x₁ y
         → Agrees text commands t n (spot p b j m ks) base
         (wrap p b j m (x₁ >>= λ r. walk options (depth + dotsOf s) (readIn f options commands text c at a .0) (r .places) (spotAt s (r .what)) >>= λ q. walkParts options depth m ((rest (readIn f options commands text c at a .1) K) .0) (q .places) (putS s m (q .what) (r .what))))
-        (after F (afterPart i (atChild inner (dotsIn text (nameOf x)) c p at a y))) ((rest (readIn f options commands text c at a .1) K) .1)
+        (after F (afterPart i (onHeld at (inner (dotsIn text (nameOf x)) c at a) (holding p y)))) ((rest (readIn f options commands text c at a .1) K) .1)
     unfolding after
     after-ensure f y z t n ks (there {n′ = n′} {ks′ = ks′} {t′ = t′} e A) =
         let w : word t′ p samplesWord ≡ m = A .fits .rep .0 2 (omega arith) in
@@ -100,7 +100,7 @@ module _ (options : ℕ) (commands text : List ℕ) (bytes : Bytes commands) (de
   module _ (k r : ℕ) where
     pub parts-sim : (g f i at n : ℕ) (t : List ℕ) (ks : Spots) → at ≤ length commands → length commands < at + g → 4 * length commands + 2 ≤ 4 * at + f → Fits text t n (spot p b j m ks)
         → Agrees text commands t n (spot p b j m ks) at (wrap p b j m (walkParts options depth m (readParts f options commands text k r i at .0) n ks)) (turns (partTurn commands text inner k r p) partStop g (state i at n t)) (readParts f options commands text k r i at .1)
-    unfolding turns after partTurn partRead walk
+    unfolding turns after partTurn partRead held walk
     parts-sim zero f i at n t ks x e z h = absurd (omega arith)
     parts-sim (suc g) zero i at n t ks x e z h = absurd (omega arith)
     parts-sim (suc g) (suc f) i at n t ks x e z h =

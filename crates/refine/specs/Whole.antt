@@ -42,10 +42,10 @@ use Rattle.places.specs.declared.Met.{Met}
 use Rattle.places.specs.declared.Met.the-variants as M
 use Rattle.places.specs.declared.Made.the-variants as L
 use Rattle.places.specs.Flat as Places
-use Rattle.places.specs.Flat.{ofJoint, meeting, linked, described, appended, Ensuring, Making, making, ofEnsuring, madeOne, thenMade, madeAll, appendedFrom, positionsMade, onward, sampled}
+use Rattle.places.specs.Flat.{ofJoint, meeting, linked, described, appended, Ensuring, Making, making, ofEnsuring, madeOne, thenMade, madeAll, appendedFrom, positionsMade, onward, sampled, ensured}
 use Rattle.samples.specs.declared.Traced.the-variants as T
 use Rattle.samples.specs.Flat as Samples
-use Rattle.samples.specs.Flat.{someByte, newtypeByte, chain, pastTurn, pastMarks, Out, out, onMet, onMade, stored, observed, Readers, State, state, afterPart, partsFrom, partsBy, opened, containerBy, variantBy, atShape, atRead, afterChain, valueBy, none-left, readers, levelLimit, recordTurn, recordStop, recordsAt, fromSamples}
+use Rattle.samples.specs.Flat.{someByte, newtypeByte, chain, pastTurn, pastMarks, Out, out, onMet, onMade, stored, observed, Readers, State, state, afterPart, partsFrom, partsBy, containerBy, variantBy, atShape, atRead, afterChain, valueBy, none-left, readers, levelLimit, recordTurn, recordStop, recordsAt, fromSamples, onHeld, holding, held, madeWhere, containerMade, heldWhere, variantHeld, dotsIn}
 use Rattle.places.specs.Layout.{kindWord, nullWord, samplesWord, firstWord, lastWord, rootWord, blockWord, nextWord, parentWord, stepWord, nameWord}
 use Rattle.refine.specs.Spots.{Spot, spot, Spots, no-spots, child, num, stepsS, newSpot, spotAt, addS, makeS, makeAllS, walk, walkParts, walkAll}
 use Rattle.refine.specs.Steps.{near, Stands}
@@ -310,14 +310,14 @@ module _ (options : ℕ) (commands text : List ℕ) (bytes : Bytes commands) (de
 
   container-sim : (k r f here at n : ℕ) (t : List ℕ) (u : Spot) → isContainer k ≡ true → at ≤ length commands → 4 * length commands + 2 ≤ 4 * at + f → Fits text t n u
       → Agrees text commands t n u at (walk options depth (val here false k r (readParts f options commands text k r 0 at .0)) n u) (containerBy commands text options levels inner k r here at (num u) n t) (readParts f options commands text k r 0 at .1)
-  unfolding walk containerBy opened if_then_else_
+  unfolding walk containerBy containerMade if_then_else_
   container-sim k r f here at n t (spot p b j₀ m ks) c y i h =
       let w : word t p kindWord ≡ j₀ = h .rep .0 0 (omega arith) in
       rw (w, meets options depth levels here j₀ k level, c, or-false b) (go (meeting options levels j₀ k) refl)
     where
       go : (x : Met) → meeting options levels j₀ k ≡ x → Agrees text commands t n (spot p b j₀ m ks) at
           (ofMet here x >>= λ j. makeAllS here (made k r j₀) n ks >>= λ q. walkParts options depth (onward m) (readParts f options commands text k r 0 at .0) (q .places) (q .what) >>= λ q. counted (q .places) (spot p b j (onward m) (q .what)))
-          (onMet here t (λ j. onMade here (partsBy commands text inner k r p at) (Places.made text p k r j₀ n (sampled p j t))) x) (readParts f options commands text k r 0 at .1)
+          (onMade here (partsBy commands text inner k r p at) (madeWhere t (λ j. Places.made text p k r j₀ n (sampled p j t)) x)) (readParts f options commands text k r 0 at .1)
       go (M.Refused x) e = balked
       go (M.Kind j) e =
           let A = sample text t n p b j₀ m ks h j in
@@ -326,7 +326,7 @@ module _ (options : ℕ) (commands text : List ℕ) (bytes : Bytes commands) (de
 
   choice-sim : (c : Contents) (k : ℕ) (name : Name) (f here at n : ℕ) (t : List ℕ) (u : Spot) → Stands text (S.Variant k name) (variant k (bytesOf text name)) → at ≤ length commands → Fuel commands c f at → Fits text t n u
       → Agrees text commands t n u at (walk options depth (val here false unionKind 0 (part here (variant k (bytesOf text name)) (readIn f options commands text c here at .0) no-parts)) n u) (variantBy text options levels inner k name c here at (num u) n t) (readIn f options commands text c here at .1)
-  unfolding walk makeAllS made variantBy Samples.chosen if_then_else_
+  unfolding walk makeAllS made variantBy variantHeld held if_then_else_
   choice-sim c k name f here at n t (spot p b j₀ m ks) st y i h =
       let w : word t p kindWord ≡ j₀ = h .rep .0 0 (omega arith) in
       rw (w, meets options depth levels here j₀ unionKind level, or-false b) (go (meeting options levels j₀ unionKind) refl)
@@ -339,7 +339,7 @@ module _ (options : ℕ) (commands text : List ℕ) (bytes : Bytes commands) (de
 
       go : (z : Met) → meeting options levels j₀ unionKind ≡ z → Agrees text commands t n (spot p b j₀ m ks) at
           (ofMet here z >>= λ j. wrap p b j (onward m) (walkParts options depth (onward m) (part here (variant k (bytesOf text name)) (readIn f options commands text c here at .0) no-parts) n ks))
-          (onMet here t (λ j. Samples.chosen text inner k name c here at p n (sampled p j t)) z) (readIn f options commands text c here at .1)
+          (onHeld here (inner (dotsIn text name) c here at) (heldWhere t (λ j. holding p (ensured text p (S.Variant k name) n (sampled p j t))) z)) (readIn f options commands text c here at .1)
       go (M.Refused x) e = balked
       go (M.Kind j) e =
           let t₂ : List ℕ = sampled p j t in

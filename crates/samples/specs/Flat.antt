@@ -77,6 +77,37 @@ abbrev pub onMade : ℕ → (ℕ → List ℕ → Out) → Making → Out
 onMade here k (making (L.Places n) t) = k n t
 onMade here k (making (L.Refused refusal) t) = out (T.Refused refusal here) t
 
+abbrev pub onHeld : ℕ → (ℕ → ℕ → List ℕ → Out) → Ensuring → Out
+onHeld here k (ensuring (E.Child child n) t) = k child n t
+onHeld here k (ensuring (E.Refused refusal) t) = out (T.Refused refusal here) t
+
+-- ---- what is opened before anything below it is read
+-- the child at a step, which the present sample holds
+abbrev pub holding : ℕ → Ensuring → Ensuring
+holding place (ensuring (E.Child child n) t) = ensuring (E.Child child n) (touched place child t)
+holding place (ensuring (E.Refused refusal) t) = ensuring (E.Refused refusal) t
+
+unfoldable pub held : List ℕ → ℕ → Step → ℕ → List ℕ → Ensuring
+held text place step n t = holding place (ensured text place step n t)
+
+-- a container meets what the place is, is one more sample there, and makes its children
+abbrev pub madeWhere : List ℕ → (ℕ → Making) → Met → Making
+madeWhere t k (M.Kind joint) = k joint
+madeWhere t k (M.Refused refusal) = making (L.Refused refusal) t
+
+unfoldable pub containerMade : List ℕ → ℕ → ℕ → ℕ → ℕ → ℕ → ℕ → List ℕ → Making
+containerMade text options levels kind positions place n t =
+    madeWhere t (λ joint. made text place kind positions (word t place kindWord) n (sampled place joint t)) (meeting options levels (word t place kindWord) kind)
+
+-- a variant meets what the place is, and is one more sample there, which holds the variant's place
+abbrev pub heldWhere : List ℕ → (ℕ → Ensuring) → Met → Ensuring
+heldWhere t k (M.Kind joint) = k joint
+heldWhere t k (M.Refused refusal) = ensuring (E.Refused refusal) t
+
+unfoldable pub variantHeld : List ℕ → ℕ → ℕ → ℕ → Name → ℕ → ℕ → List ℕ → Ensuring
+variantHeld text options levels number name place n t =
+    heldWhere t (λ joint. held text place (S.Variant number name) n (sampled place joint t)) (meeting options levels (word t place kindWord) unionKind)
+
 -- ---- a primitive at a place
 unfoldable pub stored : Bool → ℕ → ℕ → List ℕ → List ℕ
 stored null kind place t = if null then withWord (withWord t place kindWord kind) place nullWord 1 else withWord t place kindWord kind
@@ -93,16 +124,11 @@ Reader = ℕ → ℕ → ℕ → List ℕ → Out
 abbrev pub Readers : Type 0
 Readers = ℕ → Contents → ℕ → Reader
 
--- the contents at a child, which the present sample holds
-abbrev pub atChild : Readers → ℕ → Contents → ℕ → ℕ → ℕ → Ensuring → Out
-atChild inner down contents place here at (ensuring (E.Child child n) t) = inner down contents here at child n (touched place child t)
-atChild inner down contents place here at (ensuring (E.Refused refusal) t) = out (T.Refused refusal here) t
-
 abbrev pub dotsIn : List ℕ → Name → ℕ
 dotsIn text name = dots (bytesOf text name)
 
 unfoldable pub partRead : List ℕ → Readers → Step → ℕ → ℕ → ℕ → ℕ → List ℕ → Out
-partRead text inner step here at place n t = atChild inner (dotsIn text (nameOf step)) N.Value place here at (ensured text place step n t)
+partRead text inner step here at place n t = onHeld here (inner (dotsIn text (nameOf step)) N.Value here at) (held text place step n t)
 
 -- ---- the parts of a container
 pub data State : Type 0 where
@@ -132,20 +158,13 @@ abbrev pub partsBy : List ℕ → List ℕ → Readers → ℕ → ℕ → ℕ �
 partsBy commands text inner kind positions place at n t = partsFrom commands text inner kind positions place 0 at n t
 
 -- ---- a container, whose command stands at `here`, and a variant
-unfoldable pub opened : List ℕ → List ℕ → Readers → ℕ → ℕ → ℕ → ℕ → ℕ → ℕ → ℕ → ℕ → List ℕ → Out
-opened commands text inner kind positions before joint here at place n t =
-    onMade here (partsBy commands text inner kind positions place at) (made text place kind positions before n (sampled place joint t))
-
 unfoldable pub containerBy : List ℕ → List ℕ → ℕ → ℕ → Readers → ℕ → ℕ → ℕ → Reader
 containerBy commands text options levels inner kind positions here at place n t =
-    onMet here t (λ joint. opened commands text inner kind positions (word t place kindWord) joint here at place n t) (meeting options levels (word t place kindWord) kind)
-
-unfoldable pub chosen : List ℕ → Readers → ℕ → Name → Contents → ℕ → Reader
-chosen text inner number name contents here at place n t = atChild inner (dotsIn text name) contents place here at (ensured text place (S.Variant number name) n t)
+    onMade here (partsBy commands text inner kind positions place at) (containerMade text options levels kind positions place n t)
 
 unfoldable pub variantBy : List ℕ → ℕ → ℕ → Readers → ℕ → Name → Contents → ℕ → Reader
 variantBy text options levels inner number name contents here at place n t =
-    onMet here t (λ joint. chosen text inner number name contents here at place n (sampled place joint t)) (meeting options levels (word t place kindWord) unionKind)
+    onHeld here (inner (dotsIn text name) contents here at) (variantHeld text options levels number name place n t)
 
 -- ---- a value
 abbrev pub atShape : List ℕ → List ℕ → ℕ → ℕ → Readers → ℕ → ℕ → ℕ → ℕ → List ℕ → Shape → Out
@@ -188,34 +207,7 @@ valueAt commands text options levels at place n t = readers commands text option
 unfoldable pub parted : List ℕ → List ℕ → ℕ → ℕ → ℕ → ℕ → ℕ → List ℕ → Out
 parted commands text options levels here place n t = atRead commands text options levels (innerOf commands text options levels) here place n t (readCommand commands text here D.Value)
 
--- ---- what is opened before anything below it is read
--- the child at a step, which the present sample holds
-abbrev pub holding : ℕ → Ensuring → Ensuring
-holding place (ensuring (E.Child child n) t) = ensuring (E.Child child n) (touched place child t)
-holding place (ensuring (E.Refused refusal) t) = ensuring (E.Refused refusal) t
-
-unfoldable pub held : List ℕ → ℕ → Step → ℕ → List ℕ → Ensuring
-held text place step n t = holding place (ensured text place step n t)
-
--- a container meets what the place is, is one more sample there, and makes its children
-abbrev pub madeWhere : List ℕ → (ℕ → Making) → Met → Making
-madeWhere t k (M.Kind joint) = k joint
-madeWhere t k (M.Refused refusal) = making (L.Refused refusal) t
-
-unfoldable pub containerMade : List ℕ → ℕ → ℕ → ℕ → ℕ → ℕ → ℕ → List ℕ → Making
-containerMade text options levels kind positions place n t =
-    madeWhere t (λ joint. made text place kind positions (word t place kindWord) n (sampled place joint t)) (meeting options levels (word t place kindWord) kind)
-
--- a variant meets what the place is, and is one more sample there, which holds the variant's place
-abbrev pub heldWhere : List ℕ → (ℕ → Ensuring) → Met → Ensuring
-heldWhere t k (M.Kind joint) = k joint
-heldWhere t k (M.Refused refusal) = ensuring (E.Refused refusal) t
-
-unfoldable pub variantHeld : List ℕ → ℕ → ℕ → ℕ → Name → ℕ → ℕ → List ℕ → Ensuring
-variantHeld text options levels number name place n t =
-    heldWhere t (λ joint. held text place (S.Variant number name) n (sampled place joint t)) (meeting options levels (word t place kindWord) unionKind)
-
--- a field, or the end, where one is due
+-- ---- a field, or the end, where one is due
 pub data Opening : Type 0 where
   opening : Opened → List ℕ → Opening
 

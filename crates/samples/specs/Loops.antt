@@ -29,7 +29,7 @@ use Rattle.shapes.specs.Steps.{Unnamed, Inside}
 use Rattle.shapes.specs.Shapes.{isParted, valuePart, partAt}
 use Rattle.shapes.specs.Laws.{step-above, step-within, sequence-part, tuple-part, map-part}
 use Rattle.places.specs.declared.Ensured.the-variants as E
-use Rattle.places.specs.Flat.{Ensuring, ensuring, ensured}
+use Rattle.places.specs.Flat.{Ensuring, ensuring}
 use Rattle.shapes.specs.declared.Field.{Field}
 use Rattle.shapes.specs.declared.Field.the-variants as X
 use Rattle.samples.specs.declared.Opened.{Opened}
@@ -37,7 +37,7 @@ use Rattle.samples.specs.declared.Opened.the-variants as O
 use Rattle.samples.specs.declared.Traced.{Traced}
 use Rattle.samples.specs.declared.Traced.the-variants as T
 use Rattle.shapes.specs.Field.{fieldAt, partOf, field-part, field-name, field-inside, field-within, end-inside}
-use Rattle.samples.specs.Flat.{Chain, chain, isMark, marked, pastTurn, pastMarks, Out, out, Readers, atChild, dotsIn, partRead, State, state, afterPart, onPart, partTurn, partStop, partsFrom, partsBy, readers, levelLimit, valueAt, holding, held, Opening, opening, ofHeld, fieldHeld, fieldOpened, recordTurn, recordStop, recordsAt}
+use Rattle.samples.specs.Flat.{Chain, chain, isMark, marked, pastTurn, pastMarks, Out, out, Readers, dotsIn, partRead, State, state, afterPart, onPart, partTurn, partStop, partsFrom, partsBy, readers, levelLimit, valueAt, held, Opening, opening, ofHeld, fieldHeld, fieldOpened, recordTurn, recordStop, recordsAt, onHeld}
 use Rattle.samples.specs.Onward.{Moved, past-falls, leftChain, part-on, part-falls, leftState, records-fall, readers-on}
 use Rattle.samples.specs.Ways.{value-below}
 
@@ -211,14 +211,14 @@ module _ (commands text : List ℕ) (options levels place at n : ℕ) (t : List 
   afterOpened name (opening O.Ended v) = done (out (T.Next (at + 1) n) v)
   afterOpened name (opening (O.Refused refusal) v) = done (out (T.Refused refusal at) v)
 
-  by-child : (name : Name) (x : Ensuring) → afterPart 1 (atChild inner (dotsIn text name) N.Value place at (at + 5) x) ≡ afterOpened name (ofHeld (holding place x))
+  by-child : (name : Name) (x : Ensuring) → afterPart 1 (onHeld at (inner (dotsIn text name) N.Value at (at + 5)) x) ≡ afterOpened name (ofHeld x)
   by-child name (ensuring (E.Child child m) v) = refl
   by-child name (ensuring (E.Refused refusal) v) = refl
 
   by-name : (name : Name) (good : Bool) → onPart text inner place 0 at n t (if good then P.Step (S.Field name) (at + 5) else P.Refused F.BadName at)
       ≡ afterOpened name (if good then ofHeld (held text place (S.Field name) n t) else opening (O.Refused F.BadName) t)
-  unfolding partRead held if_then_else_
-  by-name name true = by-child name (ensured text place (S.Field name) n t)
+  unfolding partRead if_then_else_
+  by-name name true = by-child name (held text place (S.Field name) n t)
   by-name name false = refl
 
   by-field : (field : Field) → ((name : Name) → field ≡ X.Named name → name ≡ nameAt commands (at + 1)) →

@@ -20,9 +20,7 @@ use Rattle.commands.specs.declared.Read.the-variants as R
 use Rattle.commands.specs.declared.Due.the-variants as D
 use Rattle.commands.specs.Commands.{readCommand}
 use Rattle.commands.specs.Laws as C
-use Rattle.model.specs.Kinds.{unionKind}
 use Rattle.shapes.specs.declared.Step.{Step}
-use Rattle.shapes.specs.declared.Step.the-variants as S
 use Rattle.shapes.specs.declared.Contents.{Contents}
 use Rattle.shapes.specs.declared.Contents.the-variants as N
 use Rattle.shapes.specs.declared.Shape.{Shape}
@@ -37,9 +35,9 @@ use Rattle.places.specs.declared.Met.the-variants as M
 use Rattle.places.specs.declared.Ensured.the-variants as E
 use Rattle.places.specs.declared.Made.the-variants as L
 use Rattle.places.specs.Layout.{kindWord}
-use Rattle.places.specs.Flat.{meeting, Ensuring, ensuring, ensured, Making, making, made, sampled}
+use Rattle.places.specs.Flat.{meeting, Ensuring, ensuring, Making, making}
 use Rattle.samples.specs.declared.Traced.the-variants as T
-use Rattle.samples.specs.Flat.{Chain, chain, isMark, pastTurn, pastMarks, Out, out, onMet, onMade, stored, observed, Readers, atChild, dotsIn, partRead, State, state, afterPart, onPart, partTurn, partStop, partsFrom, opened, containerBy, chosen, variantBy, atShape, atRead, afterChain, valueBy, none-left, readers, levelLimit, recordTurn}
+use Rattle.samples.specs.Flat.{Chain, chain, isMark, pastTurn, pastMarks, Out, out, onMet, onMade, stored, observed, Readers, dotsIn, partRead, State, state, afterPart, onPart, partTurn, partStop, partsFrom, containerBy, variantBy, atShape, atRead, afterChain, valueBy, none-left, readers, levelLimit, recordTurn, onHeld, held, containerMade, variantHeld}
 
 -- the offset behind is from `low` on and inside
 unfoldable pub Moved : ℕ → ℕ → Out → Type 0
@@ -132,14 +130,14 @@ module _ (commands : List ℕ) where
   after-falls i at (out (T.Refused refusal place) t) m = tt
 
 module _ (commands text : List ℕ) (inner : Readers) (on : On (length commands) inner) where
-  child-on : (down : ℕ) (contents : Contents) (place here at : ℕ) → at ≤ length commands → (x : Ensuring) → Moved (from contents at) (length commands) (atChild inner down contents place here at x)
+  held-on : (down : ℕ) (contents : Contents) (here at : ℕ) → at ≤ length commands → (x : Ensuring) → Moved (from contents at) (length commands) (onHeld here (inner down contents here at) x)
   unfolding Moved
-  child-on down contents place here at h (ensuring (E.Child child n) t) = on down contents here at child n _ h
-  child-on down contents place here at h (ensuring (E.Refused refusal) t) = tt
+  held-on down contents here at h (ensuring (E.Child child n) t) = on down contents here at child n t h
+  held-on down contents here at h (ensuring (E.Refused refusal) t) = tt
 
   pub part-on : (step : Step) (here at place n : ℕ) (t : List ℕ) → at ≤ length commands → Moved (suc at) (length commands) (partRead text inner step here at place n t)
   unfolding partRead
-  part-on step here at place n t h = child-on (dotsIn text (nameOf step)) N.Value place here at h (ensured text place step n t)
+  part-on step here at place n t h = held-on (dotsIn text (nameOf step)) N.Value here at h (held text place step n t)
 
   -- ---- the parts
   pub part-falls : (kind positions place : ℕ) (s : State) → Falls (leftState commands) (leftState commands s) (partTurn commands text inner kind positions place s)
@@ -176,19 +174,14 @@ module _ (commands text : List ℕ) (inner : Readers) (on : On (length commands)
 
   -- ---- a value
   container-on : (options levels kind positions here at place n : ℕ) (t : List ℕ) → at ≤ length commands → Moved at (length commands) (containerBy commands text options levels inner kind positions here at place n t)
-  unfolding containerBy opened
+  unfolding containerBy
   container-on options levels kind positions here at place n t h =
-      on-met at (length commands) here t _ (λ joint. on-made at (length commands) here _ (λ m u. parts-on kind positions place 0 at m u h)
-      (made text place kind positions (word t place kindWord) n (sampled place joint t)))
-      (meeting options levels (word t place kindWord) kind)
+      on-made at (length commands) here _ (λ m u. parts-on kind positions place 0 at m u h) (containerMade text options levels kind positions place n t)
 
   variant-on : (options levels number : ℕ) (name : Name) (contents : Contents) (here at place n : ℕ) (t : List ℕ) → at ≤ length commands → Moved at (length commands) (variantBy text options levels inner number name contents here at place n t)
-  unfolding variantBy chosen
+  unfolding variantBy
   variant-on options levels number name contents here at place n t h =
-      on-met at (length commands) here t _
-      (λ joint. moved-from (from contents at) at (length commands) (from-above contents at) _
-      (child-on (dotsIn text name) contents place here at h (ensured text place (S.Variant number name) n (sampled place joint t))))
-      (meeting options levels (word t place kindWord) unionKind)
+      moved-from (from contents at) at (length commands) (from-above contents at) _ (held-on (dotsIn text name) contents here at h (variantHeld text options levels number name place n t))
 
   shape-on : (options levels here low behind place n : ℕ) (t : List ℕ) → low ≤ behind → behind ≤ length commands → (shape : Shape) → Moved low (length commands) (atShape commands text options levels inner here behind place n t shape)
   shape-on options levels here low behind place n t p q (H.Leaf isNull kind) = observed-on options isNull kind levels here low behind (length commands) place n t p q

@@ -35,7 +35,7 @@ use Rattle.places.specs.Flat.{meeting, Ensuring, ensuring, ensured, Making, mak
 use Rattle.places.specs.Tail.{Tailed, tailed, tailed-other, tailed-sampled, tailed-touched, TailedEnsuring, ensured-tail, TailedMaking, made-tail}
 use Rattle.samples.specs.declared.Traced.{Traced}
 use Rattle.samples.specs.declared.Traced.the-variants as T
-use Rattle.samples.specs.Flat.{Chain, chain, someByte, isMark, marked, pastTurn, pastMarks, Out, out, onMet, onMade, stored, observed, Readers, atChild, dotsIn, partRead, State, state, afterPart, onPart, partTurn, partStop, partsFrom, opened, containerBy, chosen, variantBy, atShape, atRead, afterChain, valueBy, none-left, readers, levelLimit, valueAt, recordTurn, recordStop, recordsAt, fromSamples}
+use Rattle.samples.specs.Flat.{Chain, chain, someByte, isMark, marked, pastTurn, pastMarks, Out, out, onMet, onMade, stored, observed, Readers, dotsIn, partRead, State, state, afterPart, onPart, partTurn, partStop, partsFrom, containerBy, variantBy, atShape, atRead, afterChain, valueBy, none-left, readers, levelLimit, valueAt, recordTurn, recordStop, recordsAt, fromSamples, onHeld, held, holding, madeWhere, containerMade, heldWhere, variantHeld}
 
 -- what is answered and the table then: no place is lost, and a refusal too leaves the tail
 abbrev pub TailedOut : List ℕ → ℕ → Out → Type 0
@@ -91,15 +91,22 @@ module _ (tail : List ℕ) where
   after-tail n k i l (out (T.Refused refusal offset) u) h = h
 
   module _ (commands text : List ℕ) (inner : Readers) (keep : KeepTail inner) where
-    -- ---- at a child
-    child-tail : (down : ℕ) (contents : Contents) (place here at n : ℕ) (x : Ensuring) → TailedEnsuring tail n x → TailedOut tail n (atChild inner down contents place here at x)
-    child-tail down contents place here at n (ensuring (E.Child child m) u) (h, l, b) =
-        tail-from n m l (inner down contents here at child m (touched place child u)) (keep down contents here at child m (touched place child u) (tailed-touched tail u m place child (is-place u m child h b) h) b)
-    child-tail down contents place here at n (ensuring (E.Refused refusal) u) h = h
+    -- ---- at a child that is held
+    child-tail : (down : ℕ) (contents : Contents) (here at n : ℕ) (x : Ensuring) → TailedEnsuring tail n x → TailedOut tail n (onHeld here (inner down contents here at) x)
+    child-tail down contents here at n (ensuring (E.Child child m) u) (h, l, b) = tail-from n m l (inner down contents here at child m u) (keep down contents here at child m u h b)
+    child-tail down contents here at n (ensuring (E.Refused refusal) u) h = h
+
+    held-tail : (step : Step) (place n : ℕ) (t : List ℕ) → Tailed tail t n → place < n → TailedEnsuring tail n (held text place step n t)
+    unfolding held
+    held-tail step place n t h b = go (ensured text place step n t) (ensured-tail tail text place step n t h b)
+      where
+        go : (x : Ensuring) → TailedEnsuring tail n x → TailedEnsuring tail n (holding place x)
+        go (ensuring (E.Child child m) u) (h, l, b) = (tailed-touched tail u m place child (is-place u m child h b) h, l, b)
+        go (ensuring (E.Refused refusal) u) h = h
 
     part-tail : (step : Step) (here at place n : ℕ) (t : List ℕ) → Tailed tail t n → place < n → TailedOut tail n (partRead text inner step here at place n t)
     unfolding partRead
-    part-tail step here at place n t h b = child-tail (dotsIn text (nameOf step)) N.Value place here at n (ensured text place step n t) (ensured-tail tail text place step n t h b)
+    part-tail step here at place n t h b = child-tail (dotsIn text (nameOf step)) N.Value here at n (held text place step n t) (held-tail step place n t h b)
 
     -- ---- the parts
     parts-tail : (kind positions place i at n : ℕ) (t : List ℕ) → Tailed tail t n → place < n → TailedOut tail n (partsFrom commands text inner kind positions place i at n t)
@@ -123,20 +130,22 @@ module _ (tail : List ℕ) where
     made-parts kind positions place here at n b (making (L.Refused refusal) u) h = h
 
     container-tail : (options levels kind positions here at place n : ℕ) (t : List ℕ) → Tailed tail t n → place < n → TailedOut tail n (containerBy commands text options levels inner kind positions here at place n t)
-    unfolding containerBy opened
+    unfolding containerBy containerMade
     container-tail options levels kind positions here at place n t h b =
-        tail-met n here t (λ joint. opened commands text inner kind positions (word t place kindWord) joint here at place n t) h
-        (λ joint. made-parts kind positions place here at n b (made text place kind positions (word t place kindWord) n (sampled place joint t))
-        (made-tail tail text place kind positions (word t place kindWord) n (sampled place joint t) (tailed-sampled tail t n place joint (is-place t n place h b) h) b))
-        (meeting options levels (word t place kindWord) kind)
+        made-parts kind positions place here at n b (containerMade text options levels kind positions place n t) (go (meeting options levels (word t place kindWord) kind))
+      where
+        go : (met : Met) → TailedMaking tail n (madeWhere t (λ joint. made text place kind positions (word t place kindWord) n (sampled place joint t)) met)
+        go (M.Kind joint) = made-tail tail text place kind positions (word t place kindWord) n (sampled place joint t) (tailed-sampled tail t n place joint (is-place t n place h b) h) b
+        go (M.Refused refusal) = h .kept
 
     variant-tail : (options levels number : ℕ) (name : Name) (contents : Contents) (here at place n : ℕ) (t : List ℕ) → Tailed tail t n → place < n → TailedOut tail n (variantBy text options levels inner number name contents here at place n t)
-    unfolding variantBy chosen
+    unfolding variantBy variantHeld
     variant-tail options levels number name contents here at place n t h b =
-        tail-met n here t (λ joint. chosen text inner number name contents here at place n (sampled place joint t)) h
-        (λ joint. child-tail (dotsIn text name) contents place here at n (ensured text place (S.Variant number name) n (sampled place joint t))
-        (ensured-tail tail text place (S.Variant number name) n (sampled place joint t) (tailed-sampled tail t n place joint (is-place t n place h b) h) b))
-        (meeting options levels (word t place kindWord) unionKind)
+        child-tail (dotsIn text name) contents here at n (variantHeld text options levels number name place n t) (go (meeting options levels (word t place kindWord) unionKind))
+      where
+        go : (met : Met) → TailedEnsuring tail n (heldWhere t (λ joint. held text place (S.Variant number name) n (sampled place joint t)) met)
+        go (M.Kind joint) = held-tail (S.Variant number name) place n (sampled place joint t) (tailed-sampled tail t n place joint (is-place t n place h b) h) b
+        go (M.Refused refusal) = h .kept
 
     -- ---- a value
     shape-tail : (options levels here behind place n : ℕ) (t : List ℕ) → Tailed tail t n → place < n → (shape : Shape) → TailedOut tail n (atShape commands text options levels inner here behind place n t shape)

@@ -38,7 +38,7 @@ use Rattle.places.specs.declared.Ensured.the-variants as E
 use Rattle.places.specs.declared.Made.{Made}
 use Rattle.places.specs.declared.Made.the-variants as L
 use Rattle.places.specs.Layout.{kindWord, stepWord, Ready}
-use Rattle.places.specs.Flat.{meeting, isAt, findIn, childAt, Ensuring, ensuring, confirmed, ensuredBy, ensured, making, made, touched, sampled}
+use Rattle.places.specs.Flat.{meeting, isAt, findIn, childAt, ensuring, confirmed, ensuredBy, ensured, making, made, touched, sampled}
 use Rattle.places.specs.Laws.{first-below, find-stands, found-utf8}
 use Rattle.samples.specs.declared.Opened.the-variants as O
 use Rattle.samples.specs.declared.Traced.the-variants as T
@@ -48,7 +48,7 @@ use Rattle.shapes.specs.declared.Field.{Field}
 use Rattle.shapes.specs.declared.Field.the-variants as X
 use Rattle.shapes.specs.Leaf.{leafAt, LeafThere, leaf-there}
 use Rattle.shapes.specs.Field.{fieldAt}
-use Rattle.samples.specs.Flat.{chain, pastMarks, Out, out, onMet, onMade, stored, observed, Readers, atChild, dotsIn, partRead, partsBy, opened, containerBy, chosen, variantBy, atShape, valueBy, readers, innerOf, valueAt, parted, holding, held, madeWhere, containerMade, heldWhere, variantHeld, Opening, opening, fieldHeld, fieldOpened}
+use Rattle.samples.specs.Flat.{chain, pastMarks, Out, out, onMet, stored, observed, dotsIn, partRead, partsBy, containerBy, variantBy, atShape, valueBy, readers, innerOf, valueAt, parted, held, containerMade, variantHeld, Opening, opening, fieldHeld, fieldOpened}
 use Rattle.samples.specs.Onward.{less}
 
 -- ---- kinds that met
@@ -155,53 +155,27 @@ inner-is : (commands text : List ℕ) (options levels : ℕ) → 0 < levels → 
 inner-is commands text options zero h = absurd (omega arith)
 inner-is commands text options (suc levels) h = let e : levels ≡ suc levels - 1 = omega arith in ap (readers commands text options) e
 
--- a container is its parts, where it is opened
-container-is : (commands text : List ℕ) (options levels : ℕ) (inner : Readers) (kind positions here at place n : ℕ) (t : List ℕ) →
-    containerBy commands text options levels inner kind positions here at place n t ≡ onMade here (partsBy commands text inner kind positions place at) (containerMade text options levels kind positions place n t)
-unfolding containerBy containerMade opened
-container-is commands text options levels inner kind positions here at place n t = go (meeting options levels (word t place kindWord) kind)
-  where
-    go : (met : Met) → onMet here t (λ joint. onMade here (partsBy commands text inner kind positions place at) (made text place kind positions (word t place kindWord) n (sampled place joint t))) met
-        ≡ onMade here (partsBy commands text inner kind positions place at) (madeWhere t (λ joint. made text place kind positions (word t place kindWord) n (sampled place joint t)) met)
-    go (M.Kind joint) = refl
-    go (M.Refused refusal) = refl
-
--- and so is a variant its contents
-abbrev onHeld : ℕ → (ℕ → ℕ → List ℕ → Out) → Ensuring → Out
-onHeld here k (ensuring (E.Child child n) t) = k child n t
-onHeld here k (ensuring (E.Refused refusal) t) = out (T.Refused refusal here) t
-
-variant-is : (text : List ℕ) (options levels : ℕ) (inner : Readers) (number : ℕ) (name : Name) (contents : Contents) (here at place n : ℕ) (t : List ℕ) →
-    variantBy text options levels inner number name contents here at place n t ≡ onHeld here (inner (dotsIn text name) contents here at) (variantHeld text options levels number name place n t)
-unfolding variantBy variantHeld chosen held
-variant-is text options levels inner number name contents here at place n t = go (meeting options levels (word t place kindWord) unionKind)
-  where
-    child : (x : Ensuring) → atChild inner (dotsIn text name) contents place here at x ≡ onHeld here (inner (dotsIn text name) contents here at) (holding place x)
-    child (ensuring (E.Child c m) u) = refl
-    child (ensuring (E.Refused refusal) u) = refl
-
-    go : (met : Met) → onMet here t (λ joint. atChild inner (dotsIn text name) contents place here at (ensured text place (S.Variant number name) n (sampled place joint t))) met
-        ≡ onHeld here (inner (dotsIn text name) contents here at) (heldWhere t (λ joint. holding place (ensured text place (S.Variant number name) n (sampled place joint t))) met)
-    go (M.Kind joint) = child (ensured text place (S.Variant number name) n (sampled place joint t))
-    go (M.Refused refusal) = refl
-
 module _ (commands text : List ℕ) (options levels : ℕ) where
   module _ (kind positions here at place n : ℕ) (t u : List ℕ) (did : Made) (d : making did u ≡ containerMade text options levels kind positions place n t) where
     pub container-parts : (m : ℕ) (o : Out) → did ≡ L.Places m → 0 < levels → o ≡ partsBy commands text (readers commands text options (levels - 1)) kind positions place at m u →
         o ≡ containerBy commands text options levels (innerOf commands text options levels) kind positions here at place n t
-    container-parts m o e left p = rw (container-is commands text options levels (innerOf commands text options levels) kind positions here at place n t, ← d, e, inner-is commands text options levels left) p
+    unfolding containerBy
+    container-parts m o e left p = rw (← d, e, inner-is commands text options levels left) p
 
     pub container-refused : (refusal : Refusal) → did ≡ L.Refused refusal → out (T.Refused refusal here) u ≡ containerBy commands text options levels (innerOf commands text options levels) kind positions here at place n t
-    container-refused refusal e = rw (container-is commands text options levels (innerOf commands text options levels) kind positions here at place n t, ← d, e) refl
+    unfolding containerBy
+    container-refused refusal e = rw (← d, e) refl
 
   module _ (number : ℕ) (name : Name) (contents : Contents) (here at place n : ℕ) (t u : List ℕ) (did : Ensured) (d : ensuring did u ≡ variantHeld text options levels number name place n t) where
     pub variant-child : (child m lower : ℕ) (o : Out) → did ≡ E.Child child m → 0 < levels → lower ≡ levels - 1 - dotsIn text name → o ≡ readers commands text options lower 0 contents here at child m u →
         o ≡ variantBy text options levels (innerOf commands text options levels) number name contents here at place n t
+    unfolding variantBy
     variant-child child m lower o e left l p =
-        rw (variant-is text options levels (innerOf commands text options levels) number name contents here at place n t, ← d, e, inner-is commands text options levels left, less commands text options (levels - 1) (dotsIn text name), ← l) p
+        rw (← d, e, inner-is commands text options levels left, less commands text options (levels - 1) (dotsIn text name), ← l) p
 
     pub variant-refused : (refusal : Refusal) → did ≡ E.Refused refusal → out (T.Refused refusal here) u ≡ variantBy text options levels (innerOf commands text options levels) number name contents here at place n t
-    variant-refused refusal e = rw (variant-is text options levels (innerOf commands text options levels) number name contents here at place n t, ← d, e) refl
+    unfolding variantBy
+    variant-refused refusal e = rw (← d, e) refl
 
 -- ---- at a child
 value-here : (commands text : List ℕ) (options levels here at place n : ℕ) (t : List ℕ) → valueAt commands text options levels at place n t ≡ readers commands text options levels 0 N.Value here at place n t
@@ -214,25 +188,19 @@ pub value-below : (commands text : List ℕ) (options levels : ℕ) (name : Name
     valueAt commands text options (levels - dotsIn text name) at place n t ≡ readers commands text options levels (dotsIn text name) N.Value here at place n t
 value-below commands text options levels name here at place n t = value-here commands text options (levels - dotsIn text name) here at place n t ∙ rw (less commands text options levels (dotsIn text name)) refl
 
-part-is : (text : List ℕ) (inner : Readers) (step : Step) (here at place n : ℕ) (t : List ℕ) → partRead text inner step here at place n t ≡ onHeld here (inner (dotsIn text (nameOf step)) N.Value here at) (held text place step n t)
-unfolding partRead held
-part-is text inner step here at place n t = go (ensured text place step n t)
-  where
-    go : (x : Ensuring) → atChild inner (dotsIn text (nameOf step)) N.Value place here at x ≡ onHeld here (inner (dotsIn text (nameOf step)) N.Value here at) (holding place x)
-    go (ensuring (E.Child c m) u) = refl
-    go (ensuring (E.Refused refusal) u) = refl
-
 no-dots : (text : List ℕ) → dotsIn text noName ≡ 0
 unfolding dots
 no-dots text = refl
 
 module _ (commands text : List ℕ) (options levels : ℕ) (step : Step) (here at place n : ℕ) (t u : List ℕ) (did : Ensured) (d : ensuring did u ≡ held text place step n t) where
   pub part-child : (child m : ℕ) (o : Out) → did ≡ E.Child child m → Unnamed step → o ≡ valueAt commands text options levels at child m u → o ≡ partRead text (readers commands text options levels) step here at place n t
+  unfolding partRead
   part-child child m o e k p =
-      rw (part-is text (readers commands text options levels) step here at place n t, ← d, e, k .name, no-dots text) (p ∙ value-here commands text options levels here at child m u)
+      rw (← d, e, k .name, no-dots text) (p ∙ value-here commands text options levels here at child m u)
 
   pub part-refused : (refusal : Refusal) → did ≡ E.Refused refusal → out (T.Refused refusal here) u ≡ partRead text (readers commands text options levels) step here at place n t
-  part-refused refusal e = rw (part-is text (readers commands text options levels) step here at place n t, ← d, e) refl
+  unfolding partRead
+  part-refused refusal e = rw (← d, e) refl
 
 -- ---- contents and values
 readers-are : (commands text : List ℕ) (options levels : ℕ) → readers commands text options levels 0 ≡ valueBy commands text options levels (innerOf commands text options levels)
