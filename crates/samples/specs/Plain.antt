@@ -10,7 +10,8 @@ use Rattle.logic.specs.Table.{allBelow, below-at}
 use Rattle.commands.specs.declared.Due.the-variants as D
 use Rattle.commands.specs.Commands.{formOf, made, textByte, readCommand}
 use Rattle.shapes.specs.Shapes.{shapeAt}
-use Rattle.shapes.specs.Leaf.{plainKind, value-stands, plain-shape, plain-read}
+use Rattle.shapes.specs.Told.{bare-read, before-text}
+use Rattle.shapes.specs.Leaf.{plainKind, plain-shape}
 use Rattle.samples.specs.Flat.{isMark, pastMarks, Out, observed, valueAt}
 use Rattle.samples.specs.Ways.{value-parted, parted-leaf}
 use Rattle.samples.specs.Loops.{past-other}
@@ -27,5 +28,5 @@ value-plain commands text at byte options levels place n t o is inside small e =
     (past-other commands place at t (pastMarks commands at place t) refl inside byte (rw is refl) (isMark byte) refl (no-mark byte small))
     levels o
     (parted-leaf commands text options levels at place n t (readCommand commands text at D.Value) refl (made (formOf byte) commands (at + 1)) (at + 1)
-    (plain-read commands text at byte D.Value is inside small (value-stands byte small) refl)
+    (bare-read commands text at byte D.Value is inside (before-text byte small) refl)
     (shapeAt options text (made (formOf byte) commands (at + 1))) refl o (eqb byte 0) (plainKind byte) (plain-shape text commands (at + 1) options byte small) e)

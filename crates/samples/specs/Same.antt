@@ -18,7 +18,7 @@ use Rattle.text.specs.Name.{eqName}
 use Rattle.words.specs.Word.{word}
 use Rattle.coerce.specs.Laws.{joint-same}
 use Rattle.commands.specs.declared.Due.the-variants as D
-use Rattle.commands.specs.Commands.{fieldByte, endByte, stands}
+use Rattle.commands.specs.Commands.{endByte}
 use Rattle.model.specs.Kinds.{sequenceKind}
 use Rattle.shapes.specs.declared.Step.the-variants as S
 use Rattle.shapes.specs.declared.Part.the-variants as P
@@ -32,7 +32,8 @@ use Rattle.samples.specs.declared.Traced.the-variants as T
 use Rattle.samples.specs.Flat.{Out, out, stored, observed, partRead, partsFrom, readers}
 use Rattle.samples.specs.Ways.{observe-kind, held-child, part-child}
 use Rattle.samples.specs.Loops.{element-unnamed, elements-more}
-use Rattle.shapes.specs.Leaf.{charByte, plainKind, plain-read}
+use Rattle.shapes.specs.Told.{bare-read, before-text}
+use Rattle.shapes.specs.Leaf.{charByte, plainKind}
 use Rattle.samples.specs.Plain.{value-plain}
 
 -- a value that is no null, of the type that is there
@@ -213,12 +214,9 @@ module _ (commands text : List ℕ) (options levels place n : ℕ) (t : List ℕ
     small : kind < charByte
     small = own-known kind own .1
 
-    element-stands : stands D.ValueOrEnd kind ≡ true
-    element-stands = let h : kind < charByte = small in rw (ne-eqb kind fieldByte (λ q. omega arith)) refl
-
     is-step : P.Step S.Element at ≡ partAt commands text sequenceKind 0 0 at
     unfolding partAt if_then_else_
-    is-step = let h : kind < charByte = small in rw (plain-read commands text at kind D.ValueOrEnd byte inside (omega arith) element-stands refl, byte, ne-eqb kind endByte (λ q. omega arith)) refl
+    is-step = let h : kind < charByte = small in rw (bare-read commands text at kind D.ValueOrEnd byte inside (before-text kind (omega arith)) refl, byte, ne-eqb kind endByte (λ q. omega arith)) refl
 
     element : out (T.Next (at + 1) n) t ≡ partRead text (readers commands text options levels) S.Element at at place n t
     element =

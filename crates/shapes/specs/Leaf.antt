@@ -1,23 +1,19 @@
 -- The value at an offset, where it is a primitive.
 use mathlib.Core.Path.{_≡_, refl, sym, _∙_}
-use mathlib.Core.Bool.{Bool, true, false, not}
+use mathlib.Core.Bool.{Bool}
 use mathlib.Core.List.{List}
 use Prim.{tt}
-use Prim.Native.Nat.{ℕ, zero, suc, _+_, _<_, _≤_}
+use Prim.Native.Nat.{ℕ, zero, suc, _<_}
 use native.Mathlib.Omega.{arith}
-use borrow.Author.Tests.{eqb-true, eqb-false, not-true}
+use borrow.Author.Tests.{eqb-true, eqb-false}
 use lib.Dec.{eqb}
-use lib.ListN.{length, getD}
 use Rattle.logic.specs.Test.{if_then_else_, cases}
-use Rattle.logic.specs.Table.{allBelow, below-at}
 use Rattle.datatype.specs.Codes.{uint32}
 use Rattle.commands.specs.declared.Command.{Command}
 use Rattle.commands.specs.declared.Read.{Read}
 use Rattle.commands.specs.declared.Read.the-variants as R
-use Rattle.commands.specs.declared.Due.{Due}
 use Rattle.commands.specs.declared.Due.the-variants as D
-use Rattle.commands.specs.Commands.{formOf, operands, made, nameIn, textByte, stands, badName, badKey, readCommand}
-use Rattle.commands.specs.Laws.{Good, good, read-made}
+use Rattle.commands.specs.Commands.{formOf, made, textByte, stands, readCommand}
 use Rattle.model.specs.Kinds.{sequenceKind}
 use Rattle.shapes.specs.declared.Shape.{Shape}
 use Rattle.shapes.specs.declared.Shape.the-variants as H
@@ -55,8 +51,6 @@ pub record LeafThere (options : ℕ) (commands text : List ℕ) (at : ℕ) (isNu
   pub read : readCommand commands text at D.Value ≡ R.Command command behind
   pub shape : shapeAt options text command ≡ H.Leaf isNull kind
   pub below : kind < sequenceKind
-  pub above : at < behind
-  pub within : behind ≤ length commands
 
 other : (isNull : Bool) (kind behind : ℕ) → O.Other ≡ O.Value isNull kind behind → ⊥
 other isNull kind behind e = let z : _≡_ {A = ℕ} 0 1 = cc in omega arith
@@ -67,9 +61,8 @@ module _ (options : ℕ) (commands text : List ℕ) (at : ℕ) (isNull : Bool) (
   by-shape command next e (H.Leaf n k) s h =
       let b : next ≡ behind = cc in
       let read : readCommand commands text at D.Value ≡ R.Command command behind = rw b at e in
-      let g : Good commands text at D.Value command behind = good commands text at D.Value command behind read in
       let shape : shapeAt options text command ≡ H.Leaf isNull kind = cc in
-      record { command = command; read = read; shape = shape; below = leaf-below options text command _ refl isNull kind shape; above = g .above; within = g .within }
+      record { command = command; read = read; shape = shape; below = leaf-below options text command _ refl isNull kind shape }
   by-shape command next e (H.Parts k n) s h = absurd (other isNull kind behind h)
   by-shape command next e (H.Variant number name contents) s h = absurd (other isNull kind behind h)
   by-shape command next e H.NoValue s h = absurd (other isNull kind behind h)
@@ -83,20 +76,8 @@ module _ (options : ℕ) (commands text : List ℕ) (at : ℕ) (leaf : Leaf) (e 
   unfolding leafAt
   leaf-there = by-read options commands text at isNull kind behind (readCommand commands text at D.Value) refl (sym e ∙ h)
 
--- ---- the values before text, by going through them: no operands, no name, and a leaf
-pub value-stands : (byte : ℕ) → byte < textByte → stands D.Value byte ≡ true
-unfolding allBelow
-value-stands byte h = below-at textByte (stands D.Value) refl byte h
-
-no-operands : (byte : ℕ) → byte < textByte → operands (formOf byte) ≡ 0
-unfolding formOf operands allBelow
-no-operands byte h = eqb-true (operands (formOf byte)) 0 (below-at textByte (λ b. eqb (operands (formOf b)) 0) refl byte h)
-
+-- ---- the values before text are leaves, by going through them
 module _ (text commands : List ℕ) (at : ℕ) where
-  no-name : (byte : ℕ) → byte < textByte → badName text (nameIn (formOf byte) commands at) ≡ false
-  unfolding formOf nameIn badName allBelow
-  no-name byte h = not-true (badName text (nameIn (formOf byte) commands at)) (below-at textByte (λ b. not (badName text (nameIn (formOf b) commands at))) refl byte h)
-
   module _ (options : ℕ) where
     IsLeaf : ℕ → Type 0
     IsLeaf byte = shapeAt options text (made (formOf byte) commands at) ≡ H.Leaf (eqb byte 0) (plainKind byte)
@@ -113,10 +94,3 @@ module _ (text commands : List ℕ) (at : ℕ) where
     pub plain-shape : (byte : ℕ) → byte < textByte → shapeAt options text (made (formOf byte) commands at) ≡ H.Leaf (eqb byte 0) (plainKind byte)
     unfolding AreLeaves IsLeaf shapeAt made formOf plainKind if_then_else_
     plain-shape byte h = leaf-among textByte (refl, (refl, (refl, (refl, (refl, (refl, (refl, (refl, (refl, (refl, (refl, (refl, (refl, tt))))))))))))) byte h
-
--- one that stands where it is due is read
-pub plain-read : (commands text : List ℕ) (at byte : ℕ) (due : Due) → getD commands at 0 ≡ byte → at < length commands → byte < textByte → stands due byte ≡ true → badKey due byte ≡ false →
-    readCommand commands text at due ≡ R.Command (made (formOf byte) commands (at + 1)) (at + 1)
-plain-read commands text at byte due is there small s k =
-    let none : operands (formOf byte) ≡ 0 = no-operands byte small in
-    rw none at (read-made commands text at due byte is (omega arith) (omega arith) s (no-name text commands (at + 1) byte small) k)

@@ -1,14 +1,15 @@
 -- What the first bytes at an offset tell of the command that is read there.
 use mathlib.Core.Path.{_≡_, refl, sym, _∙_}
-use mathlib.Core.Bool.{Bool, true, false}
+use mathlib.Core.Bool.{Bool, true, false, not, false≢true}
 use mathlib.Core.List.{List}
 use mathlib.Core.Option.{some}
 use Prim.Native.Nat.{ℕ, _+_, _<_, _≤_}
 use native.Mathlib.Omega.{arith}
-use borrow.Author.Tests.{eqb-true, ltb-true, leb-true, le-leb, eq-eqb}
+use borrow.Author.Tests.{eqb-true, ltb-true, leb-true, le-leb, eq-eqb, ne-eqb}
 use lib.Dec.{eqb, leb, ltb}
 use lib.ListN.{length, getD}
-use Rattle.logic.specs.Test.{both}
+use Rattle.logic.specs.Test.{if_then_else_, both}
+use Rattle.logic.specs.Table.{allBelow, below-at}
 use Rattle.text.specs.declared.Name.{Name}
 use Rattle.text.specs.Name.{inside, bytesOf}
 use Rattle.text.specs.Utf8.{isUtf8}
@@ -18,12 +19,67 @@ use Rattle.commands.specs.declared.Command.the-variants as C
 use Rattle.commands.specs.declared.Due.{Due}
 use Rattle.commands.specs.declared.Due.the-variants as D
 use Rattle.commands.specs.declared.Read.the-variants as R
-use Rattle.commands.specs.Commands.{nameAt, named, forms, formOf, operands, width, made, nameIn, stands, badName, badKey, endByte, readCommand}
+use Rattle.commands.specs.Commands.{Form, plain, counted, variant, countedVariant, textByte, fieldByte, nameAt, named, forms, formOf, operands, width, made, nameIn, stands, badName, badKey, endByte, readCommand}
 use Rattle.commands.specs.Laws.{nameOf, Good, good, name-inside, read-made, read-misnamed}
 use Rattle.shapes.specs.Steps.{Inside}
-use Rattle.shapes.specs.Shapes.{structByte, beginsAt, structAt, namedAt}
+use Rattle.shapes.specs.Shapes.{tupleByte, structByte, plainByte, takesValue, beginsAt, structAt, namedAt}
 
--- ---- a command without operands, by its byte
+-- ---- a value with no operands
+isBare : Form → Bool
+isBare (plain command) = true
+isBare (counted f) = false
+isBare (named f) = false
+isBare (variant f) = false
+isBare (countedVariant f) = false
+
+bare-form : {P : Type 0} (form : Form) → isBare form ≡ true → ((command : Command) → form ≡ plain command → P) → P
+unfolding isBare
+bare-form (plain command) e k = k command refl
+bare-form (counted f) e k = absurd (false≢true e)
+bare-form (named f) e k = absurd (false≢true e)
+bare-form (variant f) e k = absurd (false≢true e)
+bare-form (countedVariant f) e k = absurd (false≢true e)
+
+-- each byte that is told to be such a value is one, by going through them
+bare-told : allBelow 22 (λ b. if plainByte b then isBare (formOf b) else true) ≡ true
+unfolding isBare formOf allBelow plainByte if_then_else_
+bare-told = refl
+
+bare-byte : {P : Type 0} (byte : ℕ) → plainByte byte ≡ true → (byte ≤ structByte → isBare (formOf byte) ≡ true → P) → P
+unfolding plainByte if_then_else_
+bare-byte byte e k =
+    both _ (not (eqb byte tupleByte)) e λ d n.
+    both (leb byte structByte) (not (eqb byte textByte)) d λ l m.
+    let small : byte ≤ structByte = leb-true byte structByte l in
+    k small (rw e at (below-at 22 (λ b. if plainByte b then isBare (formOf b) else true) bare-told byte (omega arith)))
+
+-- it can stand where a value is due, and is no key
+value-stands : (due : Due) (byte : ℕ) → takesValue due ≡ true → byte ≤ structByte → (stands due byte ≡ true) × (badKey due byte ≡ false)
+value-stands D.Value byte t h = (rw (ne-eqb byte fieldByte (omega arith), ne-eqb byte endByte (omega arith)), refl)
+value-stands D.ValueOrEnd byte t h = (rw (ne-eqb byte fieldByte (omega arith)), refl)
+value-stands D.FieldOrEnd byte t h = absurd (false≢true t)
+value-stands D.KeyOrEnd byte t h = absurd (false≢true t)
+
+-- so it is read
+pub bare-read : (commands text : List ℕ) (at byte : ℕ) (due : Due) → getD commands at 0 ≡ byte → at < length commands → plainByte byte ≡ true → takesValue due ≡ true →
+    readCommand commands text at due ≡ R.Command (made (formOf byte) commands (at + 1)) (at + 1)
+unfolding badName operands nameIn
+bare-read commands text at byte due is there bare t =
+    bare-byte byte bare λ small b.
+    let s = value-stands due byte t small in
+    bare-form (formOf byte) b λ command form.
+    let fits : at + 1 ≤ length commands = omega arith in
+    rw form (rw form at (read-made commands text at due byte is (omega arith) (rw form fits) (s .0) (rw form refl) (s .1)))
+
+pub bare-no-end : (byte : ℕ) → plainByte byte ≡ true → eqb byte endByte ≡ false
+bare-no-end byte bare = bare-byte byte bare λ small b. ne-eqb byte endByte (omega arith)
+
+-- the commands before text are such values
+pub before-text : (byte : ℕ) → byte < textByte → plainByte byte ≡ true
+unfolding plainByte
+before-text byte h = rw (le-leb byte structByte (omega arith), ne-eqb byte textByte (λ e. omega arith), ne-eqb byte tupleByte (λ e. omega arith)) refl
+
+-- ---- a struct, and an end
 begun : {P : Type 0} (commands : List ℕ) (byte at : ℕ) (flag : Bool) → flag ≡ beginsAt commands byte at → flag ≡ true → (at < length commands → getD commands at 0 ≡ byte → P) → P
 unfolding beginsAt
 begun commands byte at flag f e k =
@@ -31,8 +87,8 @@ begun commands byte at flag f e k =
     k (ltb-true at (length commands) l) (eqb-true (getD commands at 0) byte b)
 
 pub struct-read : (commands text : List ℕ) (at : ℕ) → structAt commands at ≡ true → readCommand commands text at D.Value ≡ R.Command C.Struct (at + 1)
-unfolding formOf operands made nameIn badName
-struct-read commands text at e = begun commands structByte at _ refl e λ there is. read-made commands text at D.Value structByte is (omega arith) (omega arith) refl refl refl
+unfolding formOf made plainByte
+struct-read commands text at e = begun commands structByte at _ refl e λ there is. bare-read commands text at structByte D.Value is there refl refl
 
 pub struct-inside : (commands : List ℕ) (at : ℕ) (flag : Bool) → flag ≡ structAt commands at → flag ≡ true → at < length commands
 struct-inside commands at flag f e = begun commands structByte at flag f e λ there is. there

@@ -16,12 +16,13 @@ use Rattle.commands.specs.declared.Command.the-variants as C
 use Rattle.commands.specs.declared.Due.the-variants as D
 use Rattle.commands.specs.declared.Read.{Read}
 use Rattle.commands.specs.declared.Read.the-variants as R
-use Rattle.commands.specs.Commands.{plain, forms, formOf, operands, made, nameIn, textByte, stands, badCommand, badName, readCommand}
-use Rattle.commands.specs.Laws.{byteOf, good, read-made}
+use Rattle.commands.specs.Commands.{plain, formOf, operands, made, textByte, badCommand, readCommand}
+use Rattle.commands.specs.Laws.{byteOf, good}
 use Rattle.shapes.specs.declared.Leaf.{Leaf}
 use Rattle.shapes.specs.declared.Leaf.the-variants as O
-use Rattle.shapes.specs.Shapes.{shapeAt}
-use Rattle.shapes.specs.Leaf.{plainKind, leafBy, leafRead, leafAt, value-stands, plain-shape, plain-read}
+use Rattle.shapes.specs.Shapes.{shapeAt, plainByte}
+use Rattle.shapes.specs.Leaf.{plainKind, leafBy, leafRead, leafAt, plain-shape}
+use Rattle.shapes.specs.Told.{bare-read, before-text}
 use Rattle.shapes.proofs.leaf_at.Statement.{statement}
 use Rattle.shapes.proofs.leaf_at.Tie as tie
 
@@ -72,24 +73,22 @@ module _ (options : ℕ) (commands text : List ℕ) (at byte : ℕ) (there : at 
   unfolding leafAt
   none-follows h a b c = by-read (readCommand commands text at D.Value) refl (omega arith)
 
-  before-text : (kind : ℕ) → byte < textByte → kind ≡ plainKind byte → O.Value (eqb byte 0) kind (at + 1) ≡ leafAt options commands text at
+  plain-there : (kind : ℕ) → byte < textByte → kind ≡ plainKind byte → O.Value (eqb byte 0) kind (at + 1) ≡ leafAt options commands text at
   unfolding leafAt
-  before-text kind h k = rw (plain-read commands text at byte D.Value (sym is) there h (value-stands byte h) refl, plain-shape text commands (at + 1) options byte h, k)
+  plain-there kind h k = rw (bare-read commands text at byte D.Value (sym is) there (before-text byte h) refl, plain-shape text commands (at + 1) options byte h, k)
 
   -- a command with no operands
-  alone : (which : ℕ) (command : Command) (leaf : Leaf) → byte ≡ which → which < length forms → formOf which ≡ plain command → stands D.Value which ≡ true → leaf ≡ leafBy (at + 1) (shapeAt options text command) → leaf ≡ leafAt options commands text at
-  unfolding leafAt operands made nameIn badName
-  alone which command leaf b small form s l =
-      let fits : at + 1 ≤ length commands = omega arith in
-      rw (read-made commands text at D.Value which (sym is ∙ b) small (rw form fits) s (rw form) refl, form) l
+  alone : (which : ℕ) (command : Command) (leaf : Leaf) → byte ≡ which → formOf which ≡ plain command → plainByte which ≡ true → leaf ≡ leafBy (at + 1) (shapeAt options text command) → leaf ≡ leafAt options commands text at
+  unfolding leafAt made
+  alone which command leaf b form bare l = rw (bare-read commands text at which D.Value (sym is ∙ b) there bare refl, form) l
 
   bytes-there : (kind code : ℕ) → byte ≡ 0x0E → kind ≡ code → code ≡ binaryType options → O.Value false kind (at + 1) ≡ leafAt options commands text at
-  unfolding shapeAt formOf
-  bytes-there kind code b k t = alone 0x0E C.Bytes (O.Value false kind (at + 1)) b (omega arith) refl refl (rw (k, t))
+  unfolding shapeAt formOf plainByte
+  bytes-there kind code b k t = alone 0x0E C.Bytes (O.Value false kind (at + 1)) b refl refl (rw (k, t))
 
   none-there : byte ≡ 0x0F → O.Value true null (at + 1) ≡ leafAt options commands text at
-  unfolding shapeAt formOf
-  none-there b = alone 0x0F C.None (O.Value true null (at + 1)) b (omega arith) refl refl refl
+  unfolding shapeAt formOf plainByte
+  none-there b = alone 0x0F C.None (O.Value true null (at + 1)) b refl refl refl
 
 pub leaf-at-spec : {M : Type 1} → statement M
 leaf-at-spec =
@@ -99,7 +98,7 @@ leaf-at-spec =
     (λ c κs. search needs)
     (λ c κs. search needs)
     (λ c. search needs)
-    (λ c. search (before-text, needs))
+    (λ c. search (plain-there, needs))
     (λ c κs. search needs)
     (λ c. search needs)
     (λ c κs. search needs)
