@@ -11,7 +11,6 @@ use lib.Dec.{eqb, leb}
 use lib.ListN.{length, drop}
 use borrow.Author.Tests.{eqb-true, ne-eqb, leb-true, leb-false}
 use Rattle.logic.specs.Test.{if_then_else_, cases}
-use Rattle.logic.specs.Buffer.{written}
 use Rattle.datatype.specs.Codes.{null, utf8, largeUtf8, struct, noStrategy}
 use Rattle.options.specs.Word.{allowNullFields, stringDictionaryEncoding, stringAsLargeUtf8, sequenceAsLargeList, enumsWithoutDataAsStrings, listType, dictionaryType}
 use Rattle.refusal.specs.Number.{tooManySlots}
@@ -492,17 +491,6 @@ module _ (options : ℕ) (text t : List ℕ) (n : ℕ) (most : n ≤ placeLimit)
       (λ s h x u a. (a, second levels u (isMissing k m h) (variantOf s) (nameOf s) (name-is k (a .0 .cell) (a .0 .step)) (a .0 .good) (a .0 .rep) (a .0 .fit) (a .0 .orders) (a .0 .neat) (omega (arith, a .0 .above)) (a .1 .1)))
       (orderS true k ks) (resorted (Told options text t n p k m) k ks told))
       (o .1))
-
--- The second walk from a place on writes the records and names of the model's field of that place.
-pub second-walk : (options : ℕ) (text t : List ℕ) (n : ℕ) (u : Spot) (lacking : Bool) (name : List ℕ) (number levels i j : ℕ) (fields names : List ℕ) → n ≤ placeLimit
-    → Good n u → Rep text t u → FitS u → Orders t u → Neat u → childName text t (num u) ≡ name → n ≤ num u + levels → walk options (placeOf lacking (erase u)) ≡ none
-    → i + length (recordsOf (fieldOf options name number (placeOf lacking (erase u)))) ≤ length fields
-    → j + length (namesOf (fieldOf options name number (placeOf lacking (erase u)))) ≤ length names
-    → emittedAt options text t levels (num u) lacking number (writing i j fields names)
-    ≡ writing (i + length (recordsOf (fieldOf options name number (placeOf lacking (erase u))))) (j + length (namesOf (fieldOf options name number (placeOf lacking (erase u)))))
-    (written fields i (recordsOf (fieldOf options name number (placeOf lacking (erase u))))) (written names j (namesOf (fieldOf options name number (placeOf lacking (erase u)))))
-second-walk options text t n u lacking name number levels i j fields names most g r f o z nm l e x y =
-    second options text t n most levels u lacking number name nm g r f o z l e (writing i j fields names) (x, y)
 
 -- from the start: the bytes, and the buffers' tails
 from-start : (r n fields names : List ℕ) → wrote r n (writing 0 0 fields names) ≡ writing (length r) (length n) (r ++ drop (length r) fields) (n ++ drop (length n) names)

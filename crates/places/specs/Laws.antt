@@ -520,10 +520,6 @@ all-more text t place kind positions before n =
 still-ready : (text t u : List ℕ) (n m place : ℕ) (r : Made) → Ready text t n place → n ≤ m → SoundMade text u r → r ≡ D.Places m → Ready text u m place
 still-ready text t u n m place r ready l s p = let h : place < n = ready .here in record { sound = rw p at s; here = omega arith }
 
-module _ (text t u : List ℕ) (n m place kind positions before : ℕ) (r : Made) where
-  pub made-grows : making r u ≡ made text place kind positions before n t → r ≡ D.Places m → n ≤ m
-  made-grows e p = rw (← e, p) at (all-more text t place kind positions before n)
-
 pub made-single : (text t : List ℕ) (n place : ℕ) (step : Step) → madeAll text place (step ∷ []) n t ≡ madeOne text place step n t
 unfolding madeAll
 made-single text t n place step = go (madeOne text place step n t)

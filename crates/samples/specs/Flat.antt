@@ -73,6 +73,7 @@ abbrev pub onMet : ℕ → List ℕ → (ℕ → Out) → Met → Out
 onMet here t k (M.Kind kind) = k kind
 onMet here t k (M.Refused refusal) = out (T.Refused refusal here) t
 
+-- with the children that were made, or at the child that is held
 abbrev pub onMade : ℕ → (ℕ → List ℕ → Out) → Making → Out
 onMade here k (making (L.Places n) t) = k n t
 onMade here k (making (L.Refused refusal) t) = out (T.Refused refusal here) t
@@ -219,6 +220,7 @@ ofHeld (ensuring (E.Refused refusal) t) = opening (O.Refused refusal) t
 unfoldable pub fieldHeld : List ℕ → ℕ → Name → ℕ → List ℕ → Opening
 fieldHeld text place name n t = if isUtf8 (bytesOf text name) then ofHeld (held text place (S.Field name) n t) else opening (O.Refused F.BadName) t
 
+-- by what stands there
 abbrev pub fieldOpened : List ℕ → ℕ → ℕ → List ℕ → Field → Opening
 fieldOpened text place n t (X.Named name) = fieldHeld text place name n t
 fieldOpened text place n t X.Ended = opening O.Ended t

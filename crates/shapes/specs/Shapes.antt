@@ -112,5 +112,6 @@ namedAt commands text byte at = leb (at + 5) (length commands) && eqb (getD comm
 unfoldable pub beginsAt : List ℕ → ℕ → ℕ → Bool
 beginsAt commands byte at = ltb at (length commands) && eqb (getD commands at 0) byte
 
+-- a struct does
 abbrev pub structAt : List ℕ → ℕ → Bool
 structAt commands at = beginsAt commands structByte at
