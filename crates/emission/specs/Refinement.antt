@@ -19,8 +19,9 @@ use Rattle.model.specs.Reading.{values}
 use Rattle.model.specs.Tracing.{trace, placeLimit, Counted, counted}
 use Rattle.model.specs.Emission.{placeOf, walk, Field, mk, Fields, fieldOf, rootFields, rootName, toSchema, namesIn, columnsIn, countIn}
 use Rattle.model.specs.Answer.{tableWords, inputLimit, schemaOf}
-use Rattle.samples.specs.declared.Traced.the-variants as T
-use Rattle.samples.specs.Flat.{out, fromSamples}
+use Rattle.leaves.specs.declared.Traced.the-variants as T
+use Rattle.samples.specs.Samples.{fromSamples}
+use Rattle.leaves.specs.Leaves.{out}
 use Rattle.refine.specs.Spots.{Spot, spot, Spots, no-spots, child, num}
 use Rattle.refine.specs.Commands.{Bytes}
 use Rattle.refine.specs.Numbers.{Good}

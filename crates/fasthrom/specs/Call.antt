@@ -6,8 +6,8 @@ use lib.ListN.{length}
 use Rattle.refusal.specs.Number.{numberOf}
 use Rattle.model.specs.Answer as M
 use Rattle.model.specs.Answer.{Batch, Buffers, turnedDown, answer}
-use Rattle.samples.specs.declared.Traced.the-variants as T
-use Rattle.samples.specs.Flat.{Out, out}
+use Rattle.leaves.specs.declared.Traced.the-variants as T
+use Rattle.leaves.specs.Leaves.{Out, out}
 use Rattle.order.specs.Flat.{sortedPlaces}
 use Rattle.schema.specs.declared.Emitted.the-variants as E
 use Rattle.schema.specs.Emit.{Answered, answered, toSchemaAt}

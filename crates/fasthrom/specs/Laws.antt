@@ -18,12 +18,13 @@ use Rattle.model.specs.Answer as M
 use Rattle.model.specs.Answer.{inputLimit, tableWords, schemaOf, answerOf, isShort, turnedDown, zeroed, written, withSchema}
 use Rattle.model.specs.Demand3.{batch}
 use Rattle.places.specs.Layout.{Linked, Sound}
-use Rattle.places.specs.Laws.{sound-cleared}
+use Rattle.places.specs.laws.Layout.{sound-cleared}
 use Rattle.equality.specs.Count.{traced}
-use Rattle.samples.specs.declared.Traced.{Traced}
-use Rattle.samples.specs.declared.Traced.the-variants as T
-use Rattle.samples.specs.Flat.{Out, out, fromSamples}
-use Rattle.samples.specs.Tail.{samples-tail}
+use Rattle.leaves.specs.declared.Traced.{Traced}
+use Rattle.leaves.specs.declared.Traced.the-variants as T
+use Rattle.samples.specs.Samples.{fromSamples}
+use Rattle.leaves.specs.Leaves.{Out, out}
+use Rattle.samples.specs.laws.Tail.{samples-tail}
 use Rattle.refine.specs.Commands.{Bytes}
 use Rattle.refine.specs.Tree.{outcome, treeOf}
 use Rattle.refine.specs.Refinement.{traced-is-model}

@@ -8,13 +8,13 @@ ghost use lib.Dec.{ltb};
 ghost use lib.ListN.{length, getD};
 ghost use Rattle.refine.specs.Commands.{Bytes};
 ghost use Rattle.places.specs.Layout.{Sound};
-ghost use Rattle.samples.specs.Flat.{fromSamples};
+ghost use Rattle.samples.specs.Samples.{fromSamples};
 ghost use Rattle.model.specs.Answer.{inputLimit, tableWords, answer, answerOf, schemaOf};
 ghost use Rattle.model.specs.Demand3.{batch};
 ghost use Rattle.fasthrom.specs.Call.{Given, emittedFrom, lent, answerBy, Called};
+use leaves::Traced;
 use options::TracingOptions;
 use refusal::Refusal;
-use samples::Traced;
 use schema::Emitted;
 
 // What the call answers.

@@ -3,10 +3,10 @@ use mathlib.Core.Path.{_≡_}
 use mathlib.Core.Bool.{true}
 use mathlib.Core.List.{List}
 use Prim.Native.Nat.{ℕ, _<_, _≤_}
-use lib.ListN.{length}
 use Rattle.text.specs.Name.{bytesOf, tagOf}
 use Rattle.text.specs.Utf8.{isUtf8}
-use Rattle.words.specs.Word.{word}
+use Rattle.words.specs.Word.{word, IsTable, IsRow}
+use Rattle.model.specs.Tracing.{placeLimit}
 use Rattle.shapes.specs.Steps.{fieldCode, unpackedName, Inside}
 
 -- a place's own words: kind, whether null was seen, samples, first and last child
@@ -73,13 +73,17 @@ tagWord = 15
 
 -- What is true of a table with n places: links are places, a next child has a higher number, and names end inside the text.
 pub record Linked (text t : List ℕ) (n : ℕ) : Type 0 where
-  pub most : n ≤ 1024
-  pub room : 16384 ≤ length t
-  pub first : (p : ℕ) → p < 1024 → word t p firstWord < n
-  pub last : (p : ℕ) → p < 1024 → word t p lastWord < n
-  pub next : (p : ℕ) → p < 1024 → word t p nextWord < n
-  pub rises : (p : ℕ) → p < 1024 → (word t p nextWord ≡ 0 → ⊥) → p < word t p nextWord
-  pub names : (p : ℕ) → p < 1024 → Inside text (unpackedName (word t p nameWord))
+  pub most : n ≤ placeLimit
+  pub room : IsTable t
+  pub first : (p : ℕ) → IsRow p → word t p firstWord < n
+  pub last : (p : ℕ) → IsRow p → word t p lastWord < n
+  pub next : (p : ℕ) → IsRow p → word t p nextWord < n
+  pub rises : (p : ℕ) → IsRow p → (word t p nextWord ≡ 0 → ⊥) → p < word t p nextWord
+  pub names : (p : ℕ) → IsRow p → Inside text (unpackedName (word t p nameWord))
+
+-- once it is traced, however many places there are
+abbrev pub Settled : List ℕ → List ℕ → Type 0
+Settled text t = Linked text t placeLimit
 
 -- the tag of a field is its name's
 abbrev pub Tagged : List ℕ → List ℕ → ℕ → Type 0

@@ -1,5 +1,2 @@
 pub mod Layout
-pub mod Numbered
-pub mod Flat
-pub mod Laws
-pub mod Tail
+pub mod laws

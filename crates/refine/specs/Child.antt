@@ -20,7 +20,8 @@ use Rattle.equality.specs.Base.{same-true, same-refl, or-cases}
 use Rattle.shapes.specs.declared.Step as Flat
 use Rattle.shapes.specs.Steps.{Inside, unpackedName, packedName, codeOf, nameOf}
 use Rattle.places.specs.Layout.{kindWord, firstWord, lastWord, rootWord, blockWord, leftWord, nextWord, parentWord, stepWord, nameWord, rightWord}
-use Rattle.places.specs.Flat.{isAt, findTurn, findFrom, findIn, linked, appended, described}
+use Rattle.growth.specs.Growth.{linked, appended, described}
+use Rattle.search.specs.Search.{isAt, findTurn, findFrom, findIn}
 use Rattle.refine.specs.Spots.{Spot, spot, Spots, no-spots, child, num, belowS, stepsS, newSpot, spotAt, addS}
 use Rattle.refine.specs.Steps.{near, near-name, near-renames, far-same, far-renames, same-renames, stepCodeOf, nameIn, test-is, Stands, unpacked}
 use Rattle.refine.specs.Numbers.{firstOf, lastFrom, within, withinIn, nearIn, Good, GoodIn, both-false, or-right, not-both, un-true, bounded, boundedIn, self, has-add-old, add-good, not-below, or-left, has-num, has-below}

@@ -44,7 +44,7 @@ use Rattle.shapes.specs.declared.Part.{Part}
 use Rattle.shapes.specs.declared.Part.the-variants as P
 use Rattle.shapes.specs.Steps.{Inside}
 use Rattle.shapes.specs.Shapes.{shapeAt, valuePart, fieldPart, partAt}
-use Rattle.samples.specs.Flat.{someByte, newtypeByte}
+use Rattle.leaves.specs.Marks.{someByte, newtypeByte}
 use Rattle.refine.specs.Steps.{Stands}
 
 -- what holds of two choices by one test

@@ -17,10 +17,10 @@ use Rattle.model.specs.Tracing.{placeLimit, has}
 use Rattle.equality.specs.Base.{same-true, or-cases}
 use Rattle.shapes.specs.declared.Step as Flat
 use Rattle.shapes.specs.Steps.{fieldCode, codeOf, nameOf}
-use Rattle.places.specs.declared.Slot.{Slot}
+use Rattle.search.specs.declared.Slot.{Slot}
 use Rattle.places.specs.Layout.{rootWord, blockWord, leftWord, nextWord, stepWord, rightWord, tagWord}
-use Rattle.places.specs.Numbered.{isNumbered, follow, slot, seek, entered}
-use Rattle.places.specs.Flat.{appended, tagged}
+use Rattle.search.specs.Tree.{isNumbered, follow, slot, seek}
+use Rattle.growth.specs.Growth.{appended, tagged, entered}
 use Rattle.refine.specs.Spots.{spot, Spots, no-spots, child, num, stepsS, spotAt, addS}
 use Rattle.refine.specs.Steps.{near, near-codes, near-number, stepCodeOf, Stands}
 use Rattle.refine.specs.Numbers.{lastFrom, within, withinIn, nearIn, GoodIn, or-left, or-right, not-both, boundedIn, self, child-good, has-add-old, add-found}

@@ -14,7 +14,7 @@ use Rattle.model.specs.Kinds.{sequenceKind, mapKind, tupleKind, isContainer, St
 use Rattle.model.specs.Reading.{Value, val, cut, Parts, no-parts, cut-off, part, values}
 use Rattle.model.specs.Tracing.{Tree, node, Kids, no-kids, kid, dotsOf, placeLimit, meet, stepsOf, has, kidAt, put, clashes, room, made, Counted, counted, make, holds, one, tally, observe, observeParts, observeAll, trace}
 use Rattle.equality.specs.Base.{same-true, same-refl, same-sym}
-use Rattle.places.specs.Flat.{onward}
+use Rattle.growth.specs.Growth.{onward}
 use Rattle.refine.specs.Spots.{Spot, spot, Spots, no-spots, child, stepsS, newSpot, spotAt, putS, addS, makeS, makeAllS, sampleOf, walk, walkParts, walkAll}
 use Rattle.refine.specs.Bounds.{nodes, nodesIn, nodesAll, Bare, BareIn, AllBare, values-bare, values-few}
 

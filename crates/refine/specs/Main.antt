@@ -15,7 +15,8 @@ use Rattle.model.specs.Reading.{values}
 use Rattle.model.specs.Answer.{tableWords}
 use Rattle.model.specs.Tracing.{one, placeLimit, Counted}
 use Rattle.shapes.specs.Steps.{unpackedName}
-use Rattle.samples.specs.Flat.{Out, fromSamples}
+use Rattle.samples.specs.Samples.{fromSamples}
+use Rattle.leaves.specs.Leaves.{Out}
 use Rattle.places.specs.Layout.{kindWord, nullWord, samplesWord, firstWord, nextWord, stepWord, nameWord, heldWord}
 use Rattle.refine.specs.Spots.{Spot, spot, Spots, no-spots, child, num, newSpot, walkAll}
 use Rattle.refine.specs.Tree.{stepBy, stepAt, treeAt, kidsAt, treeOf, outcome}

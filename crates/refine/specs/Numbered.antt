@@ -12,9 +12,10 @@ use Rattle.model.specs.Kinds.{Step, same}
 use Rattle.model.specs.Tracing.{placeLimit, has}
 use Rattle.equality.specs.Base.{or-cases}
 use Rattle.shapes.specs.Steps.{fieldCode}
-use Rattle.places.specs.declared.Slot.{Slot}
+use Rattle.search.specs.declared.Slot.{Slot}
 use Rattle.places.specs.Layout.{rootWord, blockWord, leftWord, stepWord, rightWord}
-use Rattle.places.specs.Numbered.{follow, slot, seek, Ends, seek-ends, Again, seek-again}
+use Rattle.search.specs.laws.Tree.{Ends, seek-ends, Again, seek-again}
+use Rattle.search.specs.Tree.{follow, slot, seek}
 use Rattle.refine.specs.Spots.{Spot, spot, Spots, no-spots, child, num, belowS, stepsS, newSpot, spotAt, putS, addS}
 use Rattle.refine.specs.Steps.{stepCodeOf}
 use Rattle.refine.specs.Numbers.{within, withinIn, Good, GoodIn, or-left, or-right, not-both, un-true, self, found, has-num, has-below, not-below}

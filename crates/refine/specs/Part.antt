@@ -18,9 +18,9 @@ use Rattle.model.specs.Tracing.{one, has, clashes, placeLimit, Counted, counted
 use Rattle.shapes.specs.declared.Step as Flat
 use Rattle.shapes.specs.declared.Step.the-variants as S
 use Rattle.shapes.specs.Steps.{codeOf, noName, nameOf}
-use Rattle.places.specs.declared.Ensured.the-variants as E
-use Rattle.places.specs.Numbered.{entered}
-use Rattle.places.specs.Flat.{findIn, inBlock, childAt, Ensuring, ensuring, confirmed, ensuredBy, ensured, appended, tagged, onward, touched}
+use Rattle.growth.specs.declared.Ensured.the-variants as E
+use Rattle.growth.specs.Growth.{Ensuring, ensuring, confirmed, ensuredBy, ensured, appended, tagged, onward, touched, entered}
+use Rattle.search.specs.Search.{findIn, inBlock, childAt}
 use Rattle.places.specs.Layout.{kindWord, samplesWord, firstWord, rootWord, blockWord, leftWord, nextWord, stepWord, heldWord, markWord, rightWord}
 use Rattle.refine.specs.Spots.{Spot, spot, Spots, no-spots, child, num, belowS, stepsS, spotAt, putS, addS, makeS}
 use Rattle.refine.specs.Steps.{stepCodeOf, Stands}

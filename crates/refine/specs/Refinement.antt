@@ -7,7 +7,7 @@ use Rattle.words.specs.Word.{cleared}
 use Rattle.model.specs.Answer.{tableWords, inputLimit}
 use Rattle.model.specs.Reading.{values}
 use Rattle.model.specs.Tracing.{trace}
-use Rattle.samples.specs.Flat.{fromSamples}
+use Rattle.samples.specs.Samples.{fromSamples}
 use Rattle.refine.specs.Tree.{outcome}
 use Rattle.refine.specs.Commands.{Bytes}
 use Rattle.refine.specs.Main.{flat-outcome}

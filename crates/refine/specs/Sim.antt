@@ -21,9 +21,11 @@ use Rattle.shapes.specs.declared.Contents.{Contents}
 use Rattle.shapes.specs.declared.Contents.the-variants as N
 use Rattle.shapes.specs.declared.Part.{Part}
 use Rattle.shapes.specs.Steps.{nameOf}
-use Rattle.places.specs.Flat.{Ensuring}
-use Rattle.samples.specs.declared.Traced.the-variants as T
-use Rattle.samples.specs.Flat.{Out, out, Reader, Readers, onHeld, holding, held, dotsIn, partRead, State, state, afterPart, onPart, partTurn, partStop}
+use Rattle.growth.specs.Growth.{Ensuring}
+use Rattle.leaves.specs.declared.Traced.the-variants as T
+use Rattle.reading.specs.Flat.{Reader, Readers, onHeld, dotsIn, partRead, State, state, afterPart, onPart, partTurn, partStop}
+use Rattle.opening.specs.Opening.{holding, held}
+use Rattle.leaves.specs.Leaves.{Out, out}
 use Rattle.places.specs.Layout.{samplesWord}
 use Rattle.refine.specs.Spots.{Spot, spot, Spots, num, stepsS, spotAt, putS, walk, walkParts}
 use Rattle.refine.specs.Steps.{nameIn, dots-of, Stands}

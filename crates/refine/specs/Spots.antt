@@ -11,7 +11,7 @@ use Rattle.model.specs.Result.{Result, refused, _>>=_}
 use Rattle.model.specs.Kinds.{isContainer, Step, same}
 use Rattle.model.specs.Reading.{Value, val, cut, Parts, no-parts, cut-off, part}
 use Rattle.model.specs.Tracing.{dotsOf, placeLimit, meet, has, clashes, made, Counted, counted}
-use Rattle.places.specs.Flat.{onward}
+use Rattle.growth.specs.Growth.{onward}
 
 -- a place with its number, and its children, each with the step to it, how many samples held it and the last of them
 mutual

@@ -12,8 +12,8 @@ use Rattle.model.specs.Kinds.{Step, field, element, position, key, value, varia
 use Rattle.model.specs.Tracing.{Tree, node, Kids, no-kids, kid, fresh, Counted, counted}
 use Rattle.shapes.specs.Steps.{fieldCode, unpackedName}
 use Rattle.places.specs.Layout.{kindWord, nullWord, samplesWord, firstWord, nextWord, stepWord, nameWord, heldWord}
-use Rattle.samples.specs.declared.Traced.the-variants as T
-use Rattle.samples.specs.Flat.{Out, out}
+use Rattle.leaves.specs.declared.Traced.the-variants as T
+use Rattle.leaves.specs.Leaves.{Out, out}
 
 -- a step by its word and its name: 0 element, 1 key, 2 value, 3 field, then positions and variants by turns
 unfoldable pub stepBy : ℕ → List ℕ → Step

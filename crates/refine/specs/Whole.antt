@@ -38,14 +38,19 @@ use Rattle.shapes.specs.Steps.{codeOf, noName, packedName}
 use Rattle.shapes.specs.declared.Contents.{Contents}
 use Rattle.shapes.specs.declared.Contents.the-variants as N
 use Rattle.shapes.specs.declared.Shape as FlatShape
-use Rattle.places.specs.declared.Met.{Met}
-use Rattle.places.specs.declared.Met.the-variants as M
-use Rattle.places.specs.declared.Made.the-variants as L
-use Rattle.places.specs.Flat as Places
-use Rattle.places.specs.Flat.{ofJoint, meeting, linked, described, appended, Ensuring, Making, making, ofEnsuring, madeOne, thenMade, madeAll, appendedFrom, positionsMade, onward, sampled, ensured}
-use Rattle.samples.specs.declared.Traced.the-variants as T
-use Rattle.samples.specs.Flat as Samples
-use Rattle.samples.specs.Flat.{someByte, newtypeByte, chain, pastTurn, pastMarks, Out, out, onMet, onMade, stored, observed, Readers, State, state, afterPart, partsFrom, partsBy, containerBy, variantBy, atShape, atRead, afterChain, valueBy, none-left, readers, levelLimit, recordTurn, recordStop, recordsAt, fromSamples, onHeld, holding, held, madeWhere, containerMade, heldWhere, variantHeld, dotsIn}
+use Rattle.kinds.specs.declared.Met.{Met}
+use Rattle.kinds.specs.declared.Met.the-variants as M
+use Rattle.growth.specs.declared.Made.the-variants as L
+use Rattle.growth.specs.Growth.{positionsFrom as positionsOf, made as madeFlat}
+use Rattle.growth.specs.Growth.{linked, described, appended, Ensuring, Making, making, ofEnsuring, madeOne, thenMade, madeAll, appendedFrom, positionsMade, onward, sampled, ensured}
+use Rattle.kinds.specs.Meeting.{ofJoint, meeting}
+use Rattle.leaves.specs.declared.Traced.the-variants as T
+use Rattle.leaves.specs.Marks.{marked as markedFlat}
+use Rattle.reading.specs.Flat.{onMade, Readers, State, state, afterPart, partsFrom, partsBy, containerBy, variantBy, atShape, atRead, afterChain, valueBy, none-left, readers, onHeld, dotsIn}
+use Rattle.samples.specs.Samples.{levelLimit, recordTurn, recordStop, recordsAt, fromSamples}
+use Rattle.opening.specs.Opening.{holding, held, madeWhere, containerMade, heldWhere, variantHeld}
+use Rattle.leaves.specs.Leaves.{Out, out, onMet, stored, observed}
+use Rattle.leaves.specs.Marks.{someByte, newtypeByte, chain, pastTurn, pastMarks}
 use Rattle.places.specs.Layout.{kindWord, nullWord, samplesWord, firstWord, lastWord, rootWord, blockWord, nextWord, parentWord, stepWord, nameWord}
 use Rattle.refine.specs.Spots.{Spot, spot, Spots, no-spots, child, num, stepsS, newSpot, spotAt, addS, makeS, makeAllS, walk, walkParts, walkAll}
 use Rattle.refine.specs.Steps.{near, Stands}
@@ -96,7 +101,7 @@ AllStand text [] (s ∷ ss) = ⊥
 AllStand text (x ∷ xs) [] = ⊥
 AllStand text (x ∷ xs) (s ∷ ss) = Stands text x s × AllStand text xs ss
 
-positions-stand : (text : List ℕ) (i n : ℕ) → AllStand text (Places.positionsFrom i n) (positionsFrom i n)
+positions-stand : (text : List ℕ) (i n : ℕ) → AllStand text (positionsOf i n) (positionsFrom i n)
 positions-stand text i zero = tt
 positions-stand text i (suc n) = (position-stands text i, positions-stand text (suc i) n)
 
@@ -243,10 +248,10 @@ module _ (text t : List ℕ) (n p : ℕ) (b : Bool) (k m at : ℕ) where
       rw e (block-all positions no-spots z (append-all text p b k m at n positions positions 0 t n no-spots (omega arith) h′ (none-yet n)))
   ensure-positions positions (child r x y u ks) h =
       let e : word t p firstWord ≡ num u = h .rep .0 3 (omega arith) in
-      rw (e, ne-eqb (num u) 0 (omega (arith, h .good .2 .0))) (ensure-all text p b k m at (Places.positionsFrom 0 positions) (positionsFrom 0 positions) (positions-stand text 0 positions) t n (child r x y u ks) h)
+      rw (e, ne-eqb (num u) 0 (omega (arith, h .good .2 .0))) (ensure-all text p b k m at (positionsOf 0 positions) (positionsFrom 0 positions) (positions-stand text 0 positions) t n (child r x y u ks) h)
 
-  ensure-made : (kind positions before : ℕ) (ks : Spots) → Fits text t n (spot p b k m ks) → EnsuresAll text p b k m ks t n at (makeAllS at (made kind positions before) n ks) (Places.made text p kind positions before n t)
-  unfolding made Places.made makeAllS
+  ensure-made : (kind positions before : ℕ) (ks : Spots) → Fits text t n (spot p b k m ks) → EnsuresAll text p b k m ks t n at (makeAllS at (made kind positions before) n ks) (madeFlat text p kind positions before n t)
+  unfolding made madeFlat makeAllS
   ensure-made kind positions before ks h =
       let Same : List Step → Making → Type 0 = λ ss y. EnsuresAll text p b k m ks t n at (makeAllS at ss n ks) y in
       choices Same (eqb kind sequenceKind) (ensure-all text p b k m at (S.Element ∷ []) (element ∷ []) (element-stands text, tt) t n ks h) (
@@ -317,7 +322,7 @@ module _ (options : ℕ) (commands text : List ℕ) (bytes : Bytes commands) (de
     where
       go : (x : Met) → meeting options levels j₀ k ≡ x → Agrees text commands t n (spot p b j₀ m ks) at
           (ofMet here x >>= λ j. makeAllS here (made k r j₀) n ks >>= λ q. walkParts options depth (onward m) (readParts f options commands text k r 0 at .0) (q .places) (q .what) >>= λ q. counted (q .places) (spot p b j (onward m) (q .what)))
-          (onMade here (partsBy commands text inner k r p at) (madeWhere t (λ j. Places.made text p k r j₀ n (sampled p j t)) x)) (readParts f options commands text k r 0 at .1)
+          (onMade here (partsBy commands text inner k r p at) (madeWhere t (λ j. madeFlat text p k r j₀ n (sampled p j t)) x)) (readParts f options commands text k r 0 at .1)
       go (M.Refused x) e = balked
       go (M.Kind j) e =
           let A = sample text t n p b j₀ m ks h j in
@@ -387,7 +392,7 @@ module _ (options : ℕ) (commands text : List ℕ) (bytes : Bytes commands) (de
 
   chain-sim : (g f at n : ℕ) (t : List ℕ) (u : Spot) → at ≤ length commands → length commands < at + g → 4 * length commands + 1 ≤ 4 * at + f → Fits text t n u
       → Agrees text commands t n u (at + 1) (walk options depth (readValue f options commands text at .0) n u) (afterChain commands text options levels inner (num u) n (turns (pastTurn commands (num u)) (λ s. s) g (chain at t))) (readValue f options commands text at .1)
-  unfolding turns after pastTurn Samples.marked readValue shapeOf if_then_else_
+  unfolding turns after pastTurn markedFlat readValue shapeOf if_then_else_
   chain-sim zero f at n t u y e i h = absurd (omega arith)
   chain-sim (suc g) zero at n t u y e i h = absurd (omega arith)
   chain-sim (suc g) (suc zero) at n t u y e i h =

@@ -1,8 +1,2 @@
-pub mod Flat
-pub mod Onward
-pub mod Ways
-pub mod Loops
-pub mod Plain
-pub mod Same
-pub mod Table
-pub mod Tail
+pub mod Samples
+pub mod laws

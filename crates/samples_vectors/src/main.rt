@@ -1,9 +1,11 @@
 // Traces each batch of batches.bin, and prints the places that it gives: parent, step, kind, null, samples and held.
 ghost use Prim.Native.Nat.{_+_, _<_, _≤_};
 ghost use lib.ListN.{length};
+ghost use Rattle.words.specs.Word.{IsTable, IsRow};
+ghost use Rattle.model.specs.Tracing.{placeLimit};
+use leaves::Traced;
 use libc::STDOUT_FILENO;
 use options::TracingOptions;
-use samples::Traced;
 
 const WORDS: usize = 16384;
 
@@ -13,7 +15,7 @@ fn print_number(n: u32, after: &[u8]) {
 }
 
 fn print_place(table: &[u32], place: usize)
-    requires { ⌜ (place < 1024) × (16384 ≤ length (now table)) ⌝ }
+    requires { ⌜ IsTable (now table) × IsRow place ⌝ }
 {
     print_number(words::get(table, place, places::PARENT), b" ");
     print_number(words::get(table, place, places::STEP), b" ");
@@ -24,7 +26,7 @@ fn print_place(table: &[u32], place: usize)
 }
 
 fn print_places(table: &[u32], count: usize)
-    requires { ⌜ (count ≤ 1024) × (16384 ≤ length (now table)) ⌝ }
+    requires { ⌜ IsTable (now table) × (count ≤ placeLimit) ⌝ }
 {
     io::write_all(STDOUT_FILENO, b"places ");
     io::print_decimal(STDOUT_FILENO, count as u64);
@@ -44,7 +46,7 @@ fn print_refusal(number: u8, place: usize) {
 }
 
 fn trace(options: u16, commands: &[u8], text: &[u8], table: &mut [u32])
-    requires { ⌜ 16384 ≤ length (now table) ⌝ }
+    requires { ⌜ IsTable (now table) ⌝ }
 {
     words::clear(table, WORDS);
     match samples::from_samples(commands, text, TracingOptions::new(options), table) {
@@ -73,7 +75,7 @@ fn two_bytes(batches: &[u8], at: usize) -> usize
 
 // A batch is the options word, the lengths of commands and text, and both. One that is cut off is the last.
 fn trace_all(batches: &[u8], table: &mut [u32])
-    requires { ⌜ 16384 ≤ length (now table) ⌝ }
+    requires { ⌜ IsTable (now table) ⌝ }
 {
     let mut at = 0;
     while batches.len() - at >= 6 {

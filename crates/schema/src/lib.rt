@@ -8,14 +8,14 @@ ghost use lib.ListN.{length};
 ghost use Rattle.datatype.specs.Codes.{utf8, largeUtf8};
 ghost use Rattle.options.specs.Word.{stringDictionaryEncoding};
 ghost use Rattle.text.specs.Decimal.{decimal};
-ghost use Rattle.words.specs.Word.{word};
+ghost use Rattle.words.specs.Word.{word, IsTable, IsRow};
 ghost use Rattle.model.specs.Kinds.{isStruct};
-ghost use Rattle.model.specs.Tracing.{one};
+ghost use Rattle.model.specs.Tracing.{one, placeLimit};
 ghost use Rattle.model.specs.Emission.{typeOf, strategyOf};
 ghost use Rattle.shapes.specs.Steps.{fieldCode};
-ghost use Rattle.places.specs.Layout.{Linked, nullWord};
+ghost use Rattle.places.specs.Layout.{Settled, nullWord};
 ghost use Rattle.order.specs.Flat.{sortedPlaces};
-ghost use Rattle.walk.specs.Order.{childName, nextChild};
+ghost use Rattle.walk.specs.Order.{childName, childLimit, nextChild};
 ghost use Rattle.schema.specs.Put.{Put, putBytes, recordOf, putGaps};
 ghost use Rattle.schema.specs.Emit.{countWith, countFrom, fieldCount, lackingAt, isDictionary, isStructRoot, Writing, entriesIn, fieldAt, isLeaf, childIn, emittedAt, fieldsBelow, Answered, finished, toSchemaAt};
 use options::TracingOptions;
@@ -130,7 +130,7 @@ fn is_position(step: u32) -> bool
 
 // The name of a child.
 fn put_name(text: &[u8], table: &[u32], child: usize, names: &mut [u8], at: usize) -> usize
-    requires { ⌜ Linked (now text) (now table) 1024 × (child < 1024) × (at ≤ length (now names)) ⌝ }
+    requires { ⌜ Settled (now text) (now table) × IsRow child × (at ≤ length (now names)) ⌝ }
     ensures { λ r. ⌜ (Put.put r (now (names .exit)) ≡ putBytes (childName (now (text .entry)) (now (table .entry)) child) (now (names .entry)) at) × (r ≤ length (now (names .exit))) ⌝ }
 {
     let step = words::get(table, child, places::STEP);
@@ -204,7 +204,7 @@ fn put_entries(kind: u32, ends: Ends, fields: &mut [u8], names: &mut [u8]) -> En
 
 // The count of fields after a child: the slots of a union up to its own.
 fn count_with(kind: u32, table: &[u32], child: usize, count: u32) -> u32
-    requires { ⌜ (child < 1024) × (16384 ≤ length (now table)) ⌝ }
+    requires { ⌜ IsRow child × IsTable (now table) ⌝ }
     ensures { λ r. ⌜ r ≡ countWith kind (now (table .entry)) child count ⌝ }
 {
     if kind == shapes::UNION {
@@ -215,8 +215,8 @@ fn count_with(kind: u32, table: &[u32], child: usize, count: u32) -> u32
 
 // How many fields stand below a place, from a child on.
 fn count_children(table: &[u32], kind: u32, place: usize) -> u32
-    requires { ⌜ (place < 1024) × (16384 ≤ length (now table)) ⌝ }
-    ensures { λ r. ⌜ r ≡ countFrom (now (table .entry)) kind place 1024 0 (nextChild (now (table .entry)) false kind place 0) ⌝ }
+    requires { ⌜ IsRow place × IsTable (now table) ⌝ }
+    ensures { λ r. ⌜ r ≡ countFrom (now (table .entry)) kind place childLimit 0 (nextChild (now (table .entry)) false kind place 0) ⌝ }
 {
     let mut count: u32 = 0;
     let mut child = walk::next_child(table, false, kind, place, 0);
@@ -235,7 +235,7 @@ fn count_children(table: &[u32], kind: u32, place: usize) -> u32
 // How many fields a place's field has: the entries of a map, the slots of a union up to the highest seen, else its
 // children.
 fn field_count(table: &[u32], kind: u32, place: usize) -> u32
-    requires { ⌜ (place < 1024) × (16384 ≤ length (now table)) ⌝ }
+    requires { ⌜ IsRow place × IsTable (now table) ⌝ }
     ensures { λ r. ⌜ r ≡ fieldCount (now (table .entry)) kind place ⌝ }
 {
     if kind == shapes::MAP {
@@ -313,7 +313,7 @@ fn strategy_of(kind: u32) -> u8
 
 // A struct field that some sample lacks.
 fn is_lacking(table: &[u32], kind: u32, place: usize, child: usize) -> bool
-    requires { ⌜ (place < 1024) × (child < 1024) × (16384 ≤ length (now table)) ⌝ }
+    requires { ⌜ IsRow place × IsRow child × IsTable (now table) ⌝ }
     ensures { λ r. ⌜ r ≡ lackingAt (now (table .entry)) kind place child ⌝ }
 {
     if !is_struct(kind) {
@@ -324,7 +324,7 @@ fn is_lacking(table: &[u32], kind: u32, place: usize, child: usize) -> bool
 
 // A union that is emitted as a dictionary.
 fn is_dictionary(options: TracingOptions, table: &[u32], place: usize) -> bool
-    requires { ⌜ (place < 1024) × (16384 ≤ length (now table)) ⌝ }
+    requires { ⌜ IsRow place × IsTable (now table) ⌝ }
     ensures { λ r. ⌜ r ≡ isDictionary (options .word) (now (table .entry)) place ⌝ }
 {
     if words::get(table, place, places::KIND) != shapes::UNION {
@@ -348,7 +348,7 @@ fn put_field(
     fields: &mut [u8],
     names: &mut [u8],
 ) -> Ends
-    requires { ⌜ Linked (now text) (now table) 1024 × (place < 1024) ⌝ }
+    requires { ⌜ Settled (now text) (now table) × IsRow place ⌝ }
     requires { ⌜ (ends .records ≤ length (now fields)) × (ends .names ≤ length (now names)) ⌝ }
     ensures { λ r. ⌜ (Writing.writing (r .records) (r .names) (now (fields .exit)) (now (names .exit)) ≡ fieldAt (options .word) (now (text .entry)) (now (table .entry)) place nullable number (Writing.writing (ends .records) (ends .names) (now (fields .entry)) (now (names .entry)))) × (r .records ≤ length (now (fields .exit))) × (r .names ≤ length (now (names .exit))) ⌝ }
 {
@@ -392,7 +392,7 @@ fn put_field(
 
 // Whether nothing is emitted below a place.
 fn is_leaf(options: TracingOptions, levels: usize, table: &[u32], place: usize) -> bool
-    requires { ⌜ (place < 1024) × (16384 ≤ length (now table)) ⌝ }
+    requires { ⌜ IsRow place × IsTable (now table) ⌝ }
     ensures { λ r. ⌜ r ≡ isLeaf (options .word) (now (table .entry)) (eqb levels 0) place ⌝ }
 {
     if words::get(table, place, places::KIND) < shapes::SEQUENCE {
@@ -405,7 +405,7 @@ fn is_leaf(options: TracingOptions, levels: usize, table: &[u32], place: usize) 
 }
 
 fn is_nullable(table: &[u32], place: usize, lacking: bool) -> bool
-    requires { ⌜ (place < 1024) × (16384 ≤ length (now table)) ⌝ }
+    requires { ⌜ IsRow place × IsTable (now table) ⌝ }
     ensures { λ r. ⌜ r ≡ (lacking || eqb (word (now (table .entry)) place nullWord) 1) ⌝ }
 {
     if lacking {
@@ -427,7 +427,7 @@ fn emit(
     fields: &mut [u8],
     names: &mut [u8],
 ) -> Ends
-    requires { ⌜ Linked (now text) (now table) 1024 × (place < 1024) ⌝ }
+    requires { ⌜ Settled (now text) (now table) × IsRow place ⌝ }
     requires { ⌜ (ends .records ≤ length (now fields)) × (ends .names ≤ length (now names)) ⌝ }
     ensures { λ r. ⌜ (Writing.writing (r .records) (r .names) (now (fields .exit)) (now (names .exit)) ≡ emittedAt (options .word) (now (text .entry)) (now (table .entry)) levels place lacking number (Writing.writing (ends .records) (ends .names) (now (fields .entry)) (now (names .entry)))) × (r .records ≤ length (now (fields .exit))) × (r .names ≤ length (now (names .exit))) ⌝ }
 {
@@ -472,7 +472,7 @@ fn emit_children(
     fields: &mut [u8],
     names: &mut [u8],
 ) -> Ends
-    requires { ⌜ Linked (now text) (now table) 1024 × (place < 1024) ⌝ }
+    requires { ⌜ Settled (now text) (now table) × IsRow place ⌝ }
     requires { ⌜ (ends .records ≤ length (now fields)) × (ends .names ≤ length (now names)) ⌝ }
     ensures { λ r. ⌜ (Writing.writing (r .records) (r .names) (now (fields .exit)) (now (names .exit)) ≡ fieldsBelow (now (table .entry)) (emittedAt (options .word) (now (text .entry)) (now (table .entry)) levels) kind place (Writing.writing (ends .records) (ends .names) (now (fields .entry)) (now (names .entry)))) × (r .records ≤ length (now (fields .exit))) × (r .names ≤ length (now (names .exit))) ⌝ }
 {
@@ -518,8 +518,8 @@ fn emit_child(
     fields: &mut [u8],
     names: &mut [u8],
 ) -> Ends
-    requires { ⌜ Linked (now text) (now table) 1024 × (place < 1024) ⌝ }
-    requires { ⌜ child < 1024 ⌝ }
+    requires { ⌜ Settled (now text) (now table) × IsRow place ⌝ }
+    requires { ⌜ IsRow child ⌝ }
     requires { ⌜ (ends .records ≤ length (now fields)) × (ends .names ≤ length (now names)) ⌝ }
     ensures { λ r. ⌜ (Writing.writing (r .records) (r .names) (now (fields .exit)) (now (names .exit)) ≡ childIn (now (table .entry)) (emittedAt (options .word) (now (text .entry)) (now (table .entry)) levels) kind place slot child (Writing.writing (ends .records) (ends .names) (now (fields .entry)) (now (names .entry)))) × (r .records ≤ length (now (fields .exit))) × (r .names ≤ length (now (names .exit))) ⌝ }
 {
@@ -559,7 +559,7 @@ pub fn to_schema(
     fields: &mut [u8],
     names: &mut [u8],
 ) -> Emitted
-    requires { ⌜ Linked (now text) (now table) 1024 × (count ≤ 1024) ⌝ }
+    requires { ⌜ Settled (now text) (now table) × (count ≤ placeLimit) ⌝ }
     ensures { λ r. ⌜ (Answered.answered r (now (fields .exit)) (now (names .exit)) ≡ toSchemaAt (options .word) (now (text .entry)) (sortedPlaces (now (text .entry)) (now (table .entry)) count) (now (fields .entry)) (now (names .entry))) × (now (table .exit) ≡ sortedPlaces (now (text .entry)) (now (table .entry)) count) ⌝ }
 {
     order::sort_places(text, count, table);
@@ -589,7 +589,7 @@ fn finish(
     fields: &mut [u8],
     names: &mut [u8],
 ) -> Emitted
-    requires { ⌜ Linked (now text) (now table) 1024 ⌝ }
+    requires { ⌜ Settled (now text) (now table) ⌝ }
     ensures { λ r. ⌜ Answered.answered r (now (fields .exit)) (now (names .exit)) ≡ finished (options .word) (now (text .entry)) (now (table .entry)) (now (fields .entry)) (now (names .entry)) records bytes below ⌝ }
 {
     let kind = words::get(table, 0, places::KIND);

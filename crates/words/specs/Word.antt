@@ -1,7 +1,15 @@
--- The words of a place in the work table: sixteen, one place after another.
-use Prim.Native.Nat.{ℕ, _+_, _*_}
+-- The part of the work table that is lent to the tracer, and the words of a place in it: sixteen, one place after another.
 use mathlib.Core.List.{List, _++_}
-use lib.ListN.{getD, set, drop, replicate}
+use Prim.Native.Nat.{ℕ, _+_, _*_, _<_, _≤_}
+use lib.ListN.{length, getD, set, drop, replicate}
+
+-- it has sixteen words for each of 1,024 places
+abbrev pub IsTable : List ℕ → Type 0
+IsTable t = 16384 ≤ length t
+
+-- a place's number in it
+abbrev pub IsRow : ℕ → Type 0
+IsRow place = place < 1024
 
 -- word `field` of a place
 abbrev pub word : List ℕ → ℕ → ℕ → ℕ

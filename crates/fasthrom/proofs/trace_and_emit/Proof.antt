@@ -5,9 +5,10 @@ use mathlib.Core.List.{List}
 use Prim.Native.Nat.{ℕ, _≤_}
 use lib.ListN.{length}
 use Rattle.refusal.specs.declared.Refusal.{Refusal}
-use Rattle.samples.specs.declared.Traced.{Traced}
-use Rattle.samples.specs.declared.Traced.the-variants as T
-use Rattle.samples.specs.Flat.{out, fromSamples, SoundTraced}
+use Rattle.leaves.specs.declared.Traced.{Traced}
+use Rattle.leaves.specs.declared.Traced.the-variants as T
+use Rattle.samples.specs.Samples.{fromSamples}
+use Rattle.leaves.specs.Leaves.{out, SoundTraced}
 use Rattle.places.specs.Layout.{Linked}
 use Rattle.order.specs.Flat.{sortedPlaces}
 use Rattle.schema.specs.declared.Emitted.{Emitted}

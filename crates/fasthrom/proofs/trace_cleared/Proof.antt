@@ -6,8 +6,8 @@ use Prim.Native.Nat.{ℕ, _≤_}
 use lib.ListN.{length}
 use Rattle.words.specs.Word.{cleared}
 use Rattle.places.specs.Layout.{Sound}
-use Rattle.places.specs.Laws.{sound-cleared}
-use Rattle.samples.specs.Flat.{fromSamples}
+use Rattle.places.specs.laws.Layout.{sound-cleared}
+use Rattle.samples.specs.Samples.{fromSamples}
 use Rattle.refine.specs.Commands.{Bytes}
 use Rattle.model.specs.Answer.{inputLimit, tableWords, schemaOf, answerOf}
 use Rattle.model.specs.Demand3.{batch}

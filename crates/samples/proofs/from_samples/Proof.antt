@@ -4,9 +4,9 @@ use borrow.Author.Needs.{needs}
 use mathlib.Core.Path.{_≡_}
 use lib.ListN.{length}
 use Rattle.places.specs.Layout.{Ready}
-use Rattle.samples.specs.Flat.{recordsAt, fromSamples}
-use Rattle.samples.specs.Loops.{records-end, records-stopped, records-more, records-less}
-use Rattle.samples.specs.Table.{root-ready, traced-ready, root-sound}
+use Rattle.samples.specs.Samples.{recordsAt, fromSamples}
+use Rattle.samples.specs.laws.Samples.{records-end, records-stopped, records-more, records-less, root-ready, root-sound}
+use Rattle.reading.specs.Table.{traced-ready}
 use Rattle.samples.proofs.from_samples.Statement.{statement}
 use Rattle.samples.proofs.from_samples.Tie as tie
 

@@ -6,11 +6,11 @@ use Prim.Native.Nat.{ℕ, _≤_}
 use lib.ListN.{length}
 use Rattle.words.specs.Word.{cleared}
 use Rattle.places.specs.Layout.{Sound}
-use Rattle.places.specs.Laws.{sound-cleared}
-use Rattle.samples.specs.declared.Traced.{Traced}
-use Rattle.samples.specs.declared.Traced.the-variants as T
-use Rattle.samples.specs.Flat.{SoundTraced}
-use Rattle.samples.specs.Table.{traced-sound}
+use Rattle.places.specs.laws.Layout.{sound-cleared}
+use Rattle.leaves.specs.declared.Traced.{Traced}
+use Rattle.leaves.specs.declared.Traced.the-variants as T
+use Rattle.leaves.specs.Leaves.{SoundTraced}
+use Rattle.reading.specs.Table.{traced-sound}
 use Rattle.samples_vectors.proofs.trace.Statement.{statement}
 use Rattle.samples_vectors.proofs.trace.Tie as tie
 

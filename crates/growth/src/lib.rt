@@ -1,0 +1,267 @@
+// New places (tracer.rs, ensure_*): children that are found or made, samples counted, and the children that a container makes.
+ghost use mathlib.Core.Path.{_≡_};
+ghost use Prim.Native.Nat.{_<_};
+ghost use Rattle.words.specs.Word.{word, IsTable, IsRow};
+ghost use Rattle.shapes.specs.Steps.{fieldCode, codeOf, nameOf, unpackedName, Inside, Good};
+ghost use Rattle.places.specs.Layout.{Ready, lastWord, nameWord};
+ghost use Rattle.search.specs.Tree.{seek};
+ghost use Rattle.growth.specs.Growth.{linked, described, appended, Ensuring, confirmed, ensuredBy, ensured, touched, sampled, Making, madeOne, madeAll, positionsFrom, positionsMade, made, SoundEnsured, SoundMade, entered};
+ghost use mathlib.Core.Bool.{_&&_};
+ghost use lib.Dec.{eqb};
+ghost use Rattle.model.specs.Kinds.{tupleKind};
+ghost use Rattle.datatype.specs.Codes.{null};
+ghost use mathlib.Core.List.{[], _∷_};
+ghost use Rattle.shapes.specs.declared.Step.the-variants.{Key, Value};
+use refusal::Refusal;
+use shapes::Step;
+use text::Name;
+
+// Enters a new child into the search tree, if it is numbered.
+fn enter(place: usize, code: u32, child: usize, table: &mut [u32])
+    requires { ⌜ (place < child) × IsRow child × IsTable (now table) ⌝ }
+    ensures { λ _. ⌜ now (table .exit) ≡ entered place code child (now (table .entry)) ⌝ }
+{
+    if !search::is_numbered(code) {
+        return;
+    }
+    let slot = search::seek(place, code, child, table);
+    let at = slot.place;
+    let field = slot.field;
+    words::set(table, at, field, child as u32);
+}
+
+// The link to a new last child: from the place where it is the first, else from the last before it.
+pub fn link(place: usize, child: usize, table: &mut [u32])
+    requires { ⌜ IsRow place × IsRow child × IsTable (now table) × IsRow (word (now table) place lastWord) ⌝ }
+    ensures { λ _. ⌜ now (table .exit) ≡ linked place child (now (table .entry)) ⌝ }
+{
+    if words::get(table, place, places::FIRST) == 0 {
+        words::set(table, place, places::FIRST, child as u32);
+    } else {
+        let last = words::get(table, place, places::LAST) as usize;
+        words::set(table, last, places::NEXT, child as u32);
+    }
+}
+
+// The words of a child that tell where it stands.
+fn describe(place: usize, code: u32, name: Name, child: usize, table: &mut [u32])
+    requires { ⌜ IsRow place × IsRow child × IsTable (now table) ⌝ }
+    ensures { λ _. ⌜ now (table .exit) ≡ described place code name child (now (table .entry)) ⌝ }
+{
+    words::set(table, child, places::PARENT, place as u32);
+    words::set(table, child, places::STEP, code);
+    words::set(table, child, places::NAME, shapes::packed(name));
+}
+
+// A new place as the last child.
+fn append(place: usize, code: u32, name: Name, child: usize, table: &mut [u32])
+    requires { ⌜ IsRow place × IsRow child × IsTable (now table) × IsRow (word (now table) place lastWord) ⌝ }
+    ensures { λ _. ⌜ now (table .exit) ≡ appended place code name child (now (table .entry)) ⌝ }
+{
+    link(place, child, table);
+    words::set(table, place, places::LAST, child as u32);
+    describe(place, code, name, child, table);
+}
+
+// A child at a step, and how many places there are; or a refusal (9 or 11).
+pub enum Ensured {
+    Child(usize, usize),
+    Refused(Refusal),
+}
+
+// The child that was found, whose name must be the one given (a variant's number has one name).
+fn confirm(text: &[u8], name: Name, child: usize, count: usize, table: &[u32]) -> Ensured
+    requires { ⌜ IsRow child × IsTable (now table) × Inside (now text) name × Inside (now text) (unpackedName (word (now table) child nameWord)) ⌝ }
+    ensures { λ r. ⌜ r ≡ confirmed (now (text .entry)) name child count (now (table .entry)) ⌝ }
+{
+    if shapes::unpacked(words::get(table, child, places::NAME)).equals(name, text) {
+        Ensured::Child(child, count)
+    } else {
+        Ensured::Refused(Refusal::TwoNames)
+    }
+}
+
+// A new last child, at a step where the place has none, if there is room.
+pub fn add(
+    text: &[u8],
+    place: usize,
+    code: u32,
+    name: Name,
+    count: usize,
+    table: &mut [u32],
+) -> Ensured
+    requires { ⌜ Ready (now text) (now table) count place × Good (now text) name ⌝ }
+    ensures { λ r. ⌜ (Ensuring.ensuring r (now (table .exit)) ≡ ensuredBy (now (text .entry)) place code name count (now (table .entry)) 0) × SoundEnsured (now (text .entry)) (now (table .exit)) r ⌝ }
+{
+    if places::PLACES <= count {
+        return Ensured::Refused(Refusal::TooManyPlaces);
+    }
+    append(place, code, name, count, table);
+    words::set(table, count, places::TAG, name.tag(text));
+    enter(place, code, count, table);
+    Ensured::Child(count, count + 1)
+}
+
+// The child of a place at a step that is no field: found, or made where there is room.
+pub fn ensure(text: &[u8], place: usize, step: Step, count: usize, table: &mut [u32]) -> Ensured
+    requires { ⌜ Ready (now text) (now table) count place × Good (now text) (nameOf step) × (codeOf step ≡ fieldCode → ⊥) ⌝ }
+    ensures { λ r. ⌜ (Ensuring.ensuring r (now (table .exit)) ≡ ensured (now (text .entry)) place step count (now (table .entry))) × SoundEnsured (now (text .entry)) (now (table .exit)) r ⌝ }
+{
+    let code = step.code();
+    let name = step.name();
+    let child = search::child_at(text, place, step, count, table);
+    if child == 0 {
+        return add(text, place, code, name, count, table);
+    }
+    confirm(text, name, child, count, table)
+}
+
+// Counts the child once among those that the place's present sample holds.
+pub fn touch(place: usize, child: usize, table: &mut [u32])
+    requires { ⌜ IsRow place × IsRow child × IsTable (now table) ⌝ }
+    ensures { λ _. ⌜ now (table .exit) ≡ touched place child (now (table .entry)) ⌝ }
+{
+    let sample = words::get(table, place, places::SAMPLES);
+    if words::get(table, child, places::MARK) == sample {
+        return;
+    }
+    let held = words::get(table, child, places::HELD);
+    words::set(
+        table,
+        child,
+        places::HELD,
+        std::num::wrapping_add_u32(held, 1),
+    );
+    words::set(table, child, places::MARK, sample);
+}
+
+// The place has that kind, and one more sample.
+pub fn sample(place: usize, kind: u32, table: &mut [u32])
+    requires { ⌜ IsRow place × IsTable (now table) ⌝ }
+    ensures { λ _. ⌜ now (table .exit) ≡ sampled place kind (now (table .entry)) ⌝ }
+{
+    let samples = words::get(table, place, places::SAMPLES);
+    words::set(table, place, places::KIND, kind);
+    words::set(
+        table,
+        place,
+        places::SAMPLES,
+        std::num::wrapping_add_u32(samples, 1),
+    );
+}
+
+// How many places there are, or a refusal (11).
+pub enum Made {
+    Places(usize),
+    Refused(Refusal),
+}
+
+// One child that must be there.
+fn make_one(text: &[u8], place: usize, step: Step, count: usize, table: &mut [u32]) -> Made
+    requires { ⌜ Ready (now text) (now table) count place × Good (now text) (nameOf step) × (codeOf step ≡ fieldCode → ⊥) ⌝ }
+    ensures { λ r. ⌜ (Making.making r (now (table .exit)) ≡ madeOne (now (text .entry)) place step count (now (table .entry))) × SoundMade (now (text .entry)) (now (table .exit)) r ⌝ }
+{
+    match ensure(text, place, step, count, table) {
+        Ensured::Child(_, more) => Made::Places(more),
+        Ensured::Refused(refusal) => Made::Refused(refusal),
+    }
+}
+
+// A map's key and value.
+fn make_pair(text: &[u8], place: usize, count: usize, table: &mut [u32]) -> Made
+    requires { ⌜ Ready (now text) (now table) count place ⌝ }
+    ensures { λ r. ⌜ (Making.making r (now (table .exit)) ≡ madeAll (now (text .entry)) place (Key ∷ Value ∷ []) count (now (table .entry))) × SoundMade (now (text .entry)) (now (table .exit)) r ⌝ }
+{
+    match make_one(text, place, Step::Key, count, table) {
+        Made::Places(more) => make_one(text, place, Step::Value, more, table),
+        Made::Refused(refusal) => Made::Refused(refusal),
+    }
+}
+
+// All positions of a tuple at a place that has children.
+fn seek_positions(
+    text: &[u8],
+    place: usize,
+    positions: u16,
+    count: usize,
+    table: &mut [u32],
+) -> Made
+    requires { ⌜ Ready (now text) (now table) count place ⌝ }
+    ensures { λ r. ⌜ (Making.making r (now (table .exit)) ≡ madeAll (now (text .entry)) place (positionsFrom 0 positions) count (now (table .entry))) × SoundMade (now (text .entry)) (now (table .exit)) r ⌝ }
+{
+    let mut i: u16 = 0;
+    let mut places = count;
+    while i < positions {
+        match make_one(text, place, Step::Position(i), places, table) {
+            Made::Places(more) => {
+                places = more;
+            }
+            Made::Refused(refusal) => {
+                return Made::Refused(refusal);
+            }
+        }
+        i += 1;
+    }
+    Made::Places(places)
+}
+
+// All positions of a tuple: a block where they are the place's first children.
+fn make_positions(
+    text: &[u8],
+    place: usize,
+    positions: u16,
+    count: usize,
+    table: &mut [u32],
+) -> Made
+    requires { ⌜ Ready (now text) (now table) count place ⌝ }
+    ensures { λ r. ⌜ (Making.making r (now (table .exit)) ≡ positionsMade (now (text .entry)) place positions count (now (table .entry))) × SoundMade (now (text .entry)) (now (table .exit)) r ⌝ }
+{
+    if words::get(table, place, places::FIRST) != 0 {
+        return seek_positions(text, place, positions, count, table);
+    }
+    let mut i: u16 = 0;
+    let mut places = count;
+    while i < positions {
+        if places::PLACES <= places {
+            return Made::Refused(Refusal::TooManyPlaces);
+        }
+        let step = Step::Position(i);
+        append(place, step.code(), step.name(), places, table);
+        places += 1;
+        i += 1;
+    }
+    words::set(table, place, places::BLOCK, positions as u32);
+    Made::Places(places)
+}
+
+// Whether a tuple comes to a place that was unknown.
+fn is_first_tuple(kind: u32, before: u32) -> bool
+    ensures { λ r. ⌜ r ≡ (eqb kind tupleKind && eqb before null) ⌝ }
+{
+    kind == shapes::TUPLE && before == shapes::UNKNOWN
+}
+
+// The children that a container makes at its own command. A tuple makes its positions where the place was unknown.
+pub fn make(
+    text: &[u8],
+    place: usize,
+    kind: u32,
+    positions: u16,
+    before: u32,
+    count: usize,
+    table: &mut [u32],
+) -> Made
+    requires { ⌜ Ready (now text) (now table) count place ⌝ }
+    ensures { λ r. ⌜ (Making.making r (now (table .exit)) ≡ made (now (text .entry)) place kind positions before count (now (table .entry))) × SoundMade (now (text .entry)) (now (table .exit)) r ⌝ }
+{
+    if kind == shapes::SEQUENCE {
+        return make_one(text, place, Step::Element, count, table);
+    }
+    if kind == shapes::MAP {
+        return make_pair(text, place, count, table);
+    }
+    if is_first_tuple(kind, before) {
+        return make_positions(text, place, positions, count, table);
+    }
+    Made::Places(count)
+}

@@ -1,0 +1,105 @@
+// The marks before a value, and a primitive at its place (tracer.rs, ensure_primitive).
+ghost use mathlib.Core.Path.{_≡_};
+ghost use Prim.Native.Nat.{_<_};
+ghost use Rattle.words.specs.Word.{word, IsTable, IsRow};
+ghost use Rattle.leaves.specs.Leaves.{Out, stored, observed, isKnown};
+ghost use Rattle.leaves.specs.Marks.{Chain, isMark, marked, pastMarks};
+use kinds::Met;
+use options::TracingOptions;
+use refusal::Refusal;
+
+// The offset behind what was read and the count of places, or a refusal and its place.
+pub enum Traced {
+    Next(usize, usize),
+    Refused(Refusal, usize),
+}
+
+const SOME: u8 = 0x10;
+
+const NEWTYPE: u8 = 0x11;
+
+// Whether a command stands before a value as its mark.
+fn is_mark(byte: u8) -> bool
+    ensures { λ r. ⌜ r ≡ isMark byte ⌝ }
+{
+    byte == SOME || byte == NEWTYPE
+}
+
+// The place is nullable where the mark is `some`.
+fn mark(byte: u8, place: usize, table: &mut [u32])
+    requires { ⌜ IsRow place × IsTable (now table) ⌝ }
+    ensures { λ _. ⌜ now (table .exit) ≡ marked byte place (now (table .entry)) ⌝ }
+{
+    if byte == SOME {
+        words::set(table, place, places::NULL, 1);
+    }
+}
+
+// Marks the place nullable for each `some`, and gives the offset of the first command that is neither 10 nor 11.
+pub fn past_marks(commands: &[u8], at: usize, place: usize, table: &mut [u32]) -> usize
+    requires { ⌜ IsRow place × IsTable (now table) ⌝ }
+    ensures { λ r. ⌜ Chain.chain r (now (table .exit)) ≡ pastMarks (now (commands .entry)) at place (now (table .entry)) ⌝ }
+{
+    let mut here = at;
+    while here < commands.len() {
+        let byte = commands::read_byte(commands, here);
+        if !is_mark(byte) {
+            return here;
+        }
+        mark(byte, place, table);
+        here += 1;
+    }
+    here
+}
+
+// The place has that kind, and null was seen there if so.
+fn store(null: bool, kind: u32, place: usize, table: &mut [u32])
+    requires { ⌜ IsRow place × IsTable (now table) ⌝ }
+    ensures { λ _. ⌜ now (table .exit) ≡ stored null kind place (now (table .entry)) ⌝ }
+{
+    words::set(table, place, places::KIND, kind);
+    if null {
+        words::set(table, place, places::NULL, 1);
+    }
+}
+
+// Whether a value that is no null is of the type that is there.
+fn is_known(null: bool, before: u32, kind: u32) -> bool
+    ensures { λ r. ⌜ r ≡ isKnown null before kind ⌝ }
+{
+    if null {
+        return false;
+    }
+    if before != kind {
+        return false;
+    }
+    kind < shapes::SEQUENCE
+}
+
+// A primitive at a place.
+pub fn observe(
+    options: TracingOptions,
+    null: bool,
+    kind: u32,
+    levels: usize,
+    here: usize,
+    next: usize,
+    place: usize,
+    count: usize,
+    table: &mut [u32],
+) -> Traced
+    requires { ⌜ IsRow place × IsTable (now table) ⌝ }
+    ensures { λ r. ⌜ Out.out r (now (table .exit)) ≡ observed (options .word) null kind levels here next place count (now (table .entry)) ⌝ }
+{
+    let before = words::get(table, place, places::KIND);
+    if is_known(null, before, kind) {
+        return Traced::Next(next, count);
+    }
+    match kinds::meet(options, levels, before, kind) {
+        Met::Kind(joint) => {
+            store(null, joint, place, table);
+            Traced::Next(next, count)
+        }
+        Met::Refused(refusal) => Traced::Refused(refusal, here),
+    }
+}

@@ -1,0 +1,7 @@
+pub mod Flat
+pub mod Onward
+pub mod Ways
+pub mod Loops
+pub mod Plain
+pub mod Same
+pub mod Table

@@ -1,0 +1,592 @@
+// Reads the values of a batch and traces each at its place (from_samples/mod.rs). A container's contents are read by a
+// call on itself, with the levels left falling from 20: a level for each step down, and one for each dot of its name.
+ghost use mathlib.Core.Path.{_≡_};
+ghost use mathlib.Core.Bool.{true};
+ghost use Prim.Native.Nat.{_-_, _<_};
+ghost use Rattle.words.specs.Word.{word};
+ghost use Rattle.model.specs.Kinds.{sequenceKind, mapKind, tupleKind, isStruct};
+ghost use Rattle.shapes.specs.Steps.{Unnamed, Inside, Good};
+ghost use Rattle.places.specs.Layout.{Ready, Sound};
+ghost use Rattle.reading.specs.Flat.{dotsIn, partRead, partsBy, containerBy, variantBy, readers, innerOf, valueAt, parted};
+ghost use Rattle.leaves.specs.Leaves.{Out, SoundTraced};
+ghost use Rattle.shapes.specs.Shapes.{isParted};
+use commands::Due;
+use commands::Read;
+use growth::Ensured;
+use growth::Made;
+use leaves::Traced;
+use opening::Opened;
+use options::TracingOptions;
+use refusal::Refusal;
+use shapes::Contents;
+use shapes::Leaf;
+use shapes::Part;
+use shapes::Shape;
+use shapes::Step;
+use text::Name;
+
+// The levels left below a step.
+fn lower(levels: usize, name: Name, text: &[u8]) -> usize
+    requires { ⌜ Inside (now text) name ⌝ }
+    ensures { λ r. ⌜ r ≡ levels - dotsIn (now (text .entry)) name ⌝ }
+{
+    let dots = name.dots(text);
+    if levels <= dots { 0 } else { levels - dots }
+}
+
+// One value at a place, with so many levels left for containers.
+pub fn read_value(
+    commands: &[u8],
+    text: &[u8],
+    options: TracingOptions,
+    at: usize,
+    levels: usize,
+    place: usize,
+    count: usize,
+    table: &mut [u32],
+) -> Traced
+    requires { ⌜ Ready (now text) (now table) count place ⌝ }
+    ensures { λ r. ⌜ (Out.out r (now (table .exit)) ≡ valueAt (now (commands .entry)) (now (text .entry)) (options .word) levels at place count (now (table .entry))) × SoundTraced (now (text .entry)) (now (table .exit)) count r ⌝ }
+{
+    let here = leaves::past_marks(commands, at, place, table);
+    match shapes::leaf_at(commands, text, options, here) {
+        Leaf::Value(null, kind, next) => leaves::observe(
+            options,
+            null,
+            kind,
+            levels,
+            here,
+            next,
+            place,
+            count,
+            table,
+        ),
+        Leaf::Other => read_parted(commands, text, options, here, levels, place, count, table),
+    }
+}
+
+// The value of a field with that name. Only below a container do the dots of the name count. It is `read_value` but for
+// them, and stands apart because there it is read in the loop over the fields, with no call for a primitive.
+fn read_named(
+    commands: &[u8],
+    text: &[u8],
+    options: TracingOptions,
+    name: Name,
+    at: usize,
+    levels: usize,
+    place: usize,
+    count: usize,
+    table: &mut [u32],
+) -> Traced
+    requires { ⌜ Ready (now text) (now table) count place ⌝ }
+    requires { ⌜ Inside (now text) name ⌝ }
+    ensures { λ r. ⌜ (Out.out r (now (table .exit)) ≡ valueAt (now (commands .entry)) (now (text .entry)) (options .word) (levels - dotsIn (now (text .entry)) name) at place count (now (table .entry))) × SoundTraced (now (text .entry)) (now (table .exit)) count r ⌝ }
+{
+    let here = leaves::past_marks(commands, at, place, table);
+    match shapes::leaf_at(commands, text, options, here) {
+        Leaf::Value(null, kind, next) => leaves::observe(
+            options,
+            null,
+            kind,
+            levels,
+            here,
+            next,
+            place,
+            count,
+            table,
+        ),
+        Leaf::Other => {
+            let below = lower(levels, name, text);
+            read_parted(commands, text, options, here, below, place, count, table)
+        }
+    }
+}
+
+// A value past its marks: a container or a variant, or what cannot stand there. Whoever calls this has seen that it is no
+// primitive, but the contract does not ask it.
+fn read_parted(
+    commands: &[u8],
+    text: &[u8],
+    options: TracingOptions,
+    here: usize,
+    levels: usize,
+    place: usize,
+    count: usize,
+    table: &mut [u32],
+) -> Traced
+    requires { ⌜ Ready (now text) (now table) count place ⌝ }
+    ensures { λ r. ⌜ (Out.out r (now (table .exit)) ≡ parted (now (commands .entry)) (now (text .entry)) (options .word) levels here place count (now (table .entry))) × SoundTraced (now (text .entry)) (now (table .exit)) count r ⌝ }
+{
+    if shapes::is_struct_at(commands, here) {
+        return read_container(
+            commands,
+            text,
+            options,
+            shapes::STRUCT,
+            0,
+            here,
+            here + 1,
+            levels,
+            place,
+            count,
+            table,
+        );
+    }
+    let read = commands::read_command(commands, text, here, Due::Value);
+    let Read::Command(command, next) = read else {
+        return Traced::Refused(read.refusal(), read.place());
+    };
+    match shapes::shape_of(command, text, options) {
+        Shape::Leaf(null, kind) => leaves::observe(
+            options,
+            null,
+            kind,
+            levels,
+            here,
+            next,
+            place,
+            count,
+            table,
+        ),
+        Shape::Parts(kind, n) => read_container(
+            commands,
+            text,
+            options,
+            kind,
+            n,
+            here,
+            next,
+            levels,
+            place,
+            count,
+            table,
+        ),
+        Shape::Variant(number, name, contents) => read_variant(
+            commands,
+            text,
+            options,
+            number,
+            name,
+            contents,
+            here,
+            next,
+            levels,
+            place,
+            count,
+            table,
+        ),
+        Shape::NoValue => Traced::Refused(Refusal::BadCommand, here),
+    }
+}
+
+// A container whose command stands at `here` and whose parts start at `at`.
+fn read_container(
+    commands: &[u8],
+    text: &[u8],
+    options: TracingOptions,
+    kind: u32,
+    positions: u16,
+    here: usize,
+    at: usize,
+    levels: usize,
+    place: usize,
+    count: usize,
+    table: &mut [u32],
+) -> Traced
+    requires { ⌜ Ready (now text) (now table) count place ⌝ }
+    requires { ⌜ isParted kind ≡ true ⌝ }
+    ensures { λ r. ⌜ (Out.out r (now (table .exit)) ≡ containerBy (now (commands .entry)) (now (text .entry)) (options .word) levels (innerOf (now (commands .entry)) (now (text .entry)) (options .word) levels) kind positions here at place count (now (table .entry))) × SoundTraced (now (text .entry)) (now (table .exit)) count r ⌝ }
+{
+    match opening::open_container(text, options, kind, positions, levels, place, count, table) {
+        Made::Places(more) => read_parts(
+            commands,
+            text,
+            options,
+            kind,
+            positions,
+            at,
+            levels - 1,
+            place,
+            more,
+            table,
+        ),
+        Made::Refused(refusal) => Traced::Refused(refusal, here),
+    }
+}
+
+// The parts of a container by its kind. The levels are those left below it.
+fn read_parts(
+    commands: &[u8],
+    text: &[u8],
+    options: TracingOptions,
+    kind: u32,
+    positions: u16,
+    start: usize,
+    levels: usize,
+    place: usize,
+    count: usize,
+    table: &mut [u32],
+) -> Traced
+    requires { ⌜ Ready (now text) (now table) count place ⌝ }
+    requires { ⌜ isParted kind ≡ true ⌝ }
+    ensures { λ r. ⌜ (Out.out r (now (table .exit)) ≡ partsBy (now (commands .entry)) (now (text .entry)) (readers (now (commands .entry)) (now (text .entry)) (options .word) levels) kind positions place start count (now (table .entry))) × SoundTraced (now (text .entry)) (now (table .exit)) count r ⌝ }
+{
+    if kinds::is_struct(kind) {
+        return read_fields(
+            commands,
+            text,
+            options,
+            kind,
+            start,
+            levels,
+            place,
+            count,
+            table,
+        );
+    }
+    if kind == shapes::SEQUENCE {
+        return read_elements(commands, text, options, start, levels, place, count, table);
+    }
+    if kind == shapes::MAP {
+        return read_entries(commands, text, options, start, levels, place, count, table);
+    }
+    read_positions(
+        commands,
+        text,
+        options,
+        positions,
+        start,
+        levels,
+        place,
+        count,
+        table,
+    )
+}
+
+// The fields of a struct, or of a map in map mode, up to the end.
+fn read_fields(
+    commands: &[u8],
+    text: &[u8],
+    options: TracingOptions,
+    kind: u32,
+    start: usize,
+    levels: usize,
+    place: usize,
+    count: usize,
+    table: &mut [u32],
+) -> Traced
+    requires { ⌜ Ready (now text) (now table) count place ⌝ }
+    requires { ⌜ isStruct kind ≡ true ⌝ }
+    ensures { λ r. ⌜ (Out.out r (now (table .exit)) ≡ partsBy (now (commands .entry)) (now (text .entry)) (readers (now (commands .entry)) (now (text .entry)) (options .word) levels) kind 0 place start count (now (table .entry))) × SoundTraced (now (text .entry)) (now (table .exit)) count r ⌝ }
+{
+    let mut at = start;
+    let mut places = count;
+    loop {
+        match opening::open_field(commands, text, kind, at, place, places, table) {
+            Opened::Ended => {
+                return Traced::Next(at + 1, places);
+            }
+            Opened::Refused(refusal) => {
+                return Traced::Refused(refusal, at);
+            }
+            Opened::Child(child, more) => match read_named(
+                commands,
+                text,
+                options,
+                commands::read_name(commands, at + 1),
+                at + 5,
+                levels,
+                child,
+                more,
+                table,
+            ) {
+                Traced::Next(behind, still) => {
+                    at = behind;
+                    places = still;
+                }
+                Traced::Refused(refusal, offset) => {
+                    return Traced::Refused(refusal, offset);
+                }
+            },
+        }
+    }
+}
+
+// The elements of a sequence, up to the end.
+fn read_elements(
+    commands: &[u8],
+    text: &[u8],
+    options: TracingOptions,
+    start: usize,
+    levels: usize,
+    place: usize,
+    count: usize,
+    table: &mut [u32],
+) -> Traced
+    requires { ⌜ Ready (now text) (now table) count place ⌝ }
+    ensures { λ r. ⌜ (Out.out r (now (table .exit)) ≡ partsBy (now (commands .entry)) (now (text .entry)) (readers (now (commands .entry)) (now (text .entry)) (options .word) levels) sequenceKind 0 place start count (now (table .entry))) × SoundTraced (now (text .entry)) (now (table .exit)) count r ⌝ }
+{
+    let mut at = start;
+    let mut places = count;
+    loop {
+        match shapes::value_part(commands, text, Step::Element, Due::ValueOrEnd, at) {
+            Part::Ended(behind) => {
+                return Traced::Next(behind, places);
+            }
+            Part::Refused(refusal, offset) => {
+                return Traced::Refused(refusal, offset);
+            }
+            Part::Step(step, value) => match read_part(
+                commands,
+                text,
+                options,
+                step,
+                at,
+                value,
+                levels,
+                place,
+                places,
+                table,
+            ) {
+                Traced::Next(behind, more) => {
+                    at = runs::past_same(commands, behind, place, table);
+                    places = more;
+                }
+                Traced::Refused(refusal, offset) => {
+                    return Traced::Refused(refusal, offset);
+                }
+            },
+        }
+    }
+}
+
+// The keys and values of a map, by turns, up to the end.
+fn read_entries(
+    commands: &[u8],
+    text: &[u8],
+    options: TracingOptions,
+    start: usize,
+    levels: usize,
+    place: usize,
+    count: usize,
+    table: &mut [u32],
+) -> Traced
+    requires { ⌜ Ready (now text) (now table) count place ⌝ }
+    ensures { λ r. ⌜ (Out.out r (now (table .exit)) ≡ partsBy (now (commands .entry)) (now (text .entry)) (readers (now (commands .entry)) (now (text .entry)) (options .word) levels) mapKind 0 place start count (now (table .entry))) × SoundTraced (now (text .entry)) (now (table .exit)) count r ⌝ }
+{
+    let mut i: usize = 0;
+    let mut at = start;
+    let mut places = count;
+    loop {
+        match shapes::entry_part(commands, text, i, at) {
+            Part::Ended(behind) => {
+                return Traced::Next(behind, places);
+            }
+            Part::Refused(refusal, offset) => {
+                return Traced::Refused(refusal, offset);
+            }
+            Part::Step(step, value) => match read_part(
+                commands,
+                text,
+                options,
+                step,
+                at,
+                value,
+                levels,
+                place,
+                places,
+                table,
+            ) {
+                Traced::Next(behind, more) => {
+                    at = behind;
+                    places = more;
+                }
+                Traced::Refused(refusal, offset) => {
+                    return Traced::Refused(refusal, offset);
+                }
+            },
+        }
+        i += 1;
+    }
+}
+
+// The values of a tuple, so many.
+fn read_positions(
+    commands: &[u8],
+    text: &[u8],
+    options: TracingOptions,
+    positions: u16,
+    start: usize,
+    levels: usize,
+    place: usize,
+    count: usize,
+    table: &mut [u32],
+) -> Traced
+    requires { ⌜ Ready (now text) (now table) count place ⌝ }
+    ensures { λ r. ⌜ (Out.out r (now (table .exit)) ≡ partsBy (now (commands .entry)) (now (text .entry)) (readers (now (commands .entry)) (now (text .entry)) (options .word) levels) tupleKind positions place start count (now (table .entry))) × SoundTraced (now (text .entry)) (now (table .exit)) count r ⌝ }
+{
+    let mut i: u16 = 0;
+    let mut at = start;
+    let mut places = count;
+    while i < positions {
+        match shapes::value_part(commands, text, Step::Position(i), Due::Value, at) {
+            Part::Ended(behind) => {
+                return Traced::Next(behind, places);
+            }
+            Part::Refused(refusal, offset) => {
+                return Traced::Refused(refusal, offset);
+            }
+            Part::Step(step, value) => match read_part(
+                commands,
+                text,
+                options,
+                step,
+                at,
+                value,
+                levels,
+                place,
+                places,
+                table,
+            ) {
+                Traced::Next(behind, more) => {
+                    at = behind;
+                    places = more;
+                }
+                Traced::Refused(refusal, offset) => {
+                    return Traced::Refused(refusal, offset);
+                }
+            },
+        }
+        i += 1;
+    }
+    Traced::Next(at, places)
+}
+
+// The value of a part that is no field, at the child that its step leads to.
+fn read_part(
+    commands: &[u8],
+    text: &[u8],
+    options: TracingOptions,
+    step: Step,
+    here: usize,
+    at: usize,
+    levels: usize,
+    place: usize,
+    count: usize,
+    table: &mut [u32],
+) -> Traced
+    requires { ⌜ Ready (now text) (now table) count place ⌝ }
+    requires { ⌜ Unnamed step ⌝ }
+    ensures { λ r. ⌜ (Out.out r (now (table .exit)) ≡ partRead (now (text .entry)) (readers (now (commands .entry)) (now (text .entry)) (options .word) levels) step here at place count (now (table .entry))) × SoundTraced (now (text .entry)) (now (table .exit)) count r ⌝ }
+{
+    match opening::hold(text, place, step, count, table) {
+        Ensured::Child(child, more) => read_value(
+            commands,
+            text,
+            options,
+            at,
+            levels,
+            child,
+            more,
+            table,
+        ),
+        Ensured::Refused(refusal) => Traced::Refused(refusal, here),
+    }
+}
+
+// A variant, whose command stands at `here` and whose contents start at `at`.
+fn read_variant(
+    commands: &[u8],
+    text: &[u8],
+    options: TracingOptions,
+    number: u16,
+    name: Name,
+    contents: Contents,
+    here: usize,
+    at: usize,
+    levels: usize,
+    place: usize,
+    count: usize,
+    table: &mut [u32],
+) -> Traced
+    requires { ⌜ Ready (now text) (now table) count place ⌝ }
+    requires { ⌜ Good (now text) name ⌝ }
+    ensures { λ r. ⌜ (Out.out r (now (table .exit)) ≡ variantBy (now (text .entry)) (options .word) levels (innerOf (now (commands .entry)) (now (text .entry)) (options .word) levels) number name contents here at place count (now (table .entry))) × SoundTraced (now (text .entry)) (now (table .exit)) count r ⌝ }
+{
+    match opening::open_variant(text, options, number, name, levels, place, count, table) {
+        Ensured::Child(child, more) => {
+            let below = lower(levels - 1, name, text);
+            read_contents(
+                commands,
+                text,
+                options,
+                contents,
+                here,
+                at,
+                below,
+                child,
+                more,
+                table,
+            )
+        }
+        Ensured::Refused(refusal) => Traced::Refused(refusal, here),
+    }
+}
+
+// A variant's contents are as for the plain form, their command being the variant's.
+fn read_contents(
+    commands: &[u8],
+    text: &[u8],
+    options: TracingOptions,
+    contents: Contents,
+    here: usize,
+    at: usize,
+    levels: usize,
+    place: usize,
+    count: usize,
+    table: &mut [u32],
+) -> Traced
+    requires { ⌜ Ready (now text) (now table) count place ⌝ }
+    ensures { λ r. ⌜ (Out.out r (now (table .exit)) ≡ readers (now (commands .entry)) (now (text .entry)) (options .word) levels 0 contents here at place count (now (table .entry))) × SoundTraced (now (text .entry)) (now (table .exit)) count r ⌝ }
+{
+    match contents {
+        Contents::Unit => leaves::observe(
+            options,
+            true,
+            shapes::UNKNOWN,
+            levels,
+            here,
+            at,
+            place,
+            count,
+            table,
+        ),
+        Contents::Value => read_value(commands, text, options, at, levels, place, count, table),
+        Contents::Positions(n) => read_container(
+            commands,
+            text,
+            options,
+            shapes::TUPLE,
+            n,
+            here,
+            at,
+            levels,
+            place,
+            count,
+            table,
+        ),
+        Contents::Fields => read_container(
+            commands,
+            text,
+            options,
+            shapes::STRUCT,
+            0,
+            here,
+            at,
+            levels,
+            place,
+            count,
+            table,
+        ),
+    }
+}

@@ -1,0 +1,180 @@
+-- Laws of the search for a child.
+use mathlib.Core.Path.{_≡_, refl, sym, ap, _∙_, fun-ext}
+use mathlib.Core.Bool.{Bool, true, false, false≢true}
+use mathlib.Core.List.{List}
+use Prim.Native.Nat.{_-_, ℕ, _+_, _%_, _<_, _≤_}
+use native.Mathlib.Nat.{le-refl}
+use native.Mathlib.Omega.{arith}
+use borrow.Author.Tests.{ne-eqb, eqb-true, eqb-false, ltb-true}
+use lib.Dec.{eqb, ltb}
+use Rattle.logic.specs.Test.{if_then_else_, cases, both}
+use Rattle.logic.specs.Turns.{Turn, done, turns}
+use Rattle.logic.specs.Within.{Keeps, goes-on-within, ends-within, holds-within}
+use Rattle.text.specs.declared.Name.{Name}
+use Rattle.words.specs.Word.{word}
+use Rattle.text.specs.Name.{bytesOf, tagOf}
+use Rattle.text.specs.NameLaws.{eqName-true}
+use Rattle.text.specs.Utf8.{isUtf8}
+use Rattle.shapes.specs.declared.Step.{Step}
+use Rattle.shapes.specs.declared.Step.the-variants as S
+use Rattle.shapes.specs.Steps.{fieldCode, noName, unpackedName}
+use Rattle.places.specs.Layout.{firstWord, blockWord, nextWord, stepWord, nameWord, tagWord, Tagged, Sound}
+use Rattle.search.specs.Search.{isAt, findTurn, findFrom, findIn, inBlock, childAt, Past}
+use Rattle.search.specs.laws.Tree.{seek-below}
+use Rattle.places.specs.laws.Layout.{first-below, next-below}
+
+-- ---- the search for a child
+-- how many children may still follow: numbers rise, and 0 is none
+abbrev pub childrenLeft : ℕ → ℕ
+childrenLeft child = (1025 - child) % 1025
+
+pub left-falls : (text t : List ℕ) (n child x : ℕ) → Sound text t n → child < n → (child ≡ 0 → ⊥) → x ≡ word t child nextWord → childrenLeft x < childrenLeft child
+left-falls text t n child x s h z e =
+    let m : n ≤ 1024 = s .linked .most in
+    let b : x < n = next-below text t n child x s h e in
+    cases (eqb x 0)
+    (λ d. let o : x ≡ 0 = eqb-true x 0 d in omega arith)
+    (λ d. let o : (x ≡ 0 → ⊥) = eqb-false x 0 d in let l : child < x = rw e (s .linked .rises child (omega arith) (rw e at o)) in omega arith)
+
+module _ (text t : List ℕ) (n code : ℕ) (name : Name) (s : Sound text t n) where
+  abbrev turn : ℕ → Turn ℕ ℕ
+  turn = findTurn text code name t
+
+  -- what is known of the search's answer: it is a place, and stands at the step where it is a child
+  abbrev Found : ℕ → Type 0
+  Found c = (c < n) × ((c ≡ 0 → ⊥) → isAt text code name c t ≡ true)
+
+  -- each turn leaves a place, with fewer that may follow, or gives an answer
+  turn-keeps : (child : ℕ) → child < n → Keeps (λ c. c < n) Found childrenLeft (childrenLeft child) (turn child)
+  unfolding findTurn if_then_else_
+  turn-keeps child h =
+      cases (eqb child 0)
+      (λ e. rw e (omega arith, λ z. absurd (z refl)))
+      (λ e. cases (isAt text code name child t)
+      (λ f. rw (e, f) (h, λ z. f))
+      (λ f. rw (e, f) (next-below text t n child _ s h refl, left-falls text t n child _ s h (eqb-false child 0 e) refl)))
+
+  enough : (child : ℕ) → child < n → childrenLeft child < 1025
+  enough child h = omega arith
+
+  find-known : (child : ℕ) → child < n → Found (findFrom text code name t child)
+  unfolding findFrom
+  find-known child h = holds-within turn (λ c. 0) (λ c. c < n) Found childrenLeft turn-keeps 1025 child h (enough child h)
+
+  -- a child found is a place, and stands at the step
+  pub find-below : (child : ℕ) → child < n → findFrom text code name t child < n
+  find-below child h = find-known child h .0
+
+  pub find-stands : (child : ℕ) → child < n → (findFrom text code name t child ≡ 0 → ⊥) → isAt text code name (findFrom text code name t child) t ≡ true
+  find-stands child h = find-known child h .1
+
+  pub find-first : (place child : ℕ) → child ≡ word t place firstWord → findFrom text code name t child ≡ findIn text place code name t
+  find-first place child e = ap (findFrom text code name t) e
+
+  module _ (child r : ℕ) (h : child < n) (whole : findFrom text code name t child ≡ r) where
+    ends-there : (c : ℕ) → turn child ≡ done c → c ≡ r
+    unfolding findFrom
+    ends-there c e = sym (ends-within turn (λ c. 0) (λ c. c < n) Found childrenLeft turn-keeps 1025 child c (enough child h) e) ∙ whole
+
+    pub find-none : child ≡ 0 → 0 ≡ r
+    unfolding findTurn if_then_else_
+    find-none z = ends-there 0 (rw z)
+
+    module _ (at : Bool) (known : child ≡ 0 → ⊥) (is-at : at ≡ isAt text code name child t) where
+      pub find-found : at ≡ true → child ≡ r
+      unfolding findTurn if_then_else_
+      find-found e = ends-there child (rw (ne-eqb child 0 known, ← is-at, e))
+
+      pub find-next : (x : ℕ) → at ≡ false → x ≡ word t child nextWord → findFrom text code name t x ≡ r
+      unfolding findFrom findTurn if_then_else_
+      find-next x e d =
+          sym (goes-on-within turn (λ c. 0) (λ c. c < n) Found childrenLeft turn-keeps 1025 child x h (enough child h) (rw (ne-eqb child 0 known, ← is-at, e, d))) ∙ whole
+
+-- ---- the search for a field
+-- a child that stands at a field has the name's bytes
+pub field-stands : (text t : List ℕ) (child : ℕ) (name : Name) → isAt text fieldCode name child t ≡ true → (word t child stepWord ≡ fieldCode) × (bytesOf text (unpackedName (word t child nameWord)) ≡ bytesOf text name)
+unfolding isAt if_then_else_
+field-stands text t child name at =
+    cases (eqb (word t child stepWord) fieldCode)
+    (λ e. (eqb-true _ _ e, eqName-true _ _ (rw e at at)))
+    (λ e. absurd (false≢true (rw e at at)))
+
+-- so the name of a field that was found is UTF-8
+module _ (text t : List ℕ) (n place : ℕ) (name : Name) (s : Sound text t n) (h : place < n) (found : findIn text place fieldCode name t ≡ 0 → ⊥) where
+  pub found-utf8 : isUtf8 (bytesOf text name) ≡ true
+  found-utf8 =
+      let b : word t place firstWord < n = first-below text t n place _ s h refl in
+      rw (field-stands text t _ name (find-stands text t n fieldCode name s _ b found) .1) at (s .utf8 _ (find-below text t n fieldCode name s _ b))
+
+-- a child with another tag does not stand there
+pub other-tag : (text t : List ℕ) (child tag mark : ℕ) (name : Name) → Tagged text t child → tag ≡ tagOf (bytesOf text name) → mark ≡ word t child tagWord → (mark ≡ tag → ⊥) → false ≡ isAt text fieldCode name child t
+other-tag text t child tag mark name tags e d differ =
+    cases (isAt text fieldCode name child t)
+    (λ at. let h = field-stands text t child name at in absurd (differ (d ∙ tags (h .0) ∙ ap tagOf (h .1) ∙ sym e))) sym
+
+-- children are passed that have another tag
+pub past-none : (tag child : ℕ) (t : List ℕ) → Past tag child child t
+past-none tag child t = record { rises = le-refl child; below = λ text n s h. h; same = λ text n name s h z e. refl }
+
+pub past-next : (tag child here mark x : ℕ) (t : List ℕ) → Past tag child here t → mark ≡ word t here tagWord → (mark ≡ tag → ⊥) → x ≡ word t here nextWord → x ≡ here + 1 → Past tag child (here + 1) t
+past-next tag child here mark x t p d differ e f =
+    let up : child ≤ here = p .rises in
+    record {
+      rises = omega arith;
+      below = λ text n s h. rw (← f) (next-below text t n here x s (p .below text n s h) e);
+      same = λ text n name s h z g.
+          let l : here < n = p .below text n s h in
+          rw (← f) (find-next text t n fieldCode name s here _ l (p .same text n name s h z g) false (omega arith) (other-tag text t here tag mark name (s .tags here l) g d differ) x refl e);
+    }
+
+module _ (text t : List ℕ) (n tag child here : ℕ) (s : Sound text t n) (h : child < n) (p : Past tag child here t) where
+  pub past-below : here < n
+  past-below = p .below text n s h
+
+  module _ (known : child ≡ 0 → ⊥) where
+    pub past-known : here ≡ 0 → ⊥
+    past-known z = let up : child ≤ here = p .rises in omega arith
+
+    pub past-falls : (x : ℕ) → x ≡ word t here nextWord → childrenLeft x < childrenLeft child
+    past-falls x e =
+        let up : child ≤ here = p .rises in
+        let m : n ≤ 1024 = s .linked .most in
+        let b : here < n = past-below in
+        let l : childrenLeft x < childrenLeft here = left-falls text t n here x s b past-known e in
+        omega arith
+
+    module _ (name : Name) (r : ℕ) (at : Bool) (e : tag ≡ tagOf (bytesOf text name)) (whole : findFrom text fieldCode name t child ≡ r) (is-at : at ≡ isAt text fieldCode name here t) where
+      pub field-found : at ≡ true → here ≡ r
+      field-found = find-found text t n fieldCode name s here r past-below (p .same text n name s h known e ∙ whole) at past-known is-at
+
+      pub field-next : (x : ℕ) → at ≡ false → x ≡ word t here nextWord → findFrom text fieldCode name t x ≡ r
+      field-next = find-next text t n fieldCode name s here r past-below (p .same text n name s h known e ∙ whole) at past-known is-at
+
+-- ---- the search for another step is by its code alone
+module _ (text t : List ℕ) (code : ℕ) (name : Name) (no-field : code ≡ fieldCode → ⊥) where
+  pub by-code : (child : ℕ) → isAt text code name child t ≡ eqb (word t child stepWord) code
+  unfolding isAt if_then_else_
+  by-code child = rw (ne-eqb code fieldCode no-field) (cases (eqb (word t child stepWord) code) (λ e. rw e) (λ e. rw e))
+
+-- so that the name does not matter
+pub any-name : (text t : List ℕ) (place code : ℕ) (name other : Name) → (code ≡ fieldCode → ⊥) → findIn text place code name t ≡ findIn text place code other t
+unfolding findFrom findTurn
+any-name text t place code name other no-field = ap (λ turn. turns turn (λ c. 0) 1025 (word t place firstWord)) (fun-ext same)
+  where
+    same : (child : ℕ) → findTurn text code name t child ≡ findTurn text code other t child
+    same child = rw (by-code text t code name no-field child, by-code text t code other no-field child)
+
+-- a position in the block is a place
+pub in-block : (place i n : ℕ) (t : List ℕ) → inBlock place i n t ≡ true → word t place firstWord + i < n
+unfolding inBlock
+in-block place i n t e = both (ltb i (word t place blockWord)) _ e λ a b. ltb-true (word t place firstWord + i) n b
+
+-- and so is the child at any step, where what the search finds is one
+pub child-below : (text t : List ℕ) (n place : ℕ) → place < n → n ≤ 1024 → ((code : ℕ) (name : Name) → findIn text place code name t < n) → (step : Step) → childAt text place step n t < n
+unfolding childAt if_then_else_
+child-below text t n place h m found S.Element = found _ noName
+child-below text t n place h m found S.Key = found _ noName
+child-below text t n place h m found S.Value = found _ noName
+child-below text t n place h m found (S.Field name) = found _ name
+child-below text t n place h m found (S.Position i) = cases (inBlock place i n t) (λ e. rw e (in-block place i n t e)) (λ e. rw e (seek-below _ n t place h m))
+child-below text t n place h m found (S.Variant number name) = seek-below _ n t place h m

@@ -1,0 +1,186 @@
+// The child of a place at a step: fields found in order of first sight, numbered children in a search tree (tracer.rs has a
+// HashMap and a Vec there).
+ghost use mathlib.Core.Path.{_≡_};
+ghost use Prim.Native.Nat.{ℕ, _<_, _≤_};
+ghost use Rattle.model.specs.Tracing.{placeLimit};
+ghost use Rattle.words.specs.Word.{word, IsTable, IsRow};
+ghost use Rattle.text.specs.Name.{bytesOf, tagOf};
+ghost use Rattle.shapes.specs.Steps.{fieldCode, codeOf, noName, unpackedName, Inside};
+ghost use Rattle.places.specs.Layout.{Tagged, Ready, firstWord, nextWord, nameWord};
+ghost use Rattle.search.specs.Tree.{isNumbered, sideWord, follow, seek};
+ghost use Rattle.search.specs.Search.{isAt, Past, findIn, inBlock, childAt};
+ghost use mathlib.Core.Bool.{_&&_};
+use shapes::Step;
+use text::Name;
+
+// A child from which the search for a field with that tag finds what it finds from the given child on. How far it goes is
+// its own choice: past children with other tags whose numbers follow one another, for there `here + 1` is known before
+// the link is loaded.
+fn past_others(tag: u32, child: usize, table: &[u32]) -> usize
+    requires { ⌜ IsRow child × IsTable (now table) × ((p : ℕ) → IsRow p → IsRow (word (now table) p nextWord)) ⌝ }
+    ensures { λ r. ⌜ Past tag child r (now (table .entry)) ⌝ }
+{
+    let mut here = child;
+    loop {
+        if words::get(table, here, places::TAG) == tag {
+            return here;
+        }
+        let following = here + 1;
+        if (words::get(table, here, places::NEXT) as usize) != following {
+            return here;
+        }
+        here = following;
+    }
+}
+
+// Whether the child is the field with that name. The tags of the names are compared first: most differ there.
+fn is_field(text: &[u8], name: Name, tag: u32, child: usize, table: &[u32]) -> bool
+    requires { ⌜ IsRow child × IsTable (now table) × Inside (now text) name × Inside (now text) (unpackedName (word (now table) child nameWord)) × (tag ≡ tagOf (bytesOf (now text) name)) × Tagged (now text) (now table) child ⌝ }
+    ensures { λ r. ⌜ r ≡ isAt (now (text .entry)) fieldCode name child (now (table .entry)) ⌝ }
+{
+    if words::get(table, child, places::TAG) != tag {
+        return false;
+    }
+    if words::get(table, child, places::STEP) != shapes::FIELD {
+        return false;
+    }
+    let own = shapes::unpacked(words::get(table, child, places::NAME));
+    own.equals(name, text)
+}
+
+// The field of a place with that name, found in first-seen order; 0 where there is none, for no child is place 0.
+pub fn find_field(text: &[u8], place: usize, name: Name, count: usize, table: &[u32]) -> usize
+    requires { ⌜ Ready (now text) (now table) count place × Inside (now text) name ⌝ }
+    ensures { λ r. ⌜ (r ≡ findIn (now (text .entry)) place fieldCode name (now (table .entry))) × (r < count) ⌝ }
+{
+    let tag = name.tag(text);
+    let mut child = words::get(table, place, places::FIRST) as usize;
+    while child != 0 {
+        let here = past_others(tag, child, table);
+        if is_field(text, name, tag, here, table) {
+            return here;
+        }
+        child = words::get(table, here, places::NEXT) as usize;
+    }
+    0
+}
+
+// The child of a place at a step that is no field: it is told by its code, whatever its name.
+fn find(text: &[u8], place: usize, code: u32, count: usize, table: &[u32]) -> usize
+    requires { ⌜ Ready (now text) (now table) count place × (code ≡ fieldCode → ⊥) ⌝ }
+    ensures { λ r. ⌜ (r ≡ findIn (now (text .entry)) place code noName (now (table .entry))) × (r < count) ⌝ }
+{
+    let mut child = words::get(table, place, places::FIRST) as usize;
+    while child != 0 {
+        if words::get(table, child, places::STEP) == code {
+            return child;
+        }
+        child = words::get(table, child, places::NEXT) as usize;
+    }
+    0
+}
+
+// Whether a child with that code is numbered: a variant or a position.
+pub fn is_numbered(code: u32) -> bool
+    ensures { λ r. ⌜ r ≡ isNumbered code ⌝ }
+{
+    shapes::FIELD < code
+}
+
+// The child that a link of the search tree leads to, or 0. Links lead to places with higher numbers: none other is followed.
+fn follow(place: usize, field: usize, count: usize, table: &[u32]) -> usize
+    requires { ⌜ IsRow place × (field < 16) × IsTable (now table) ⌝ }
+    ensures { λ r. ⌜ r ≡ follow place field count (now (table .entry)) ⌝ }
+{
+    let link = words::get(table, place, field) as usize;
+    if link <= place {
+        return 0;
+    }
+    if count <= link {
+        return 0;
+    }
+    link
+}
+
+// The link of a child by the lowest bit.
+fn side(bits: u32) -> usize
+    ensures { λ r. ⌜ (r ≡ sideWord bits) × (r < 16) ⌝ }
+{
+    if bits % 2 == 0 {
+        return places::LEFT;
+    }
+    places::RIGHT
+}
+
+// A link of the search tree, as the place and the word where it stands, and the child that it leads to or 0.
+pub struct Slot {
+    pub child: usize,
+    pub place: usize,
+    pub field: usize,
+}
+
+// The link where the search for a numbered child ends: it leads to the child with the code, or to none. A bit of the code tells at each
+// child which link to take, so that at most 17 children are visited.
+pub fn seek(place: usize, code: u32, count: usize, table: &[u32]) -> Slot
+    requires { ⌜ (place < count) × (count ≤ placeLimit) × IsTable (now table) ⌝ }
+    ensures { λ r. ⌜ r ≡ seek place code count (now (table .entry)) ⌝ }
+{
+    let mut bits = code / 2;
+    let mut at = place;
+    let mut field = places::ROOT;
+    let mut child = follow(place, places::ROOT, count, table);
+    while child != 0 {
+        if words::get(table, child, places::STEP) == code {
+            return Slot {
+                child,
+                place: at,
+                field,
+            };
+        }
+        at = child;
+        field = side(bits);
+        bits = bits / 2;
+        child = follow(at, field, count, table);
+    }
+    Slot {
+        child: 0,
+        place: at,
+        field,
+    }
+}
+
+// The numbered child of a place with that code, or 0.
+fn find_numbered(place: usize, code: u32, count: usize, table: &[u32]) -> usize
+    requires { ⌜ (place < count) × (count ≤ placeLimit) × IsTable (now table) ⌝ }
+    ensures { λ r. ⌜ (r ≡ seek place code count (now (table .entry)) .child) × (r < count) ⌝ }
+{
+    seek(place, code, count, table).child
+}
+
+// Whether that position stands in the place's block.
+fn is_in_block(place: usize, i: u16, count: usize, table: &[u32]) -> bool
+    requires { ⌜ IsTable (now table) × IsRow place × IsRow (word (now table) place firstWord) ⌝ }
+    ensures { λ r. ⌜ r ≡ inBlock place i count (now (table .entry)) ⌝ }
+{
+    (i as u32) < words::get(table, place, places::BLOCK)
+        && (words::get(table, place, places::FIRST) as usize) + (i as usize) < count
+}
+
+// The child of a place at a step that is no field, or 0: a position in the block stands by its number, any other numbered
+// child is found in the search tree, the others from sibling to sibling.
+pub fn child_at(text: &[u8], place: usize, step: Step, count: usize, table: &[u32]) -> usize
+    requires { ⌜ Ready (now text) (now table) count place × (codeOf step ≡ fieldCode → ⊥) ⌝ }
+    ensures { λ r. ⌜ (r ≡ childAt (now (text .entry)) place step count (now (table .entry))) × (r < count) ⌝ }
+{
+    let code = step.code();
+    if !is_numbered(code) {
+        return find(text, place, code, count, table);
+    }
+    let Step::Position(i) = step else {
+        return find_numbered(place, code, count, table);
+    };
+    if is_in_block(place, i, count, table) {
+        return (words::get(table, place, places::FIRST) as usize) + (i as usize);
+    }
+    find_numbered(place, code, count, table)
+}
