@@ -7,3 +7,4 @@ pub mod Maybe
 pub mod All
 pub mod Turns
 pub mod Within
+pub mod Slices

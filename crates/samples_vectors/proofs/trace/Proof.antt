@@ -31,7 +31,7 @@ trace-spec =
     (λ c κs. search needs)
     (λ c κs. search (sound, needs))
     (λ c. search needs)
-    (λ c κs. (search (few, needs), search (roomy, needs)))
+    (λ c κs. (search (roomy, needs), search (few, needs)))
     (λ c. search needs)
     (λ c κs. search needs)
     (λ c κs. search needs)
