@@ -19,20 +19,26 @@ use Rattle.equality.specs.Ordered.{ordered-again}
 pub record Demand3 : Type 0 where
   -- schemas are equal exactly when censuses are
   pub equal : (options : ℕ) → Plain options
-      → (commands text : List ℕ) (lent : Buffers) → Accepted (answer (batch options commands text) lent) → StructRecords (batch options commands text) → NoPlaceBoth (batch options commands text)
-      → (commands′ text′ : List ℕ) (lent′ : Buffers) → Accepted (answer (batch options commands′ text′) lent′) → StructRecords (batch options commands′ text′) → NoPlaceBoth (batch options commands′ text′)
+      → (commands text : List ℕ) (lent : Buffers) → Accepted (answer (batch options commands text) lent)
+      → StructRecords (batch options commands text) → NoPlaceBoth (batch options commands text)
+      → (commands′ text′ : List ℕ) (lent′ : Buffers) → Accepted (answer (batch options commands′ text′) lent′)
+      → StructRecords (batch options commands′ text′) → NoPlaceBoth (batch options commands′ text′)
       → SameSchema (answer (batch options commands text) lent) (answer (batch options commands′ text′) lent′)
       ↔ SameCensus options (recordsOf (batch options commands text)) (recordsOf (batch options commands′ text′))
   -- the records in another order are accepted again, and only the order of struct fields changes
   pub reordered : (options : ℕ) → Plain options
       → (text : List ℕ) (records others : List (List ℕ)) → All (IsRecord options text) records → List·Permᴰ records others
-      → (lent : Buffers) → Accepted (answer (batchOf options text records) lent) → StructRecords (batchOf options text records) → NoPlaceBoth (batchOf options text records)
+      → (lent : Buffers) → Accepted (answer (batchOf options text records) lent)
+      → StructRecords (batchOf options text records) → NoPlaceBoth (batchOf options text records)
       → (lent′ : Buffers) → NoShorter lent lent′
-      → Accepted (answer (batchOf options text others) lent′) × SameButOrder (answer (batchOf options text records) lent) (answer (batchOf options text others) lent′)
+      → Accepted (answer (batchOf options text others) lent′)
+      × SameButOrder (answer (batchOf options text records) lent) (answer (batchOf options text others) lent′)
 
 pub demand-3 : Demand3
 demand-3 =
     record {
-      equal = λ options plain commands text lent a s b commands′ text′ lent′ a′ s′ b′. equal-exactly options plain commands text commands′ text′ lent lent′ a a′ s s′;
-      reordered = λ options plain text records others are perm lent a s b lent′ long. ordered-again options plain text records others are perm lent lent′ a b long;
+      equal = λ options plain commands text lent a s b commands′ text′ lent′ a′ s′ b′.
+          equal-exactly options plain commands text commands′ text′ lent lent′ a a′ s s′;
+      reordered = λ options plain text records others are perm lent a s b lent′ long.
+          ordered-again options plain text records others are perm lent lent′ a b long;
     }

@@ -50,7 +50,9 @@ pub record Answer : Type 0 where
 
 -- Tracer::from_samples and then Tracer::to_schema: refusals 4 to 17
 unfoldable pub schemaOf : Batch → Result Fields
-schemaOf b = trace (b .options) (values (b .options) (b .commands) (b .text)) >>= λ traced. toSchema (b .options) (length (b .commands)) (traced .what)
+schemaOf b =
+    trace (b .options) (values (b .options) (b .commands) (b .text))
+    >>= λ traced. toSchema (b .options) (length (b .commands)) (traced .what)
 
 -- a batch is well-formed if, read through without tracing, none of refusals 1 and 3 to 6 applies
 pub record WellFormed (b : Batch) : Type 0 where
@@ -79,7 +81,11 @@ withSchema schema lent =
       field-records = countIn schema;
       name-bytes = length (namesIn schema);
       columns = columnsIn schema;
-      left = record { table = cleared (lent .table) tableWords; fields = written (recordsIn schema) (lent .fields); names = written (namesIn schema) (lent .names) };
+      left = record {
+        table = cleared (lent .table) tableWords;
+        fields = written (recordsIn schema) (lent .fields);
+        names = written (namesIn schema) (lent .names);
+      };
     }
 
 -- an output buffer is too short
@@ -88,7 +94,9 @@ isShort schema lent = ltb (length (lent .fields)) (recordBytes * countIn schema)
 
 unfoldable pub answerOf : Batch → Buffers → Result Fields → Answer
 answerOf b lent (refused refusal place) = turnedDown refusal place (zeroed lent)
-answerOf b lent (accepted schema) = if isShort schema lent then turnedDown shortBuffer (length (b .commands)) (zeroed lent) else withSchema schema lent
+answerOf b lent (accepted schema) =
+    if isShort schema lent then turnedDown shortBuffer (length (b .commands)) (zeroed lent)
+    else withSchema schema lent
 
 unfoldable pub answer : Batch → Buffers → Answer
 answer b lent =

@@ -41,7 +41,9 @@ isMissing kind samples held = isStruct kind && ltb held samples
 
 unfoldable mutual
   pub placeOf : Bool → Tree → Place
-  placeOf missing (node null kind samples kids) = shown (missing || null) kind (if eqb kind unionKind then byNumber (placesOf kind samples kids) else placesOf kind samples kids)
+  placeOf missing (node null kind samples kids) =
+      shown (missing || null) kind
+      (if eqb kind unionKind then byNumber (placesOf kind samples kids) else placesOf kind samples kids)
 
   pub placesOf : ℕ → ℕ → Kids → Places
   placesOf kind samples no-kids = none-below
@@ -153,7 +155,8 @@ arranged kind fs =
 unfoldable mutual
   pub fieldOf : ℕ → List ℕ → ℕ → Place → Field
   fieldOf options name number (shown admits kind ps) =
-      if eqb kind unionKind && dataless ps && enumsWithoutDataAsStrings options then mk (dictionaryType options) admits noStrategy number name no-fields
+      if eqb kind unionKind && dataless ps && enumsWithoutDataAsStrings options
+      then mk (dictionaryType options) admits noStrategy number name no-fields
       else mk (typeOf options kind) admits (strategyOf kind) number name (arranged kind (fieldsOf options kind 0 ps))
 
   -- of a union from that slot on, with the slots never seen

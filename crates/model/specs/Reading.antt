@@ -154,7 +154,8 @@ unfoldable mutual
   readParts (suc deep) options commands text kind n i at =
       elim (nextPart commands text kind n i at) [
         | ended behind ↦ (no-parts, some behind)
-        | next step start ↦ andThen at step (readValue deep options commands text start) (λ behind. readParts deep options commands text kind n (i + 1) behind)
+        | next step start ↦ andThen at step (readValue deep options commands text start)
+            (λ behind. readParts deep options commands text kind n (i + 1) behind)
         | bad refusal place ↦ (cut-off refusal place, none)
       ]
 

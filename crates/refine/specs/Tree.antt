@@ -32,12 +32,16 @@ stepAt text t p = stepBy (word t p stepWord) (bytesOf text (unpackedName (word t
 unfoldable mutual
   pub treeAt : ℕ → List ℕ → List ℕ → ℕ → Tree
   treeAt zero text t p = fresh
-  treeAt (suc deep) text t p = node (eqb (word t p nullWord) 1) (word t p kindWord) (word t p samplesWord) (kidsAt deep text t (word t p firstWord))
+  treeAt (suc deep) text t p =
+      node (eqb (word t p nullWord) 1) (word t p kindWord) (word t p samplesWord) (kidsAt deep text t (word t p firstWord))
 
   pub kidsAt : ℕ → List ℕ → List ℕ → ℕ → Kids
   kidsAt zero text t c = no-kids
   kidsAt (suc deep) text t c =
-      elim (eqb c 0) [ true ↦ no-kids | false ↦ kid (stepAt text t c) (word t c heldWord) (treeAt deep text t c) (kidsAt deep text t (word t c nextWord)) ]
+      elim (eqb c 0) [
+        | true ↦ no-kids
+        | false ↦ kid (stepAt text t c) (word t c heldWord) (treeAt deep text t c) (kidsAt deep text t (word t c nextWord))
+      ]
 
 unfoldable pub treeOf : List ℕ → List ℕ → Tree
 treeOf text t = treeAt 2048 text t 0

@@ -45,7 +45,9 @@ endOr (R.Refused refusal place) = O.Refused refusal
 
 -- the name that stands behind the opening byte, if it ends inside the text; else the end, or a refusal
 unfoldable pub fieldAt : List ℕ → List ℕ → ℕ → ℕ → Field
-fieldAt commands text kind at = if namedAt commands text (openerOf kind) at then O.Named (nameAt commands (at + 1)) else endOr (readCommand commands text at (dueOf kind))
+fieldAt commands text kind at =
+    if namedAt commands text (openerOf kind) at then O.Named (nameAt commands (at + 1))
+    else endOr (readCommand commands text at (dueOf kind))
 
 -- the part that it is, which a name that is not UTF-8 refuses
 abbrev pub partOf : List ℕ → ℕ → Field → Part

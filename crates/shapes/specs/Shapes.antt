@@ -69,7 +69,9 @@ valuePart commands step at (R.Command command behind) = if eqb (getD commands at
 valuePart commands step at (R.Refused refusal place) = P.Refused refusal place
 
 abbrev pub fieldPart : List ℕ → ℕ → Read → Part
-fieldPart commands at (R.Command command behind) = if eqb (getD commands at 0) endByte then P.Ended behind else P.Step (S.Field (nameAt commands (at + 1))) behind
+fieldPart commands at (R.Command command behind) =
+    if eqb (getD commands at 0) endByte then P.Ended behind
+    else P.Step (S.Field (nameAt commands (at + 1))) behind
 fieldPart commands at (R.Refused refusal place) = P.Refused refusal place
 
 unfoldable pub partAt : List ℕ → List ℕ → ℕ → ℕ → ℕ → ℕ → Part

@@ -43,4 +43,5 @@ dots (b ∷ x) = if eqb b dot then suc (dots x) else dots x
 unfoldable pub tagOf : List ℕ → ℕ
 tagOf bytes =
     if ltb (length bytes) 3 then length bytes
-    else length bytes % 256 + 256 * getD bytes (length bytes - 1) 0 + 65536 * getD bytes (length bytes - 2) 0 + 16777216 * getD bytes (length bytes - 3) 0
+    else length bytes % 256 + 256 * getD bytes (length bytes - 1) 0 + 65536 * getD bytes (length bytes - 2) 0
+    + 16777216 * getD bytes (length bytes - 3) 0

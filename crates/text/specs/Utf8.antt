@@ -58,4 +58,5 @@ fits (range ∷ row) (byte ∷ bytes) = within range byte && fits row bytes
 -- the same text read without computing: nothing, or a sequence of row k of the table and then such a text
 pub data Utf8 : List ℕ → Type 0 where
   empty : Utf8 []
-  next : (k : ℕ) (row : List Range) (bytes more : List ℕ) → getElem? table k ≡ some row → fits row bytes ≡ true → Utf8 more → Utf8 (bytes ++ more)
+  next : (k : ℕ) (row : List Range) (bytes more : List ℕ) →
+      getElem? table k ≡ some row → fits row bytes ≡ true → Utf8 more → Utf8 (bytes ++ more)

@@ -1,6 +1,6 @@
 -- `coerce_primitive_type` is the joint.
 use borrow.Author.Needs.{needs}
-use Rattle.coerce.proofs.Ways.{equal, first-null, second-null, unequal}
+use Rattle.coerce.proofs.Joint.{equal, first-null, second-null, unequal}
 use Rattle.coerce.proofs.coerce_primitive_type.Statement.{statement}
 use Rattle.coerce.proofs.coerce_primitive_type.Tie as tie
 
