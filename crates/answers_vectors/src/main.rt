@@ -13,7 +13,7 @@ const HEADER: usize = 32;
 const ROOM: usize = 16384;
 
 // Words that a call uses.
-const USED: usize = 16384;
+const USED: usize = words::WORDS;
 
 // What buffers and table hold before a call.
 const BYTE: u8 = 165;

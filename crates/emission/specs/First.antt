@@ -90,7 +90,7 @@ module _ (options : ℕ) (text t : List ℕ) (inner : ℕ → Walked) (k p m : �
   unfolding Order.datalessFrom
   dataless-step left slot q e d = rw (e, d, Order.datalessFrom)
 
-  dataless-is : (qs : Spots) (left slot last : ℕ) → eqb k unionKind ≡ true → AllS (λ s h x u. Child options text t inner s u) qs → manyS qs ≤ left → slot + manyS qs ≤ 1024 → Enumerates t false k p last qs
+  dataless-is : (qs : Spots) (left slot last : ℕ) → eqb k unionKind ≡ true → AllS (λ s h x u. Child options text t inner s u) qs → manyS qs ≤ left → slot + manyS qs ≤ placeLimit → Enumerates t false k p last qs
       → Order.datalessFrom t p left slot (nextOrdered t p last) ≡ Model.datalessFrom slot (placesOf k m (eraseIn qs))
   unfolding Model.datalessFrom placeOf
   dataless-is no-spots left slot last d a l i e =
@@ -142,16 +142,16 @@ nothing-below : {o : Option ℕ} (size : ℕ) → o ≡ none → Says o 0 0 0 no
 unfolding countOf namesOf columnsOf
 nothing-below size e = told {r′ = 0} {n′ = 0} {c′ = 0} e (omega arith) (omega arith) (omega arith) (omega arith) (omega arith)
 
-module _ (options : ℕ) (text t : List ℕ) (inner : ℕ → Walked) (k p m : ℕ) (qs : Spots) (all : AllS (λ s h x u. Child options text t inner s u) qs) (few : sizeIn qs ≤ 1024)
+module _ (options : ℕ) (text t : List ℕ) (inner : ℕ → Walked) (k p m : ℕ) (qs : Spots) (all : AllS (λ s h x u. Child options text t inner s u) qs) (few : sizeIn qs ≤ placeLimit)
     (next : Enumerates t false k p 0 qs) (some-below : eqb k mapKind ≡ true → 1 ≤ sizeIn qs) where
   below-says : Says (walks options k (placesOf k m (eraseIn qs))) 0 0 0 (arranged k (fieldsOf options k 0 (placesOf k m (eraseIn qs)))) 129 69993 (suc (sizeIn qs)) (childrenBelow text t inner k p)
   unfolding arranged if_then_else_
   below-says =
-      let l : manyS qs ≤ 1024 = omega (arith, many-few qs) in
+      let l : manyS qs ≤ placeLimit = omega (arith, many-few qs) in
       cases (eqb k mapKind)
       (λ e. rw e (entries-say (walks options k (placesOf k m (eraseIn qs))) (fieldsOf options k 0 (placesOf k m (eraseIn qs))) (sizeIn qs) (fields-some options k 0 m qs (some-below e))
-      (kids-say options text t inner k p m qs 1024 1 7 0 0 0 all l (omega arith) (omega arith) (omega arith) next)))
-      (λ e. let i = kids-say options text t inner k p m qs 1024 0 0 0 0 0 all l (omega arith) (omega arith) (omega arith) next in
+      (kids-say options text t inner k p m qs placeLimit 1 7 0 0 0 all l (omega arith) (omega arith) (omega arith) next)))
+      (λ e. let i = kids-say options text t inner k p m qs placeLimit 0 0 0 0 0 all l (omega arith) (omega arith) (omega arith) next in
       rw e (cases (eqb k mapModeKind)
       (λ d. rw d (sorted-say (walks options k (placesOf k m (eraseIn qs))) (fieldsOf options k 0 (placesOf k m (eraseIn qs))) (sizeIn qs) i))
       (λ d. rw d (plain-say (walks options k (placesOf k m (eraseIn qs))) (fieldsOf options k 0 (placesOf k m (eraseIn qs))) (sizeIn qs) i))))
@@ -164,10 +164,10 @@ module _ (options : ℕ) (text t : List ℕ) (inner : ℕ → Walked) (k p m : �
   container-says name number admits w c =
       let ge : sequenceKind ≤ k = leb-true sequenceKind k c in
       let z : eqb k null ≡ false = ne-eqb k null (omega arith) in
-      let l : manyS qs ≤ 1024 = omega (arith, many-few qs) in
+      let l : manyS qs ≤ placeLimit = omega (arith, many-few qs) in
       cases (eqb k unionKind)
       (λ e.
-      let d : datalessAt t p ≡ dataless (placesOf k m (eraseIn qs)) = dataless-is options text t inner k p m qs 1024 0 0 e all l (omega arith) next in
+      let d : datalessAt t p ≡ dataless (placesOf k m (eraseIn qs)) = dataless-is options text t inner k p m qs placeLimit 0 0 e all l (omega arith) next in
       rw (w, z, c, e, d) (cases (dataless (placesOf k m (eraseIn qs)))
       (λ x. rw x (cases (enumsWithoutDataAsStrings options)
       (λ y. rw y (nothing-below (sizeIn qs) refl))

@@ -11,7 +11,7 @@ use borrow.Author.Tests.{eqb-true, eqb-false, eq-eqb, ne-eqb, ltb-true, ltb-fals
 use Rattle.logic.specs.Test.{if_then_else_, cases, both}
 use Rattle.text.specs.Name.{bytesOf, ltName, eqName}
 use Rattle.text.specs.NameLaws.{ltName-irreflexive, ltName-transitive, ltName-total}
-use Rattle.words.specs.Word.{word}
+use Rattle.words.specs.Word.{placeWords, word, IsTable}
 use Rattle.model.specs.Kinds.{unionKind, mapModeKind, Step, field, element, position, key, value, variant, variantOf}
 use Rattle.model.specs.Tracing.{placeLimit}
 use Rattle.model.specs.Emission.{nameOf}
@@ -49,7 +49,7 @@ few : (n c : ℕ) (ks : Spots) → c < n → GoodIn n c ks → c + length (numsO
 few n c no-spots l g = omega arith
 few n c (child s h m u ks) l g = let i = few n (num u) ks (bounded n (num u) u (g .1) (self u)) (g .3) in omega (arith, g .0)
 
-first-below : (n c : ℕ) (ks : Spots) → n ≤ placeLimit → GoodIn n c ks → firstOf ks < 1024
+first-below : (n c : ℕ) (ks : Spots) → n ≤ placeLimit → GoodIn n c ks → firstOf ks < placeLimit
 first-below n c no-spots l g = omega arith
 first-below n c (child s h m u ks) l g = omega (arith, bounded n (num u) u (g .1) (self u))
 
@@ -299,7 +299,7 @@ module _ (text t : List ℕ) (n : ℕ) where
     find-in q c p k (child s h m u ks) g r f e go =
         or-cases (within q u) (withinIn q ks) e (λ d. find q u (g .1) (r .1) (f .1) d go) (λ d. find-in q (num u) p k ks (g .3) (r .2) (f .2) d go)
 
-module _ (text t : List ℕ) (n : ℕ) (most : n ≤ placeLimit) (room : 16384 ≤ length t) where
+module _ (text t : List ℕ) (n : ℕ) (most : n ≤ placeLimit) (room : IsTable t) where
   apart : (byName : Bool) (p : ℕ) (ks : Spots) → Placed text t n p (kindOf byName) ks → Apart (frontOf byName) (isBefore text t byName) ks
   apart false p ks h = apart-all text t unionKind p numberFront (isBefore text t false) (number-pair text t p) n p ks (h .good) (h .rep) (h .fit)
   apart true p ks h = apart-all text t mapModeKind p nameFront (isBefore text t true) (name-pair text t p) n p ks (h .good) (h .rep) (h .fit)
@@ -309,7 +309,7 @@ module _ (text t : List ℕ) (n : ℕ) (most : n ≤ placeLimit) (room : 16384 �
     abbrev done : List ℕ
     done = sortedPlaces text t j
 
-    same : (q f : ℕ) → f < 16 → (f ≡ orderedFirstWord → ⊥) → (f ≡ orderedNextWord → ⊥) → word done q f ≡ word t q f
+    same : (q f : ℕ) → f < placeWords → (f ≡ orderedFirstWord → ⊥) → (f ≡ orderedNextWord → ⊥) → word done q f ≡ word t q f
     same q f = words-ordered text t j (omega arith) q f
 
     sorted-children : (byName : Bool) (p : ℕ) (ks : Spots) → Placed text t n p (kindOf byName) ks → Lined (isBefore text t byName) done (numsOf ks) p (sortedChildren text byName p done)
@@ -442,7 +442,7 @@ module _ (text t : List ℕ) (n : ℕ) (most : n ≤ placeLimit) (room : 16384 �
     orders = orders-from root good rep fit
 
 -- ---- the sorted table says the same tree
-module _ (text t u : List ℕ) (same : (q f : ℕ) → f < 16 → (f ≡ orderedFirstWord → ⊥) → (f ≡ orderedNextWord → ⊥) → word u q f ≡ word t q f) where
+module _ (text t u : List ℕ) (same : (q f : ℕ) → f < placeWords → (f ≡ orderedFirstWord → ⊥) → (f ≡ orderedNextWord → ⊥) → word u q f ≡ word t q f) where
   mutual
     still-says : (v : Spot) → Rep text t v → Rep text u v
     still-says (spot p b k m ks) r = ((λ f l. same p (0 + f) (omega arith) (λ e. omega arith) (λ e. omega arith) ∙ r .0 f l), still-in p ks (r .1), same-block t u p ks (same p blockWord (omega arith) (λ e. omega arith) (λ e. omega arith)) (r .2))

@@ -8,7 +8,7 @@ use mathlib.Core.Option.{none, some}
 use Prim.Native.Nat.{ℕ, _≤_}
 use native.Mathlib.Omega.{arith}
 use lib.ListN.{length}
-use Rattle.words.specs.Word.{cleared}
+use Rattle.words.specs.Word.{zeros}
 use lib.Dec.{eqb}
 use Rattle.logic.specs.Test.{if_then_else_}
 use Rattle.datatype.specs.Codes.{null, struct}
@@ -18,7 +18,7 @@ use Rattle.model.specs.Result.{Result, accepted, refused}
 use Rattle.model.specs.Reading.{values}
 use Rattle.model.specs.Tracing.{trace, placeLimit, Counted, counted}
 use Rattle.model.specs.Emission.{placeOf, walk, Field, mk, Fields, fieldOf, rootFields, rootName, toSchema, namesIn, columnsIn, countIn}
-use Rattle.model.specs.Answer.{tableWords, inputLimit, schemaOf}
+use Rattle.model.specs.Answer.{inputLimit, schemaOf}
 use Rattle.leaves.specs.declared.Traced.the-variants as T
 use Rattle.samples.specs.Samples.{fromSamples}
 use Rattle.leaves.specs.Leaves.{out}
@@ -101,12 +101,12 @@ module _ (options end : ℕ) (text t fields names : List ℕ) (n : ℕ) (u : Spo
 tree-said : {text : List ℕ} {behind n : ℕ} {t : List ℕ} {x : Result (Counted Spot)} → Ends text x (out (T.Next behind n) t) → (u : Spot) × (x ≡ counted n u) × (num u ≡ 0) × Fits text t n u
 tree-said (ends {u = u} z h) = (u, refl, z, h)
 
-pub schema-is-model : (options : ℕ) (commands text t : List ℕ) → Bytes commands → length commands ≤ inputLimit → tableWords ≤ length t → (behind n : ℕ) (traced fields names : List ℕ) →
-    fromSamples commands text options (cleared t tableWords) ≡ out (T.Next behind n) traced →
+pub schema-is-model : (options : ℕ) (commands text : List ℕ) → Bytes commands → length commands ≤ inputLimit → (behind n : ℕ) (traced fields names : List ℕ) →
+    fromSamples commands text options zeros ≡ out (T.Next behind n) traced →
     Emits fields names (schemaOf (record { options = options; commands = commands; text = text })) (toSchemaAt options text (sortedPlaces text traced n) fields names)
 unfolding schemaOf
-schema-is-model options commands text t bytes short long behind n traced fields names e =
-    let (u, is, root, fits) = tree-said (rw e at (flat-is-walk options commands text t bytes long)) in
+schema-is-model options commands text bytes short behind n traced fields names e =
+    let (u, is, root, fits) = tree-said (rw e at (flat-is-walk options commands text bytes)) in
     let tree : trace options (values options commands text) ≡ counted n (erase u) = sym (walk-is-model options commands text short) ∙ ap erased is in
     let fitting : FitS u = fit options commands text bytes n u is in
     let in-order = orders text traced n (fits .most) (fits .room) u (fits .good) (fits .rep) fitting (cover options commands text n u is) in

@@ -197,7 +197,7 @@ module _ (options : ℕ) (text t : List ℕ) (n p k m : ℕ) where
         rw (f, g) (omega (arith, ih′ .1)),
       )
 
-  counted : (ks : Spots) → eqb k mapKind ≡ false → manyS ks < 1024 → AllS Told (orderS false k ks) → (eqb k unionKind ≡ true → Rising 0 (orderS false k ks)) → Enumerates t false k p 0 (orderS false k ks)
+  counted : (ks : Spots) → eqb k mapKind ≡ false → manyS ks < placeLimit → AllS Told (orderS false k ks) → (eqb k unionKind ≡ true → Rising 0 (orderS false k ks)) → Enumerates t false k p 0 (orderS false k ks)
       → (fieldCount t k p ≡ childCount (fieldsS options k m 0 (orderS true k ks))) × (childCount (fieldsS options k m 0 (orderS true k ks)) < 65536)
   unfolding fieldCount if_then_else_
   counted ks e l a y h = rw e (cases (eqb k unionKind)
@@ -266,7 +266,7 @@ module _ (options : ℕ) (text t : List ℕ) (n p k m : ℕ) where
       _ _ _ _ er en all w room
 
   -- with a map's entries
-  below-write : (inner : Writer) (ks : Spots) → manyS ks < 1024 → (eqb k mapKind ≡ true → manyS ks ≡ 2) → word t p samplesWord ≡ m → AllS (Inner inner) (orderS true k ks) → Enumerates t true k p 0 (orderS true k ks)
+  below-write : (inner : Writer) (ks : Spots) → manyS ks < placeLimit → (eqb k mapKind ≡ true → manyS ks ≡ 2) → word t p samplesWord ≡ m → AllS (Inner inner) (orderS true k ks) → Enumerates t true k p 0 (orderS true k ks)
       → Writes (fieldsBelow t inner k p) (recordsIn (arranged k (fieldsS options k m 0 (orderS false k ks)))) (namesIn (arranged k (fieldsS options k m 0 (orderS false k ks))))
   below-write inner ks l two sm a h w room = cases (eqb k mapKind) (λ e. with-entries e w room) (λ e. without e w room)
     where
@@ -340,7 +340,7 @@ module _ (options : ℕ) (text t : List ℕ) where
   unfolding emittedAt emittedBy if_then_else_
   emitted-below levels p lacking number w e = rw e refl
 
-  module _ (n p : ℕ) (b : Bool) (k m : ℕ) (ks : Spots) (r : Row t p kindWord (k ∷ one b ∷ m ∷ [])) (few : manyS ks < 1024) (kids : AllS (Kid text t n k p) ks)
+  module _ (n p : ℕ) (b : Bool) (k m : ℕ) (ks : Spots) (r : Row t p kindWord (k ∷ one b ∷ m ∷ [])) (few : manyS ks < placeLimit) (kids : AllS (Kid text t n k p) ks)
       (order : Enumerates t false k p 0 (orderS false k ks)) where
     abbrev ps : Places
     ps = placesOf k m (eraseIn (orderS false k ks))
@@ -359,7 +359,7 @@ module _ (options : ℕ) (text t : List ℕ) where
         rw d (swap (eqb k unionKind) (enumsWithoutDataAsStrings options) (dataless ps)))
         (λ e. rw e refl))
       where
-        union-dataless : k ≡ unionKind → (is : Spots) → manyS is ≤ 1024 → AllS (Kid text t n k p) is → Enumerates t false k p 0 is → datalessAt t p ≡ dataless (placesOf k m (eraseIn is))
+        union-dataless : k ≡ unionKind → (is : Spots) → manyS is ≤ placeLimit → AllS (Kid text t n k p) is → Enumerates t false k p 0 is → datalessAt t p ≡ dataless (placesOf k m (eraseIn is))
         union-dataless z is l a h = rw z (dataless-is text t n p m is l (rw z at a) (rw z at h))
 
     -- the record and the name of a dictionary, and of any other place
@@ -459,7 +459,7 @@ module _ (options : ℕ) (text t : List ℕ) (n : ℕ) (most : n ≤ placeLimit)
   second zero (spot p b k m ks) lacking number name nm g r f o z l e = absurd (omega (arith, g .0))
   second (suc levels) (spot p b k m ks) lacking number name nm g r f o z l e =
       let kids : AllS (Kid text t n k p) ks = known text t n k p p ks (omega arith) (r .1) (g .2) (f .1) (o .2) (z .2) in
-      let some : manyS ks < 1024 = omega (arith, few n p ks (g .0) (g .2)) in
+      let some : manyS ks < placeLimit = omega (arith, few n p ks (g .0) (g .2)) in
       let row : Row t p kindWord (k ∷ one b ∷ m ∷ []) = own-row t p b k m ks (r .0) in
       rw (place-is lacking p b k m ks)
       (cases (eqb k unionKind && dataless (placesOf k m (eraseIn (orderS false k ks))) && enumsWithoutDataAsStrings options)
@@ -483,7 +483,7 @@ module _ (options : ℕ) (text t : List ℕ) (n : ℕ) (most : n ≤ placeLimit)
   unfolding fieldOf if_then_else_
   below-writes levels p b lacking k m ks number name g r f o z l c v e =
       let kids : AllS (Kid text t n k p) ks = known text t n k p p ks (omega arith) (r .1) (g .2) (f .1) (o .2) (z .2) in
-      let some : manyS ks < 1024 = omega (arith, few n p ks (g .0) (g .2)) in
+      let some : manyS ks < placeLimit = omega (arith, few n p ks (g .0) (g .2)) in
       let told = told-below p b lacking k m ks kids c (rw v refl) e in
       rw (place-is lacking p b k m ks, v)
       (below-write options text t n p k m (emittedAt options text t levels) ks some (z .1) (r .0 2 (omega arith))

@@ -12,12 +12,12 @@ use native.Mathlib.Omega.{arith}
 use lib.ListN.{length}
 use Rattle.logic.specs.All.{All}
 use Rattle.refusal.specs.Number.{tooManyPlaces}
-use Rattle.words.specs.Word.{cleared}
+use Rattle.words.specs.Word.{tableWords}
 use Rattle.model.specs.Result.{Result, accepted, _>>=_}
 use Rattle.model.specs.Tracing.{Tree, fresh, placeLimit}
 use Rattle.model.specs.Unbounded.{seeAll, size}
 use Rattle.model.specs.Emission.{Fields, toSchema}
-use Rattle.model.specs.Answer.{Batch, Buffers, Answer, WellFormed, tableWords, schemaOf, isShort, withSchema, answerOf, answer}
+use Rattle.model.specs.Answer.{Batch, Buffers, Answer, WellFormed, schemaOf, isShort, cleared, withSchema, answerOf, answer}
 use Rattle.model.specs.Census.{SameCensus}
 use Rattle.model.specs.Demand3.{Plain, Accepted, SameSchema, StructRecords, NoPlaceBoth, IsRecord, NoShorter, SameButOrder, batchOf, recordsOf}
 use Rattle.fasthrom.specs.declared.Answer as R

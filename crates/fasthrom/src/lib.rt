@@ -6,10 +6,11 @@ ghost use mathlib.Core.Bool.{_||_};
 ghost use Prim.Native.Nat.{_≤_};
 ghost use lib.Dec.{ltb};
 ghost use lib.ListN.{length, getD};
+ghost use Rattle.words.specs.Word.{IsTable};
 ghost use Rattle.refine.specs.Commands.{Bytes};
 ghost use Rattle.places.specs.Layout.{Sound};
 ghost use Rattle.samples.specs.Samples.{fromSamples};
-ghost use Rattle.model.specs.Answer.{inputLimit, tableWords, answer, answerOf, schemaOf};
+ghost use Rattle.model.specs.Answer.{inputLimit, answer, answerOf, schemaOf};
 ghost use Rattle.model.specs.Demand3.{batch};
 ghost use Rattle.fasthrom.specs.Call.{Given, emittedFrom, lent, answerBy, Called};
 use leaves::Traced;
@@ -34,9 +35,6 @@ pub struct Answer {
     pub name_bytes: u32,
     pub columns: u32,
 }
-
-// Words of the work table that a call uses: sixteen for each of 1,024 places.
-const WORDS: usize = 16384;
 
 const LONGEST: usize = 65535;
 
@@ -78,22 +76,22 @@ fn trace_and_emit(
     }
 }
 
-// The same over a table that is zeroed before and after.
-fn trace_cleared(
+// The same over the part of the table that has a word for each place: it is zeroed before and after.
+fn trace_part(
     options: TracingOptions,
     commands: &[u8],
     text: &[u8],
-    table: &mut [u32],
+    part: &mut [u32],
     fields: &mut [u8],
     names: &mut [u8],
 ) -> Outcome
-    requires { ⌜ (length (now commands) ≤ inputLimit) × (tableWords ≤ length (now table)) ⌝ }
-    ensures { λ r. ⌜ answerBy r (lent (now (table .exit)) (now (fields .exit)) (now (names .exit))) ≡ answerOf (batch (options .word) (now (commands .entry)) (now (text .entry))) (lent (now (table .entry)) (now (fields .entry)) (now (names .entry))) (schemaOf (batch (options .word) (now (commands .entry)) (now (text .entry)))) ⌝ }
+    requires { ⌜ (length (now commands) ≤ inputLimit) × IsTable (now part) ⌝ }
+    ensures { λ r. ⌜ answerBy r (lent (now (part .exit)) (now (fields .exit)) (now (names .exit))) ≡ answerOf (batch (options .word) (now (commands .entry)) (now (text .entry))) (lent (now (part .entry)) (now (fields .entry)) (now (names .entry))) (schemaOf (batch (options .word) (now (commands .entry)) (now (text .entry)))) ⌝ }
 {
     first_byte(commands);
-    words::clear(table, WORDS);
-    let outcome = trace_and_emit(options, commands, text, table, fields, names);
-    words::clear(table, WORDS);
+    words::clear(part);
+    let outcome = trace_and_emit(options, commands, text, part, fields, names);
+    words::clear(part);
     outcome
 }
 
@@ -106,7 +104,8 @@ fn is_long(commands: &[u8], text: &[u8]) -> bool
     LONGEST < text.len()
 }
 
-// Refusals 1 to 3 are tested in order, before anything is read.
+// Refusals 1 to 3 are tested in order, before anything is read. Only the places' words are lent further, so that those
+// past them are left alone.
 pub fn trace(
     options: u16,
     commands: &[u8],
@@ -121,13 +120,20 @@ pub fn trace(
     if known.has_unknown_bit() {
         return Outcome::Refused(Refusal::UnknownOption, 0);
     }
-    if table.len() < WORDS {
+    if table.len() < words::WORDS {
         return Outcome::Refused(Refusal::ShortTable, 0);
     }
     if is_long(commands, text) {
         return Outcome::Refused(Refusal::LongInput, 0);
     }
-    trace_cleared(known, commands, text, table, fields, names)
+    trace_part(
+        known,
+        commands,
+        text,
+        &mut table[..words::WORDS],
+        fields,
+        names,
+    )
 }
 
 // The call from C and from Rust.

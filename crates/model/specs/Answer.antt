@@ -4,19 +4,15 @@ use mathlib.Core.List.{List, [], _∷_, _++_}
 use mathlib.Core.Path.{_≡_}
 use Prim.Native.Nat.{ℕ, _*_, _≤_}
 use lib.Dec.{ltb}
-use lib.ListN.{length, drop}
+use lib.ListN.{length, drop, replicate}
 use Rattle.logic.specs.Test.{if_then_else_}
 use Rattle.options.specs.Word.{unknownBit}
 use Rattle.refusal.specs.Number.{unknownOption, shortTable, longInput, shortBuffer}
-use Rattle.words.specs.Word.{cleared}
+use Rattle.words.specs.Word.{tableWords}
 use Rattle.model.specs.Result.{Result, accepted, refused, _>>=_}
 use Rattle.model.specs.Reading.{values, allWhole}
 use Rattle.model.specs.Tracing.{trace, Counted}
 use Rattle.model.specs.Emission.{Fields, toSchema, recordsIn, namesIn, columnsIn, countIn}
-
--- words of 32 bits that the work table has at least
-abbrev pub tableWords : ℕ
-tableWords = 16384
 
 -- commands and text have at most so many bytes
 abbrev pub inputLimit : ℕ
@@ -68,6 +64,10 @@ turnedDown refusal place left = record { refusal = refusal; place = place; field
 -- the first bytes written, and past them the buffer untouched
 abbrev pub written : List ℕ → List ℕ → List ℕ
 written bytes buffer = bytes ++ drop (length bytes) buffer
+
+-- a work table with its first words zero, and the others as they were
+unfoldable pub cleared : List ℕ → ℕ → List ℕ
+cleared table count = replicate count 0 ++ drop count table
 
 -- from refusal 4 on, and on success, the work table's first words end as zeros
 abbrev pub zeroed : Buffers → Buffers

@@ -71,6 +71,10 @@ rightWord = 14
 abbrev pub tagWord : ℕ
 tagWord = 15
 
+-- the root's number; no place has it as a child, so that as a link it stands for none
+abbrev pub rootPlace : ℕ
+rootPlace = 0
+
 -- What is true of a table with n places: links are places, a next child has a higher number, and names end inside the text.
 pub record Linked (text t : List ℕ) (n : ℕ) : Type 0 where
   pub most : n ≤ placeLimit

@@ -18,6 +18,7 @@ use Rattle.words.specs.Word.{word}
 use Rattle.commands.specs.declared.Due.the-variants as D
 use Rattle.commands.specs.Commands.{endByte}
 use Rattle.model.specs.Kinds.{sequenceKind}
+use Rattle.model.specs.Tracing.{placeLimit}
 use Rattle.shapes.specs.declared.Step.the-variants as S
 use Rattle.shapes.specs.declared.Part.the-variants as P
 use Rattle.shapes.specs.Steps.{codeOf, noName}
@@ -72,7 +73,7 @@ module _ (place : ℕ) (t : List ℕ) (held : isHeld place (word t place firstWo
 
   held-found : (text : List ℕ) → findFrom text (codeOf S.Element) noName t child ≡ child
   unfolding findFrom turns after
-  held-found text = ap (after (λ s. turns (findTurn text (codeOf S.Element) noName t) (λ c. 0) 1024 s)) (held-turn text)
+  held-found text = ap (after (λ s. turns (findTurn text (codeOf S.Element) noName t) (λ c. 0) placeLimit s)) (held-turn text)
 
   held-confirmed : (text : List ℕ) (n : ℕ) → confirmed text noName child n t ≡ E.Child child n
   unfolding confirmed eqName if_then_else_

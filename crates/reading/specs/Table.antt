@@ -7,13 +7,13 @@ use Prim.Native.Nat.{_-_, ℕ, zero, suc, _+_, _*_, _<_, _≤_}
 use native.Mathlib.Nat.{le-refl}
 use native.Mathlib.Omega.{arith}
 use borrow.Author.Tests.{ne-eqb, leb-false}
-use lib.ListN.{length}
 use Rattle.logic.specs.Test.{if_then_else_, cases}
 use Rattle.refusal.specs.declared.Refusal.{Refusal}
 use Rattle.refusal.specs.declared.Refusal.the-variants as F
 use Rattle.text.specs.declared.Name.{Name}
-use Rattle.words.specs.Word.{word}
+use Rattle.words.specs.Word.{word, IsRow, IsTable}
 use Rattle.model.specs.Kinds.{sequenceKind, structKind, mapKind, tupleKind, unionKind, mapModeKind, isContainer}
+use Rattle.model.specs.Tracing.{placeLimit}
 use Rattle.shapes.specs.declared.Step.{Step}
 use Rattle.shapes.specs.declared.Step.the-variants as S
 use Rattle.kinds.specs.declared.Met.{Met}
@@ -59,11 +59,11 @@ module _ (text t : List ℕ) (n : ℕ) (r : Traced) (s : SoundTraced text t n r)
     traced-ready place h = let g : n ≤ m = traced-grows in record { sound = traced-sound; here = omega arith }
 
     -- its first child is one of the table
-    pub traced-first : (place : ℕ) → place < n → (place < 1024) × (16384 ≤ length t) × (word t place firstWord < 1024)
+    pub traced-first : (place : ℕ) → place < n → IsRow place × IsTable t × IsRow (word t place firstWord)
     traced-first place h =
         let ready : Ready text t m place = traced-ready place h in
-        let most : m ≤ 1024 = ready .sound .linked .most in
-        let is : place < 1024 = is-place text t m place ready in
+        let most : m ≤ placeLimit = ready .sound .linked .most in
+        let is : IsRow place = is-place text t m place ready in
         let first : word t place firstWord < m = ready .sound .linked .first place is in
         (is, ready .sound .linked .room, omega arith)
 

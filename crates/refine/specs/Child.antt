@@ -2,7 +2,7 @@
 use mathlib.Core.Path.{_≡_, refl, ap, sym, subst, _∙_}
 use mathlib.Core.List.{List, [], _∷_}
 use mathlib.Core.Bool.{Bool, true, false, false≢true}
-use Prim.Native.Nat.{ℕ, zero, suc, _+_, _*_, _<_, _≤_}
+use Prim.Native.Nat.{ℕ, zero, suc, _+_, _<_, _≤_}
 use native.Mathlib.Omega.{arith}
 use lib.ListN.{length, getD, replicate, getD-replicate, length-replicate}
 use lib.Dec.{eqb}
@@ -11,10 +11,9 @@ use Rattle.logic.specs.Test.{if_then_else_, cases}
 use Rattle.logic.specs.Turns.{turns, after}
 use Rattle.text.specs.declared.Name.{Name}
 use Rattle.text.specs.Name.{bytesOf, eqName}
-use Rattle.words.specs.Word.{word, withWord}
-use Rattle.words.specs.Laws.{word-same, word-other}
+use Rattle.words.specs.Word.{placeWords, IsTable, word, withWord}
+use Rattle.words.specs.laws.Word.{word-same, word-other, length-with}
 use Rattle.model.specs.Kinds.{Step, position, same}
-use Rattle.model.specs.Answer.{tableWords}
 use Rattle.model.specs.Tracing.{one, placeLimit, has, clashes}
 use Rattle.equality.specs.Base.{same-true, same-refl, or-cases}
 use Rattle.shapes.specs.declared.Step as Flat
@@ -25,7 +24,7 @@ use Rattle.search.specs.Search.{isAt, findTurn, findFrom, findIn}
 use Rattle.refine.specs.Spots.{Spot, spot, Spots, no-spots, child, num, belowS, stepsS, newSpot, spotAt, addS}
 use Rattle.refine.specs.Steps.{near, near-name, near-renames, far-same, far-renames, same-renames, stepCodeOf, nameIn, test-is, Stands, unpacked}
 use Rattle.refine.specs.Numbers.{firstOf, lastFrom, within, withinIn, nearIn, Good, GoodIn, both-false, or-right, not-both, un-true, bounded, boundedIn, self, has-add-old, add-good, not-below, or-left, has-num, has-below}
-use Rattle.refine.specs.Rep.{size-with, ownWords, cellWords, Row, Cell, Block, no-block, Rep, RepIn, same-cell, same-block, row-set, frame, Fits, in-row}
+use Rattle.refine.specs.Rep.{ownWords, cellWords, Row, Cell, Block, no-block, Rep, RepIn, same-cell, same-block, row-set, frame, Fits, in-row}
 
 -- ---- the search
 -- no child that the search takes for it: none at the step, nor another name of a variant
@@ -148,7 +147,7 @@ still-first r s n (child q h m u ks) e = refl
 
 module _ (text t t′ : List ℕ) (n p : ℕ) (s : Step) (cell : Cell text t′ n 0 p s 0 0) (own : Rep text t′ (newSpot n)) where
   add-rep : (c d : ℕ) (ks : Spots) → GoodIn n d ks → RepIn text t p ks → ((firstOf ks ≡ 0 → ⊥) → word t′ (lastFrom c ks) nextWord ≡ n)
-      → ((q f : ℕ) → f < 16 → withinIn q ks ≡ true → (q ≡ lastFrom c ks → f ≡ nextWord → ⊥) → word t′ q f ≡ word t q f) → RepIn text t′ p (addS s n ks)
+      → ((q f : ℕ) → f < placeWords → withinIn q ks ≡ true → (q ≡ lastFrom c ks → f ≡ nextWord → ⊥) → word t′ q f ≡ word t q f) → RepIn text t′ p (addS s n ks)
   unfolding addS
   add-rep c y no-spots g r x w = (cell, own, tt)
   add-rep c y (child q h m u no-spots) g r x w = (
@@ -183,7 +182,7 @@ module _ (text t t′ : List ℕ) (n p : ℕ) (s : Step) (cell : Cell text t′ 
 block-add : (b : ℕ) (s : Step) (n : ℕ) (ks : Spots) → Block b ks → Block b (addS s n ks)
 block-add b s n ks β i l = let d = β i l in (still-has (position i) s n ks (d .0), ap num (still-at (position i) s n ks (d .0)) ∙ d .1 ∙ ap (λ (x : ℕ). x + i) (sym (still-first (position i) s n ks (d .0))))
 
-row-other : (t : List ℕ) (p base q f v : ℕ) (xs : List ℕ) → ((g : ℕ) → g < length xs → p * 16 + (base + g) ≡ q * 16 + f → ⊥) → Row t p base xs → Row (withWord t q f v) p base xs
+row-other : (t : List ℕ) (p base q f v : ℕ) (xs : List ℕ) → ((g : ℕ) → g < length xs → p ≡ q → base + g ≡ f → ⊥) → Row t p base xs → Row (withWord t q f v) p base xs
 row-other t p base q f v xs n r g l = word-other t q f v p (base + g) (n g l) ∙ r g l
 
 -- the link to the new child
@@ -194,17 +193,17 @@ record Linked (t t₀ : List ℕ) (n p : ℕ) (s : Step) (b : Bool) (k m : ℕ) 
   size : length t₀ ≡ length t
   row : Row t₀ p kindWord (k ∷ one b ∷ m ∷ firstOf (addS s n ks) ∷ lastFrom 0 ks ∷ [])
   link : (firstOf ks ≡ 0 → ⊥) → word t₀ (lastFrom 0 ks) nextWord ≡ n
-  rest : (q f : ℕ) → f < 16 → (q ≡ p → f ≡ firstWord → ⊥) → (withinIn q ks ≡ true → q ≡ lastFrom 0 ks → f ≡ nextWord → ⊥) → word t₀ q f ≡ word t q f
+  rest : (q f : ℕ) → f < placeWords → (q ≡ p → f ≡ firstWord → ⊥) → (withinIn q ks ≡ true → q ≡ lastFrom 0 ks → f ≡ nextWord → ⊥) → word t₀ q f ≡ word t q f
 
 linked-is : (text t : List ℕ) (n p : ℕ) (s : Step) (b : Bool) (k m : ℕ) (ks : Spots) → Fits text t n (spot p b k m ks) → Linked t (joined p n t) n p s b k m ks
 unfolding addS if_then_else_
 linked-is text t n p s b k m no-spots h =
     let e : word t p firstWord ≡ 0 = h .rep .0 3 (omega arith) in
     rw e (record {
-      size = size-with t p firstWord n;
-      row = row-set t p 0 3 n (ownWords b k m no-spots) (in-row text t n p b k m no-spots h 3 (omega arith)) (omega arith) (h .rep .0);
+      size = length-with t p firstWord n;
+      row = row-set t p 0 3 n (ownWords b k m no-spots) (h .room) (in-row text t n p b k m no-spots h) (omega arith) (omega arith) (h .rep .0);
       link = λ d. absurd (d refl);
-      rest = λ q f l d _. word-other t p firstWord n q f (λ x. let y : q ≡ p = omega arith in d y (omega arith));
+      rest = λ q f l d _. word-other t p firstWord n q f d;
     })
 linked-is text t n p s b k m (child r x y u ks) h =
     let L : ℕ = lastFrom (num u) ks in
@@ -214,13 +213,13 @@ linked-is text t n p s b k m (child r x y u ks) h =
     let i : L < n = boundedIn n p L (child r x y u ks) (h .good .2) z in
     let j : (p ≡ L) → ⊥ = λ d. not-both (withinIn L (child r x y u ks)) z (rw d at (h .good .1)) in
     rw (e, e′, ne-eqb (num u) 0 (omega (arith, h .good .2 .0))) (record {
-      size = size-with t L nextWord n;
-      row = row-other t p 0 L 8 n (ownWords b k m (child r x y u ks)) (λ g l d. omega arith) (h .rep .0);
-      link = λ d. word-same t L nextWord n (omega (arith, h .room, h .most));
-      rest = λ q f l _ d. word-other t L nextWord n q f (λ a. let w : q ≡ L = omega arith in d (rw w z) w (omega arith));
+      size = length-with t L nextWord n;
+      row = row-other t p 0 L 8 n (ownWords b k m (child r x y u ks)) (λ g l d _. j d) (h .rep .0);
+      link = λ d. word-same t L nextWord n (h .room) (omega (arith, h .most)) (omega arith);
+      rest = λ q f l _ d. word-other t L nextWord n q f (λ w. d (rw w z) w);
     })
 
-pub zero-row : (t : List ℕ) (n base k : ℕ) → base + k ≤ 16 → ((f : ℕ) → f < 16 → word t n f ≡ 0) → Row t n base (replicate k 0)
+pub zero-row : (t : List ℕ) (n base k : ℕ) → base + k ≤ placeWords → ((f : ℕ) → f < placeWords → word t n f ≡ 0) → Row t n base (replicate k 0)
 zero-row t n base k i z f l = let l′ : f < k = rw (length-replicate {A = ℕ} k 0) at l in z (base + f) (omega arith) ∙ sym (getD-replicate k f 0 0 l′)
 
 -- A new last child, in a table that does not yet have it in the search tree nor in the block: what `After` says but for these, and the words
@@ -229,12 +228,12 @@ pub record Grown (text t : List ℕ) (n p : ℕ) (b : Bool) (k m : ℕ) (ks : Sp
   pub rep : Rep text t′ (spot p b k m (addS s n ks))
   pub good : Good (n + 1) (spot p b k m (addS s n ks))
   pub size : length t′ ≡ length t
-  pub words : (q f : ℕ) → q < n → f < 16 → (q ≡ p → 5 ≤ f) → (withinIn q ks ≡ true → q ≡ lastFrom 0 ks → f ≡ nextWord → ⊥) → word t′ q f ≡ word t q f
+  pub words : (q f : ℕ) → q < n → f < placeWords → (q ≡ p → 5 ≤ f) → (withinIn q ks ≡ true → q ≡ lastFrom 0 ks → f ≡ nextWord → ⊥) → word t′ q f ≡ word t q f
   pub root : word t′ n rootWord ≡ 0
   pub left : word t′ n leftWord ≡ 0
   pub right : word t′ n rightWord ≡ 0
   pub step : word t′ n stepWord ≡ stepCodeOf s
-  pub zeros : (q f : ℕ) → n + 1 ≤ q → q < placeLimit → f < 16 → word t′ q f ≡ 0
+  pub zeros : (q f : ℕ) → n + 1 ≤ q → q < placeLimit → f < placeWords → word t′ q f ≡ 0
 
 pub append-grown : (text t : List ℕ) (n p : ℕ) (x : Flat.Step) (s : Step) (b : Bool) (k m : ℕ) (ks : Spots) → Stands text x s → nearIn s ks ≡ false → Fits text t n (spot p b k m ks) → n < placeLimit
     → Grown text t n p b k m ks s (appended p (codeOf x) (nameOf x) n t)
@@ -249,24 +248,24 @@ append-grown text t n p x s b k m ks st far h i =
     let t₄ : List ℕ = withWord t₃ n nameWord nm in
     let k₀ = linked-is text t n p s b k m ks h in
     let pn : p < n = h .good .0 in
-    let big : tableWords ≤ length t = h .room in
+    let big : IsTable t = h .room in
     let z₀ : length t₀ ≡ length t = k₀ .size in
-    let z₁ : length t₁ ≡ length t = size-with t₀ p lastWord n ∙ z₀ in
-    let z₂ : length t₂ ≡ length t = size-with t₁ n parentWord p ∙ z₁ in
-    let z₃ : length t₃ ≡ length t = size-with t₂ n stepWord c ∙ z₂ in
-    let z₄ : length t₄ ≡ length t = size-with t₃ n nameWord nm ∙ z₃ in
+    let z₁ : length t₁ ≡ length t = length-with t₀ p lastWord n ∙ z₀ in
+    let z₂ : length t₂ ≡ length t = length-with t₁ n parentWord p ∙ z₁ in
+    let z₃ : length t₃ ≡ length t = length-with t₂ n stepWord c ∙ z₂ in
+    let z₄ : length t₄ ≡ length t = length-with t₃ n nameWord nm ∙ z₃ in
     let last-below : (q : ℕ) → withinIn q ks ≡ true → q < n = λ q e. boundedIn n p q ks (h .good .2) e in
-    let all : (q f : ℕ) → f < 16 → (q ≡ n → f ≡ parentWord → ⊥) → (q ≡ n → f ≡ stepWord → ⊥) → (q ≡ n → f ≡ nameWord → ⊥) → (q ≡ p → f ≡ firstWord → ⊥) → (q ≡ p → f ≡ lastWord → ⊥) → (withinIn q ks ≡ true → q ≡ lastFrom 0 ks → f ≡ nextWord → ⊥) → word t₄ q f ≡ word t q f
+    let all : (q f : ℕ) → f < placeWords → (q ≡ n → f ≡ parentWord → ⊥) → (q ≡ n → f ≡ stepWord → ⊥) → (q ≡ n → f ≡ nameWord → ⊥) → (q ≡ p → f ≡ firstWord → ⊥) → (q ≡ p → f ≡ lastWord → ⊥) → (withinIn q ks ≡ true → q ≡ lastFrom 0 ks → f ≡ nextWord → ⊥) → word t₄ q f ≡ word t q f
     = λ q f l a₆ a₇ a₈ a₃ a₄ a₅.
-    word-other t₃ n nameWord nm q f (λ e. let d : q ≡ n = omega arith in a₈ d (omega arith))
-    ∙ word-other t₂ n stepWord c q f (λ e. let d : q ≡ n = omega arith in a₇ d (omega arith))
-    ∙ word-other t₁ n parentWord p q f (λ e. let d : q ≡ n = omega arith in a₆ d (omega arith))
-    ∙ word-other t₀ p lastWord n q f (λ e. let d : q ≡ p = omega arith in a₄ d (omega arith))
+    word-other t₃ n nameWord nm q f a₈
+    ∙ word-other t₂ n stepWord c q f a₇
+    ∙ word-other t₁ n parentWord p q f a₆
+    ∙ word-other t₀ p lastWord n q f a₄
     ∙ k₀ .rest q f l a₃ a₅ in
-    let zeros₀ : (f : ℕ) → f < 16 → word t₁ n f ≡ 0
-    = λ f j. word-other t₀ p lastWord n n f (λ e. omega arith) ∙ k₀ .rest n f j (λ d _. omega arith) (λ e d _. let y = last-below n e in omega arith) ∙ h .zeros n f (omega arith) i j in
+    let zeros₀ : (f : ℕ) → f < placeWords → word t₁ n f ≡ 0
+    = λ f j. word-other t₀ p lastWord n n f (λ e _. omega arith) ∙ k₀ .rest n f j (λ d _. omega arith) (λ e d _. let y = last-below n e in omega arith) ∙ h .zeros n f (omega arith) i j in
     let cellRow : Row t₄ n nextWord (cellWords 0 p c nm 0 0)
-    = row-set t₃ n 8 3 nm (cellWords 0 p c 0 0 0) (omega arith) (omega arith) (row-set t₂ n 8 2 c (cellWords 0 p 0 0 0 0) (omega arith) (omega arith) (row-set t₁ n 8 1 p (cellWords 0 0 0 0 0 0) (omega arith) (omega arith) (zero-row t₁ n 8 6 (omega arith) zeros₀))) in
+    = row-set t₃ n 8 3 nm (cellWords 0 p c 0 0 0) (omega arith) i (omega arith) (omega arith) (row-set t₂ n 8 2 c (cellWords 0 p 0 0 0 0) (omega arith) i (omega arith) (omega arith) (row-set t₁ n 8 1 p (cellWords 0 0 0 0 0 0) (omega arith) i (omega arith) (omega arith) (zero-row t₁ n 8 6 (omega arith) zeros₀))) in
     let cell : Cell text t₄ n 0 p s 0 0
     = record {
       name = nm;
@@ -274,18 +273,18 @@ append-grown text t n p x s b k m ks st far h i =
       inside = subst (λ (y : Name). Inside text y) (sym (unpacked (nameOf x) (st .short))) (st .inside);
       says = ap (bytesOf text) (unpacked (nameOf x) (st .short)) ∙ st .bytes;
     } in
-    let fresh : (f : ℕ) → f < 16 → (f ≡ parentWord → ⊥) → (f ≡ stepWord → ⊥) → (f ≡ nameWord → ⊥) → word t₄ n f ≡ 0
-    = λ f j a₆ a₇ a₈. word-other t₃ n nameWord nm n f (λ e. a₈ (omega arith)) ∙ word-other t₂ n stepWord c n f (λ e. a₇ (omega arith)) ∙ word-other t₁ n parentWord p n f (λ e. a₆ (omega arith)) ∙ zeros₀ f j in
+    let fresh : (f : ℕ) → f < placeWords → (f ≡ parentWord → ⊥) → (f ≡ stepWord → ⊥) → (f ≡ nameWord → ⊥) → word t₄ n f ≡ 0
+    = λ f j a₆ a₇ a₈. word-other t₃ n nameWord nm n f (λ _. a₈) ∙ word-other t₂ n stepWord c n f (λ _. a₇) ∙ word-other t₁ n parentWord p n f (λ _. a₆) ∙ zeros₀ f j in
     let own : Row t₄ n kindWord (ownWords false 0 0 no-spots)
-    = row-other t₃ n 0 n 11 nm (ownWords false 0 0 no-spots) (λ g l e. omega arith) (row-other t₂ n 0 n 10 c (ownWords false 0 0 no-spots) (λ g l e. omega arith) (row-other t₁ n 0 n 9 p (ownWords false 0 0 no-spots) (λ g l e. omega arith) (zero-row t₁ n 0 5 (omega arith) zeros₀))) in
+    = row-other t₃ n 0 n 11 nm (ownWords false 0 0 no-spots) (λ g l d e. omega arith) (row-other t₂ n 0 n 10 c (ownWords false 0 0 no-spots) (λ g l d e. omega arith) (row-other t₁ n 0 n 9 p (ownWords false 0 0 no-spots) (λ g l d e. omega arith) (zero-row t₁ n 0 5 (omega arith) zeros₀))) in
     let parent : Row t₄ p kindWord (ownWords b k m (addS s n ks))
-    = subst (λ (x : ℕ). Row t₄ p kindWord (k ∷ one b ∷ m ∷ firstOf (addS s n ks) ∷ x ∷ [])) (sym (last-add 0 s n ks)) (row-other t₃ p 0 n 11 nm (k ∷ one b ∷ m ∷ firstOf (addS s n ks) ∷ n ∷ []) (λ g l e. omega arith) (row-other t₂ p 0 n 10 c (k ∷ one b ∷ m ∷ firstOf (addS s n ks) ∷ n ∷ []) (λ g l e. omega arith) (row-other t₁ p 0 n 9 p (k ∷ one b ∷ m ∷ firstOf (addS s n ks) ∷ n ∷ []) (λ g l e. omega arith) (row-set t₀ p 0 4 n (k ∷ one b ∷ m ∷ firstOf (addS s n ks) ∷ lastFrom 0 ks ∷ []) (omega arith) (omega arith) (k₀ .row))))) in
+    = subst (λ (x : ℕ). Row t₄ p kindWord (k ∷ one b ∷ m ∷ firstOf (addS s n ks) ∷ x ∷ [])) (sym (last-add 0 s n ks)) (row-other t₃ p 0 n 11 nm (k ∷ one b ∷ m ∷ firstOf (addS s n ks) ∷ n ∷ []) (λ g l d e. omega arith) (row-other t₂ p 0 n 10 c (k ∷ one b ∷ m ∷ firstOf (addS s n ks) ∷ n ∷ []) (λ g l d e. omega arith) (row-other t₁ p 0 n 9 p (k ∷ one b ∷ m ∷ firstOf (addS s n ks) ∷ n ∷ []) (λ g l d e. omega arith) (row-set t₀ p 0 4 n (k ∷ one b ∷ m ∷ firstOf (addS s n ks) ∷ lastFrom 0 ks ∷ []) (omega arith) (omega arith) (omega arith) (omega arith) (k₀ .row))))) in
     record {
       rep = (
         parent,
         add-rep text t t₄ n p s cell (own, tt, no-block (word t₄ n blockWord) no-spots (fresh blockWord (omega arith) (λ e. omega arith) (λ e. omega arith) (λ e. omega arith))) 0 p ks (h .good .2) (h .rep .1)
             (λ e. let y = last-of 0 ks e in let y′ = last-below (lastFrom 0 ks) y in
-            word-other t₃ n nameWord nm (lastFrom 0 ks) nextWord (λ a. omega arith) ∙ word-other t₂ n stepWord c (lastFrom 0 ks) nextWord (λ a. omega arith) ∙ word-other t₁ n parentWord p (lastFrom 0 ks) nextWord (λ a. omega arith) ∙ word-other t₀ p lastWord n (lastFrom 0 ks) nextWord (λ a. omega arith) ∙ k₀ .link e)
+            word-other t₃ n nameWord nm (lastFrom 0 ks) nextWord (λ a _. omega arith) ∙ word-other t₂ n stepWord c (lastFrom 0 ks) nextWord (λ a _. omega arith) ∙ word-other t₁ n parentWord p (lastFrom 0 ks) nextWord (λ a _. omega arith) ∙ word-other t₀ p lastWord n (lastFrom 0 ks) nextWord (λ _ a. omega arith) ∙ k₀ .link e)
             (λ q f l e d. let y = last-below q e in
             all q f l (λ a _. omega arith) (λ a _. omega arith) (λ a _. omega arith) (λ a _. not-both (withinIn q ks) e (rw a (h .good .1))) (λ a _. not-both (withinIn q ks) e (rw a (h .good .1))) (λ _ a c. d a c)),
         same-block t t₄ p (addS s n ks) (all p blockWord (omega arith) (λ a _. omega arith) (λ a _. omega arith) (λ a _. omega arith) (λ _ a. omega arith) (λ _ a. omega arith) (λ _ _ a. omega arith)) (block-add (word t p blockWord) s n ks (h .rep .2)),

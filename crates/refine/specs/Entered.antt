@@ -9,10 +9,9 @@ use lib.Dec.{eqb, ltb}
 use borrow.Author.Tests.{eqb-true, eqb-false, eq-eqb, lt-ltb, ltb-true, ltb-false}
 use Rattle.logic.specs.Test.{if_then_else_, cases}
 use Rattle.text.specs.Name.{bytesOf, tagOf}
-use Rattle.words.specs.Word.{word, withWord}
-use Rattle.words.specs.Laws.{word-same, word-other}
+use Rattle.words.specs.Word.{placeWords, IsTable, word, withWord}
+use Rattle.words.specs.laws.Word.{word-same, word-other, length-with}
 use Rattle.model.specs.Kinds.{Step, same}
-use Rattle.model.specs.Answer.{tableWords}
 use Rattle.model.specs.Tracing.{placeLimit, has}
 use Rattle.equality.specs.Base.{same-true, or-cases}
 use Rattle.shapes.specs.declared.Step as Flat
@@ -25,7 +24,7 @@ use Rattle.refine.specs.Spots.{spot, Spots, no-spots, child, num, stepsS
 use Rattle.refine.specs.Steps.{near, near-codes, near-number, stepCodeOf, Stands}
 use Rattle.refine.specs.Numbers.{lastFrom, within, withinIn, nearIn, GoodIn, or-left, or-right, not-both, boundedIn, self, child-good, has-add-old, add-found}
 use Rattle.refine.specs.Numbered.{numIn, Links, at-root, at-left, at-right, Apart, Index, same-follow, null-follow, in-tree, end-known, end-link, end-child, seek-other, seek-same, index-none, indexes-frame-in, add-nums, indexes-add}
-use Rattle.refine.specs.Rep.{size-with, Block, RepIn, same-block, frameIn, Fits, After}
+use Rattle.refine.specs.Rep.{Block, RepIn, same-block, frameIn, Fits, After}
 use Rattle.refine.specs.Child.{far-has, Sought, absent, picked, still-at, Grown, append-grown}
 
 -- ---- links
@@ -132,7 +131,7 @@ module _ (text t : List ℕ) (n p : ℕ) (b : Bool) (k m : ℕ) (ks : Spots) (h 
   -- the words that the search tree reads are as they were
   kept : (q f : ℕ) → Links p ks q f → word t₄ q f ≡ word t q f
   kept q f l =
-      grown .words q f (links-below n p ks (h .good .0) (h .good .2) q f l) (links-word (λ f. f < 16) (omega arith) (omega arith) (omega arith) p ks q f l)
+      grown .words q f (links-below n p ks (h .good .0) (h .good .2) q f l) (links-word (λ f. f < placeWords) (omega arith) (omega arith) (omega arith) p ks q f l)
       (λ _. links-word (λ f. 5 ≤ f) (omega arith) (omega arith) (omega arith) p ks q f l)
       (λ _ _. links-word (λ f. f ≡ nextWord → ⊥) (λ e. omega arith) (λ e. omega arith) (λ e. omega arith) p ks q f l)
 
@@ -144,11 +143,11 @@ module _ (text t : List ℕ) (n p : ℕ) (b : Bool) (k m : ℕ) (ks : Spots) (h 
 
   -- a store to a link or to the count of the block completes it
   pub settle : (t₅ : List ℕ) → length t₅ ≡ length t₄
-      → ((q f : ℕ) → f < 16 → (q ≡ p → f ≡ rootWord → ⊥) → (q ≡ p → f ≡ blockWord → ⊥) → (numIn q ks ≡ true → f ≡ leftWord → ⊥) → (numIn q ks ≡ true → f ≡ rightWord → ⊥) → word t₅ q f ≡ word t₄ q f)
+      → ((q f : ℕ) → f < placeWords → (q ≡ p → f ≡ rootWord → ⊥) → (q ≡ p → f ≡ blockWord → ⊥) → (numIn q ks ≡ true → f ≡ leftWord → ⊥) → (numIn q ks ≡ true → f ≡ rightWord → ⊥) → word t₅ q f ≡ word t₄ q f)
       → Block (word t₅ p blockWord) (addS s n ks) → Index t₅ p (addS s n ks) → After text t n (spot p b k m ks) t₅ (n + 1) (spot p b k m (addS s n ks))
   settle t₅ size w block index =
       let pn : p < n = h .good .0 in
-      let big : tableWords ≤ length t = h .room in
+      let big : IsTable t = h .room in
       let z : length t₄ ≡ length t = grown .size in
       record {
         fits = record {
@@ -183,11 +182,11 @@ module _ (text t : List ℕ) (n p : ℕ) (b : Bool) (k m : ℕ) (ks : Spots) (h 
       }
 
   -- a child that is not entered: it has no number, or stands in the block
-  pub index-beside : (t₅ : List ℕ) → ((q f : ℕ) → f < 16 → (q ≡ p → f ≡ blockWord → ⊥) → word t₅ q f ≡ word t₄ q f)
+  pub index-beside : (t₅ : List ℕ) → ((q f : ℕ) → f < placeWords → (q ≡ p → f ≡ blockWord → ⊥) → word t₅ q f ≡ word t₄ q f)
       → ((code : ℕ) → Apart (word t₅ p blockWord) code → Apart (word t p blockWord) code) → (Apart (word t₅ p blockWord) (stepCodeOf s) → ⊥) → Index t₅ p (addS s n ks)
   index-beside t₅ w apart none =
       let follows : (q f : ℕ) → Links p ks q f → follow q f placeLimit t₅ ≡ follow q f placeLimit t
-      = λ q f l. same-follow t t₅ q f placeLimit (w q f (links-word (λ f. f < 16) (omega arith) (omega arith) (omega arith) p ks q f l) (λ _. links-word (λ f. f ≡ blockWord → ⊥) (λ e. omega arith) (λ e. omega arith) (λ e. omega arith) p ks q f l) ∙ kept q f l) in
+      = λ q f l. same-follow t t₅ q f placeLimit (w q f (links-word (λ f. f < placeWords) (omega arith) (omega arith) (omega arith) p ks q f l) (λ _. links-word (λ f. f ≡ blockWord → ⊥) (λ e. omega arith) (λ e. omega arith) (λ e. omega arith) p ks q f l) ∙ kept q f l) in
       index-add t t₅ p s n ks (h .index .0) (λ q f l _. follows q f l) (λ q e. w q stepWord (omega arith) (λ _ d. omega arith) ∙ kept-step q e)
       (λ q f l z. let e = follows q f l in
       add-nums (follow q f placeLimit t₅) s n ks ∙ or-left (numIn (follow q f placeLimit t₅) ks) _ (rw e (h .index .0 .leads q f l (rw e at z))))
@@ -212,8 +211,8 @@ module _ (text t : List ℕ) (n p : ℕ) (b : Bool) (k m : ℕ) (ks : Spots) (h 
     place-below : end .place < n
     place-below = links-below n p ks (h .good .0) (h .good .2) (end .place) (end .field) end-at
 
-    field-small : end .field < 16
-    field-small = links-word (λ f. f < 16) (omega arith) (omega arith) (omega arith) p ks (end .place) (end .field) end-at
+    field-small : end .field < placeWords
+    field-small = links-word (λ f. f < placeWords) (omega arith) (omega arith) (omega arith) p ks (end .place) (end .field) end-at
 
     follow-kept : (q f : ℕ) → Links p ks q f → follow q f placeLimit t₄ ≡ follow q f placeLimit t
     follow-kept q f l = same-follow t t₄ q f placeLimit (kept q f l)
@@ -235,30 +234,30 @@ module _ (text t : List ℕ) (n p : ℕ) (b : Bool) (k m : ℕ) (ks : Spots) (h 
     unfolding entered if_then_else_
     entered-is = rw (lt-ltb fieldCode (stepCodeOf s) numbered, same-end) refl
 
-    elsewhere : (q f : ℕ) → f < 16 → (q ≡ end .place → f ≡ end .field → ⊥) → word t₅ q f ≡ word t₄ q f
-    elsewhere q f l d = word-other t₄ (end .place) (end .field) n q f (λ e. let i : end .field < 16 = field-small in let y : q ≡ end .place = omega arith in d y (omega arith))
+    elsewhere : (q f : ℕ) → f < placeWords → (q ≡ end .place → f ≡ end .field → ⊥) → word t₅ q f ≡ word t₄ q f
+    elsewhere q f l d = word-other t₄ (end .place) (end .field) n q f d
 
     -- no word that is no link
-    beside : (q f : ℕ) → f < 16 → ((w : ℕ) → Links p ks q w → f ≡ w → ⊥) → word t₅ q f ≡ word t₄ q f
+    beside : (q f : ℕ) → f < placeWords → ((w : ℕ) → Links p ks q w → f ≡ w → ⊥) → word t₅ q f ≡ word t₄ q f
     beside q f l d = elsewhere q f l (λ y e. d (end .field) (subst (λ (x : ℕ). Links p ks x (end .field)) (sym y) end-at) e)
 
     leads-new : follow (end .place) (end .field) placeLimit t₅ ≡ n
     leads-new =
         let i : end .place < n = place-below in
-        let j : end .field < 16 = field-small in
+        let j : end .field < placeWords = field-small in
         let z : length t₄ ≡ length t = grown .size in
-        let big : tableWords ≤ length t = h .room in
-        full-follow t₅ (end .place) (end .field) placeLimit n (word-same t₄ (end .place) (end .field) n (omega arith)) i room
+        let big : IsTable t = h .room in
+        full-follow t₅ (end .place) (end .field) placeLimit n (word-same t₄ (end .place) (end .field) n (omega arith) (omega arith) j) i room
 
     nexts : (q f : ℕ) → Links p ks q f → (follow q f placeLimit t ≡ 0 → ⊥) → follow q f placeLimit t₅ ≡ follow q f placeLimit t
     nexts q f l z =
-        same-follow t₄ t₅ q f placeLimit (elsewhere q f (links-word (λ f. f < 16) (omega arith) (omega arith) (omega arith) p ks q f l) (λ y e. z (rw (y, e) null)))
+        same-follow t₄ t₅ q f placeLimit (elsewhere q f (links-word (λ f. f < placeWords) (omega arith) (omega arith) (omega arith) p ks q f l) (λ y e. z (rw (y, e) null)))
         ∙ follow-kept q f l
 
     steps : (q : ℕ) → numIn q ks ≡ true → word t₅ q stepWord ≡ word t q stepWord
     steps q e = beside q stepWord (omega arith) (λ w l. links-word (λ w. stepWord ≡ w → ⊥) (λ d. omega arith) (λ d. omega arith) (λ d. omega arith) p ks q w l) ∙ kept-step q e
 
-    of-new : (f : ℕ) → f < 16 → word t₅ n f ≡ word t₄ n f
+    of-new : (f : ℕ) → f < placeWords → word t₅ n f ≡ word t₄ n f
     of-new f l = elsewhere n f l (λ y _. let i : end .place < n = place-below in omega arith)
 
     new-found : seek p (stepCodeOf s) placeLimit t₅ .child ≡ n
@@ -275,7 +274,7 @@ module _ (text t : List ℕ) (n p : ℕ) (b : Bool) (k m : ℕ) (ks : Spots) (h 
         (λ q f l z. cases (eqb (follow q f placeLimit t₅) n)
         (λ e. add-nums (follow q f placeLimit t₅) s n ks ∙ or-right (numIn (follow q f placeLimit t₅) ks) _ e)
         (λ e. let d : follow q f placeLimit t₅ ≡ follow q f placeLimit t
-        = same-follow t₄ t₅ q f placeLimit (elsewhere q f (links-word (λ f. f < 16) (omega arith) (omega arith) (omega arith) p ks q f l) (λ x y. eqb-false (follow q f placeLimit t₅) n e (rw (x, y) leads-new))) ∙ follow-kept q f l in
+        = same-follow t₄ t₅ q f placeLimit (elsewhere q f (links-word (λ f. f < placeWords) (omega arith) (omega arith) (omega arith) p ks q f l) (λ x y. eqb-false (follow q f placeLimit t₅) n e (rw (x, y) leads-new))) ∙ follow-kept q f l in
         add-nums (follow q f placeLimit t₅) s n ks ∙ or-left (numIn (follow q f placeLimit t₅) ks) _ (rw d (h .index .0 .leads q f l (rw d at z)))))
         (null-follow t₅ n leftWord placeLimit (of-new leftWord (omega arith) ∙ grown .left))
         (null-follow t₅ n rightWord placeLimit (of-new rightWord (omega arith) ∙ grown .right))
@@ -284,7 +283,7 @@ module _ (text t : List ℕ) (n p : ℕ) (b : Bool) (k m : ℕ) (ks : Spots) (h 
     pub enter-after : After text t n (spot p b k m ks) (entered p (stepCodeOf s) n t₄) (n + 1) (spot p b k m (addS s n ks))
     enter-after =
         rw entered-is
-        (settle t₅ (size-with t₄ (end .place) (end .field) n)
+        (settle t₅ (length-with t₄ (end .place) (end .field) n)
         (λ q f l a₅ a₆ a₇ a₁₄. beside q f l (λ w i e. links-apart q f w a₅ a₇ a₁₄ i e))
         (subst (λ (v : ℕ). Block v (addS s n ks)) (kept-block ∙ sym block-same) (grown .rep .2))
         index-entered)
@@ -302,13 +301,13 @@ module _ (text t : List ℕ) (n p : ℕ) (b : Bool) (k m : ℕ) (ks : Spots) (h 
   pub block-after : (i : ℕ) → stepCodeOf s ≡ 4 + 2 * i → word t p blockWord ≡ i → Block (suc i) (addS s n ks) → After text t n (spot p b k m ks) (withWord t₄ p blockWord (suc i)) (n + 1) (spot p b k m (addS s n ks))
   block-after i e d β =
       let t₅ : List ℕ = withWord t₄ p blockWord (suc i) in
-      let v : word t₅ p blockWord ≡ suc i = word-same t₄ p blockWord (suc i) (omega (arith, grown .size, h .room, h .most, h .good .0)) in
-      settle t₅ (size-with t₄ p blockWord (suc i)) (λ q f l _ a _ _. other q f l a) (subst (λ (y : ℕ). Block y (addS s n ks)) (sym v) β)
+      let v : word t₅ p blockWord ≡ suc i = word-same t₄ p blockWord (suc i) (omega (arith, grown .size, h .room)) (omega (arith, h .most, h .good .0)) (omega arith) in
+      settle t₅ (length-with t₄ p blockWord (suc i)) (λ q f l _ a _ _. other q f l a) (subst (λ (y : ℕ). Block y (addS s n ks)) (sym v) β)
       (index-beside t₅ (λ q f l a. other q f l a) (λ code a. let a′ : Apart (suc i) code = rw v at a in (a′ .0, λ z. rw d (let y = a′ .1 z in omega arith)))
       (λ a. let a′ : Apart (suc i) (stepCodeOf s) = rw v at a in let y = a′ .1 (rw e (omega arith)) in omega arith))
     where
-      other : (q f : ℕ) → f < 16 → (q ≡ p → f ≡ blockWord → ⊥) → word (withWord t₄ p blockWord (suc i)) q f ≡ word t₄ q f
-      other q f l a = word-other t₄ p blockWord (suc i) q f (λ e. let y : q ≡ p = omega arith in a y (omega arith))
+      other : (q f : ℕ) → f < placeWords → (q ≡ p → f ≡ blockWord → ⊥) → word (withWord t₄ p blockWord (suc i)) q f ≡ word t₄ q f
+      other q f l a = word-other t₄ p blockWord (suc i) q f a
 
 -- ---- the search for a numbered child
 -- with the places that there are it finds what it finds with all
@@ -338,7 +337,7 @@ numbered-sought text t x s st n p b k m ks h a =
 -- the tag is none of the words that say the tree
 grown-tag : (text t : List ℕ) (n p : ℕ) (b : Bool) (k m : ℕ) (ks : Spots) (s : Step) (t′ : List ℕ) → Grown text t n p b k m ks s t′ → (v : ℕ) → Grown text t n p b k m ks s (withWord t′ n tagWord v)
 grown-tag text t n p b k m ks s t′ g v =
-    let w : (q f : ℕ) → f < tagWord → word (withWord t′ n tagWord v) q f ≡ word t′ q f = λ q f l. word-other t′ n tagWord v q f (λ e. omega arith) in
+    let w : (q f : ℕ) → f < tagWord → word (withWord t′ n tagWord v) q f ≡ word t′ q f = λ q f l. word-other t′ n tagWord v q f (λ _ e. omega arith) in
     record {
       rep = (
         (λ f l. w p (0 + f) (omega arith) ∙ g .rep .0 f l),
@@ -346,13 +345,13 @@ grown-tag text t n p b k m ks s t′ g v =
         same-block t′ (withWord t′ n tagWord v) p (addS s n ks) (w p blockWord (omega arith)) (g .rep .2),
       );
       good = g .good;
-      size = size-with t′ n tagWord v ∙ g .size;
-      words = λ q f l i d e. word-other t′ n tagWord v q f (λ x. omega arith) ∙ g .words q f l i d e;
+      size = length-with t′ n tagWord v ∙ g .size;
+      words = λ q f l i d e. word-other t′ n tagWord v q f (λ x _. omega arith) ∙ g .words q f l i d e;
       root = w n rootWord (omega arith) ∙ g .root;
       left = w n leftWord (omega arith) ∙ g .left;
       right = w n rightWord (omega arith) ∙ g .right;
       step = w n stepWord (omega arith) ∙ g .step;
-      zeros = λ q f l y i. word-other t′ n tagWord v q f (λ x. omega arith) ∙ g .zeros q f l y i;
+      zeros = λ q f l y i. word-other t′ n tagWord v q f (λ x _. omega arith) ∙ g .zeros q f l y i;
     }
 
 pub make-after : (text t : List ℕ) (n p : ℕ) (x : Flat.Step) (s : Step) (b : Bool) (k m : ℕ) (ks : Spots) → Stands text x s → nearIn s ks ≡ false → Fits text t n (spot p b k m ks) → n < placeLimit

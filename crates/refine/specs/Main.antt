@@ -4,15 +4,13 @@ use mathlib.Core.List.{List}
 use mathlib.Core.Bool.{Bool, true, false}
 use Prim.Native.Nat.{ℕ, zero, suc, _+_, _*_, _≤_}
 use native.Mathlib.Omega.{arith}
-use lib.ListN.{length}
 use lib.Dec.{eqb}
 use borrow.Author.Tests.{ne-eqb}
-use Rattle.words.specs.Word.{word, cleared}
+use Rattle.words.specs.Word.{word, zeros}
 use Rattle.text.specs.Name.{bytesOf}
 use Rattle.model.specs.Result.{Result}
 use Rattle.model.specs.Kinds.{Step}
 use Rattle.model.specs.Reading.{values}
-use Rattle.model.specs.Answer.{tableWords}
 use Rattle.model.specs.Tracing.{one, placeLimit, Counted}
 use Rattle.shapes.specs.Steps.{unpackedName}
 use Rattle.samples.specs.Samples.{fromSamples}
@@ -69,7 +67,6 @@ unfolding outcome
 same-outcome {text = text} (ends {n = n} {t = t} {u = u} z h) = rw (tree-of n text t u (h .most) z (h .good) (h .rep)) refl
 same-outcome turned-down = refl
 
--- The flat run over a cleared table gives the outcome of the walk over the values of the batch.
-pub flat-outcome : (options : ℕ) (commands text t : List ℕ) → Bytes commands → tableWords ≤ length t
-    → outcome text (fromSamples commands text options (cleared t tableWords)) ≡ erased (walkAll options (values options commands text) 1 (newSpot 0))
-flat-outcome options commands text t bytes long = same-outcome (flat-is-walk options commands text t bytes long)
+-- The flat run over a table of zeros gives the outcome of the walk over the values of the batch.
+pub flat-outcome : (options : ℕ) (commands text : List ℕ) → Bytes commands → outcome text (fromSamples commands text options zeros) ≡ erased (walkAll options (values options commands text) 1 (newSpot 0))
+flat-outcome options commands text bytes = same-outcome (flat-is-walk options commands text bytes)

@@ -7,7 +7,7 @@ use native.Mathlib.Omega.{arith}
 use lib.Dec.{eqb}
 use borrow.Author.Tests.{eqb-true, le-ltb}
 use Rattle.logic.specs.Test.{if_then_else_, cases}
-use Rattle.words.specs.Word.{word}
+use Rattle.words.specs.Word.{placeWords, word}
 use Rattle.model.specs.Kinds.{Step, same}
 use Rattle.model.specs.Tracing.{placeLimit, has}
 use Rattle.equality.specs.Base.{or-cases}
@@ -162,7 +162,7 @@ index-none t p h e = record {
     none q f (at-right _ d) = absurd (false≢true d)
 
 -- ---- in a tree
-pub kept-all : (t t′ : List ℕ) (p : ℕ) (ks : Spots) → ((f : ℕ) → 5 ≤ f → f < 7 → word t′ p f ≡ word t p f) → ((q f : ℕ) → f < 16 → withinIn q ks ≡ true → word t′ q f ≡ word t q f) → Kept t t′ p ks
+pub kept-all : (t t′ : List ℕ) (p : ℕ) (ks : Spots) → ((f : ℕ) → 5 ≤ f → f < 7 → word t′ p f ≡ word t p f) → ((q f : ℕ) → f < placeWords → withinIn q ks ≡ true → word t′ q f ≡ word t q f) → Kept t t′ p ks
 kept-all t t′ p ks o w = record {
   root = o rootWord (omega arith) (omega arith);
   block = o blockWord (omega arith) (omega arith);
@@ -173,11 +173,11 @@ kept-all t t′ p ks o w = record {
 
 mutual
   pub indexes-frame : (n : ℕ) (t t′ : List ℕ) (u : Spot) → Good n u → ((f : ℕ) → f < 7 → word t′ (num u) f ≡ word t (num u) f)
-      → ((q f : ℕ) → f < 16 → withinIn q (belowS u) ≡ true → word t′ q f ≡ word t q f) → Indexes t u → Indexes t′ u
+      → ((q f : ℕ) → f < placeWords → withinIn q (belowS u) ≡ true → word t′ q f ≡ word t q f) → Indexes t u → Indexes t′ u
   indexes-frame n t t′ (spot p b k m ks) g o w x = (index-kept t t′ p ks ks (kept-all t t′ p ks (λ f _ l. o f l) w) (alike ks) (x .0), indexes-frame-in n p t t′ ks (g .2) (λ q f l a _. w q f l a) (x .1))
 
   -- the children's own links are their parent's, and may change
-  pub indexes-frame-in : (n c : ℕ) (t t′ : List ℕ) (ks : Spots) → GoodIn n c ks → ((q f : ℕ) → f < 16 → withinIn q ks ≡ true → (numIn q ks ≡ true → f < 7) → word t′ q f ≡ word t q f) → IndexesIn t ks → IndexesIn t′ ks
+  pub indexes-frame-in : (n c : ℕ) (t t′ : List ℕ) (ks : Spots) → GoodIn n c ks → ((q f : ℕ) → f < placeWords → withinIn q ks ≡ true → (numIn q ks ≡ true → f < 7) → word t′ q f ≡ word t q f) → IndexesIn t ks → IndexesIn t′ ks
   indexes-frame-in n c t t′ no-spots g w x = tt
   indexes-frame-in n c t t′ (child s h m u ks) g w x = (
     indexes-frame n t t′ u (g .1)
@@ -226,19 +226,19 @@ module _ (s : Step) (N : ℕ) (v : Spot) where
       (λ d. let w′ : num v ≡ num (spotAt s ks) = rw d at w in rw (d, put-nums q ks w′) refl)
 
   pub indexes-put : (n c : ℕ) (t t′ : List ℕ) (ks : Spots) → GoodIn n c ks → has s (stepsS ks) ≡ true → Indexes t′ v
-      → ((q f : ℕ) → f < 16 → withinIn q ks ≡ true → within q (spotAt s ks) ≡ false → word t′ q f ≡ word t q f) → IndexesIn t ks → IndexesIn t′ (putS s N v ks)
+      → ((q f : ℕ) → f < placeWords → withinIn q ks ≡ true → within q (spotAt s ks) ≡ false → word t′ q f ≡ word t q f) → IndexesIn t ks → IndexesIn t′ (putS s N v ks)
   unfolding has stepsS spotAt putS if_then_else_
   indexes-put n c t t′ no-spots g e y w x = tt
   indexes-put n c t t′ (child r h m u ks) g e y w x =
       cases (same s r)
       (λ d.
-      let w′ : (q f : ℕ) → f < 16 → within q u || withinIn q ks ≡ true → within q u ≡ false → word t′ q f ≡ word t q f = rw d at w in
+      let w′ : (q f : ℕ) → f < placeWords → within q u || withinIn q ks ≡ true → within q u ≡ false → word t′ q f ≡ word t q f = rw d at w in
       rw d (y, indexes-frame-in n (num u) t t′ ks (g .3) (λ q f l a _. w′ q f l (or-right (within q u) (withinIn q ks) a) (un-true (within q u) (λ b. not-both (withinIn q ks) a (g .2 q b)))) (x .1)))
       (λ d.
       let e′ : has s (stepsS ks) ≡ true = rw d at e in
-      let w′ : (q f : ℕ) → f < 16 → within q u || withinIn q ks ≡ true → within q (spotAt s ks) ≡ false → word t′ q f ≡ word t q f = rw d at w in
+      let w′ : (q f : ℕ) → f < placeWords → within q u || withinIn q ks ≡ true → within q (spotAt s ks) ≡ false → word t′ q f ≡ word t q f = rw d at w in
       let off : (q : ℕ) → within q u ≡ true → within q (spotAt s ks) ≡ false = λ q b. un-true (within q (spotAt s ks)) (λ i. not-both (withinIn q ks) (found q s ks e′ i) (g .2 q b)) in
-      let in-u : (q f : ℕ) → f < 16 → within q u ≡ true → word t′ q f ≡ word t q f = λ q f l b. w′ q f l (or-left (within q u) (withinIn q ks) b) (off q b) in
+      let in-u : (q f : ℕ) → f < placeWords → within q u ≡ true → word t′ q f ≡ word t q f = λ q f l b. w′ q f l (or-left (within q u) (withinIn q ks) b) (off q b) in
       rw d (
         indexes-frame n t t′ u (g .1) (λ f l. in-u (num u) f (omega arith) (self u)) (λ q f l a. in-u q f l (has-below q u a)) (x .0),
         indexes-put n (num u) t t′ ks (g .3) e′ y (λ q f l a b. w′ q f l (or-right (within q u) (withinIn q ks) a) b) (x .1),

@@ -10,8 +10,8 @@ use borrow.Author.Tests.{eqb-true, eqb-false, ne-eqb, lt-ltb, ltb-true, ltb-fals
 use Rattle.logic.specs.Test.{if_then_else_, cases, both}
 use Rattle.refusal.specs.declared.Refusal.{Refusal}
 use Rattle.refusal.specs.Number.{numberOf}
-use Rattle.words.specs.Word.{word, withWord}
-use Rattle.words.specs.Laws.{word-other}
+use Rattle.words.specs.Word.{placeWords, IsTable, IsRow, word, withWord}
+use Rattle.words.specs.laws.Word.{word-other, length-with}
 use Rattle.model.specs.Result.{Result, refused}
 use Rattle.model.specs.Kinds.{Step, position, same}
 use Rattle.model.specs.Tracing.{one, has, clashes, placeLimit, Counted, counted}
@@ -25,7 +25,7 @@ use Rattle.places.specs.Layout.{kindWord, samplesWord, firstWord, rootWord, blo
 use Rattle.refine.specs.Spots.{Spot, spot, Spots, no-spots, child, num, belowS, stepsS, spotAt, putS, addS, makeS}
 use Rattle.refine.specs.Steps.{stepCodeOf, Stands}
 use Rattle.refine.specs.Numbers.{firstOf, lastFrom, within, withinIn, Good, GoodIn, both-false, or-right, not-both, un-true, bounded, boundedIn, self, found, child-good, put-has, put-good, add-among, add-found, not-below, has-is, has-same, or-left, has-below}
-use Rattle.refine.specs.Rep.{size-with, cellWords, Row, Cell, Block, Rep, RepIn, same-cell, same-block, row-set, frame, frameIn, Fits, After, stays}
+use Rattle.refine.specs.Rep.{cellWords, Row, Cell, Block, Rep, RepIn, same-cell, same-block, row-set, frame, frameIn, Fits, After, stays}
 use Rattle.refine.specs.Numbered.{numIn, in-tree, index-kept, indexes-frame, indexes-at, child-apart, put-nums, indexes-put}
 use Rattle.refine.specs.Commands.{position-stands}
 use Rattle.refine.specs.Child.{far-has, far-clashes, Sought, absent, present, another, sought}
@@ -116,27 +116,27 @@ pub touched-is : (t : List ℕ) (p c N : ℕ) → word t p samplesWord ≡ N →
 unfolding touched touch
 touched-is t p c N e = rw e
 
-touch-row : (t : List ℕ) (c N x p r nm h m : ℕ) → c * 16 + 16 ≤ length t → Row t c nextWord (cellWords x p r nm h m) → Row (touch c N t) c nextWord (cellWords x p r nm (if eqb m N then h else onward h) N)
+touch-row : (t : List ℕ) (c N x p r nm h m : ℕ) → IsTable t → IsRow c → Row t c nextWord (cellWords x p r nm h m) → Row (touch c N t) c nextWord (cellWords x p r nm (if eqb m N then h else onward h) N)
 unfolding touch if_then_else_
-touch-row t c N x p r nm h m l w =
+touch-row t c N x p r nm h m l i w =
     let e₈ : word t c heldWord ≡ h = w 4 (omega arith) in
     let e₉ : word t c markWord ≡ m = w 5 (omega arith) in
     rw (e₉, e₈) (go (eqb m N) refl)
   where
     go : (d : Bool) → eqb m N ≡ d → Row (if d then t else withWord (withWord t c heldWord (onward h)) c markWord N) c nextWord (cellWords x p r nm (if d then h else onward h) N)
     go true e = subst (λ (y : ℕ). Row t c nextWord (cellWords x p r nm h y)) (eqb-true m N e) w
-    go false e = row-set (withWord t c heldWord (onward h)) c 8 5 N (cellWords x p r nm (onward h) m) (rw size-with (omega arith)) (omega arith) (row-set t c 8 4 (onward h) (cellWords x p r nm h m) (omega arith) (omega arith) w)
+    go false e = row-set (withWord t c heldWord (onward h)) c 8 5 N (cellWords x p r nm (onward h) m) (rw length-with l) i (omega arith) (omega arith) (row-set t c 8 4 (onward h) (cellWords x p r nm h m) l i (omega arith) (omega arith) w)
 
-touch-other : (t : List ℕ) (c N q f : ℕ) → f < 16 → (q ≡ c → (f ≡ heldWord → ⊥) × (f ≡ markWord → ⊥)) → word (touch c N t) q f ≡ word t q f
+touch-other : (t : List ℕ) (c N q f : ℕ) → f < placeWords → (q ≡ c → (f ≡ heldWord → ⊥) × (f ≡ markWord → ⊥)) → word (touch c N t) q f ≡ word t q f
 unfolding touch if_then_else_
 touch-other t c N q f l d =
     cases (eqb (word t c markWord) N)
     (λ e. rw e refl)
-    (λ e. rw e (word-other (withWord t c heldWord (onward (word t c heldWord))) c markWord N q f (λ a. let y : q ≡ c = omega arith in d y .1 (omega arith)) ∙ word-other t c heldWord (onward (word t c heldWord)) q f (λ a. let y : q ≡ c = omega arith in d y .0 (omega arith))))
+    (λ e. rw e (word-other (withWord t c heldWord (onward (word t c heldWord))) c markWord N q f (λ y. d y .1) ∙ word-other t c heldWord (onward (word t c heldWord)) q f (λ y. d y .0)))
 
 touch-size : (t : List ℕ) (c N : ℕ) → length (touch c N t) ≡ length t
 unfolding touch if_then_else_
-touch-size t c N = cases (eqb (word t c markWord) N) (λ e. rw e refl) (λ e. rw (e, size-with, size-with) refl)
+touch-size t c N = cases (eqb (word t c markWord) N) (λ e. rw e refl) (λ e. rw (e, length-with, length-with) refl)
 
 child-rep : (text t : List ℕ) (p : ℕ) (s : Step) (ks : Spots) → RepIn text t p ks → has s (stepsS ks) ≡ true → Rep text t (spotAt s ks)
 unfolding has stepsS spotAt if_then_else_
@@ -179,7 +179,7 @@ module _ (s : Step) (N : ℕ) (v : Spot) where
   module _ (text t t′ : List ℕ) (n p : ℕ) (rv : Rep text t′ v) where
     put-rep : (c : ℕ) (ks : Spots) → GoodIn n c ks → RepIn text t p ks → has s (stepsS ks) ≡ true → num v ≡ num (spotAt s ks)
         → ((x : ℕ) (r : Step) (h m : ℕ) → Cell text t (num (spotAt s ks)) x p r h m → Cell text t′ (num (spotAt s ks)) x p r (if eqb m N then h else onward h) N)
-        → ((q f : ℕ) → f < 16 → withinIn q ks ≡ true → within q (spotAt s ks) ≡ false → word t′ q f ≡ word t q f) → RepIn text t′ p (putS s N v ks)
+        → ((q f : ℕ) → f < placeWords → withinIn q ks ≡ true → within q (spotAt s ks) ≡ false → word t′ q f ≡ word t q f) → RepIn text t′ p (putS s N v ks)
     unfolding has stepsS spotAt putS if_then_else_
     put-rep c no-spots g r e w cell o = tt
     put-rep c (child q h m u ks) g r e w cell o =
@@ -187,7 +187,7 @@ module _ (s : Step) (N : ℕ) (v : Spot) where
         (λ d.
         let w′ : num v ≡ num u = rw d at w in
         let cell′ : (x : ℕ) (r : Step) (h m : ℕ) → Cell text t (num u) x p r h m → Cell text t′ (num u) x p r (if eqb m N then h else onward h) N = rw d at cell in
-        let o′ : (a f : ℕ) → f < 16 → within a u || withinIn a ks ≡ true → within a u ≡ false → word t′ a f ≡ word t a f = rw d at o in
+        let o′ : (a f : ℕ) → f < placeWords → within a u || withinIn a ks ≡ true → within a u ≡ false → word t′ a f ≡ word t a f = rw d at o in
         rw d (
           rw w′ (cell′ (firstOf ks) q h m (r .0)),
           rv,
@@ -197,9 +197,9 @@ module _ (s : Step) (N : ℕ) (v : Spot) where
         let e′ : has s (stepsS ks) ≡ true = rw d at e in
         let w′ : num v ≡ num (spotAt s ks) = rw d at w in
         let cell′ : (x : ℕ) (r : Step) (h m : ℕ) → Cell text t (num (spotAt s ks)) x p r h m → Cell text t′ (num (spotAt s ks)) x p r (if eqb m N then h else onward h) N = rw d at cell in
-        let o′ : (a f : ℕ) → f < 16 → within a u || withinIn a ks ≡ true → within a (spotAt s ks) ≡ false → word t′ a f ≡ word t a f = rw d at o in
+        let o′ : (a f : ℕ) → f < placeWords → within a u || withinIn a ks ≡ true → within a (spotAt s ks) ≡ false → word t′ a f ≡ word t a f = rw d at o in
         let off : (a : ℕ) → within a u ≡ true → within a (spotAt s ks) ≡ false = λ a j. un-true (within a (spotAt s ks)) (λ i. not-both (withinIn a ks) (found a s ks e′ i) (g .2 a j)) in
-        let in-u : (a f : ℕ) → f < 16 → within a u ≡ true → word t′ a f ≡ word t a f = λ a f l j. o′ a f l (or-left (within a u) (withinIn a ks) j) (off a j) in
+        let in-u : (a f : ℕ) → f < placeWords → within a u ≡ true → word t′ a f ≡ word t a f = λ a f l j. o′ a f l (or-left (within a u) (withinIn a ks) j) (off a j) in
         rw d (
           subst (λ (y : ℕ). Cell text t′ (num u) y p q h m) (sym (put-first ks e′ w′)) (same-cell (r .0) (λ f l. in-u (num u) f (l .0) (self u))),
           frame text t t′ u (r .1) (λ f l. in-u (num u) f (omega arith) (self u)) (λ a f l i. in-u a f (l .0) (has-below a u i)),
@@ -246,10 +246,10 @@ module _ (text t : List ℕ) (n p : ℕ) (s : Step) (b : Bool) (k m : ℕ) (ks :
       let same-has : (q : ℕ) → q < n → within q v ≡ within q u = λ q l. has-same q u v w (a .kept q l) in
       let off-below : (q : ℕ) → within q u ≡ false → withinIn q (belowS u) ≡ false = λ q d. (both-false (eqb q (num u)) (withinIn q (belowS u)) (sym (has-is q u) ∙ d)) .1 in
       let off-num : (q : ℕ) → within q u ≡ false → q ≡ num u → ⊥ = λ q d x. eqb-false q (num u) ((both-false (eqb q (num u)) (withinIn q (belowS u)) (sym (has-is q u) ∙ d)) .0) x in
-      let out : (q f : ℕ) → q < n → f < 16 → within q u ≡ false → word t′ q f ≡ word t q f
+      let out : (q f : ℕ) → q < n → f < placeWords → within q u ≡ false → word t′ q f ≡ word t q f
       = λ q f l i d. a .keeps q f l i (off-below q d) (λ x. absurd (off-num q d x)) ∙ touch-other t (num u) m q f i (λ x. absurd (off-num q d x)) in
       let p-out : within p u ≡ false = in-child p (h .good .1) in
-      let links : (q f : ℕ) → numIn q ks ≡ true → 7 ≤ f → f < 16 → (f ≡ heldWord → ⊥) × (f ≡ markWord → ⊥) → word t′ q f ≡ word t q f
+      let links : (q f : ℕ) → numIn q ks ≡ true → 7 ≤ f → f < placeWords → (f ≡ heldWord → ⊥) × (f ≡ markWord → ⊥) → word t′ q f ≡ word t q f
       = λ q f i l j d. a .keeps q f (boundedIn n p q ks (h .good .2) (in-tree q ks i)) j (child-apart n p q s ks (h .good .2) e i) (λ _. l) ∙ touch-other t (num u) m q f j (λ _. d) in
       record {
         fits = record {
@@ -258,7 +258,7 @@ module _ (text t : List ℕ) (n p : ℕ) (s : Step) (b : Bool) (k m : ℕ) (ks :
             put-rep s m v text t t′ n p (a .fits .rep) p ks (h .good .2) (h .rep .1) e w
                 (λ x r y z c. record {
                   name = c .name;
-                  row = λ f l. a .keeps (num u) (8 + f) cn (omega arith) (not-below n u gu) (λ _. omega arith) ∙ touch-row t (num u) m x p (stepCodeOf r) (c .name) y z (omega (arith, h .room, h .most)) (c .row) f l;
+                  row = λ f l. a .keeps (num u) (8 + f) cn (omega arith) (not-below n u gu) (λ _. omega arith) ∙ touch-row t (num u) m x p (stepCodeOf r) (c .name) y z (h .room) (omega (arith, h .most)) (c .row) f l;
                   inside = c .inside;
                   says = c .says;
                 })

@@ -3,8 +3,8 @@ use mathlib.Core.Path.{_≡_, _∙_}
 use mathlib.Core.List.{List}
 use Prim.Native.Nat.{ℕ, _≤_}
 use lib.ListN.{length}
-use Rattle.words.specs.Word.{cleared}
-use Rattle.model.specs.Answer.{tableWords, inputLimit}
+use Rattle.words.specs.Word.{zeros}
+use Rattle.model.specs.Answer.{inputLimit}
 use Rattle.model.specs.Reading.{values}
 use Rattle.model.specs.Tracing.{trace}
 use Rattle.samples.specs.Samples.{fromSamples}
@@ -13,6 +13,6 @@ use Rattle.refine.specs.Commands.{Bytes}
 use Rattle.refine.specs.Main.{flat-outcome}
 use Rattle.refine.specs.Erase.{walk-is-model}
 
-pub traced-is-model : (options : ℕ) (commands text t : List ℕ) → Bytes commands → length commands ≤ inputLimit → tableWords ≤ length t →
-    outcome text (fromSamples commands text options (cleared t tableWords)) ≡ trace options (values options commands text)
-traced-is-model options commands text t bytes short long = flat-outcome options commands text t bytes long ∙ walk-is-model options commands text short
+pub traced-is-model : (options : ℕ) (commands text : List ℕ) → Bytes commands → length commands ≤ inputLimit →
+    outcome text (fromSamples commands text options zeros) ≡ trace options (values options commands text)
+traced-is-model options commands text bytes short = flat-outcome options commands text bytes ∙ walk-is-model options commands text short

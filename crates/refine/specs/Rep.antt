@@ -2,7 +2,7 @@
 use mathlib.Core.Path.{_≡_, refl, sym, subst, _∙_}
 use mathlib.Core.List.{List, [], _∷_}
 use mathlib.Core.Bool.{Bool, true, false}
-use Prim.Native.Nat.{ℕ, _+_, _*_, _<_, _≤_}
+use Prim.Native.Nat.{ℕ, _+_, _<_, _≤_}
 use native.Mathlib.Omega.{arith}
 use lib.ListN.{length, getD, set, length-set}
 use lib.Seq.{getD-set-same, getD-set-other}
@@ -10,10 +10,9 @@ use lib.Dec.{eqb}
 use borrow.Author.Tests.{eqb-true, eqb-false}
 use Rattle.logic.specs.Test.{cases}
 use Rattle.text.specs.Name.{bytesOf}
-use Rattle.words.specs.Word.{word, withWord}
-use Rattle.words.specs.Laws.{word-same, word-other}
+use Rattle.words.specs.Word.{placeWords, IsTable, IsRow, word, withWord}
+use Rattle.words.specs.laws.Word.{word-same, word-other, length-with}
 use Rattle.model.specs.Kinds.{Step, position}
-use Rattle.model.specs.Answer.{tableWords}
 use Rattle.model.specs.Tracing.{one, placeLimit, has}
 use Rattle.shapes.specs.Steps.{Inside, unpackedName}
 use Rattle.places.specs.Layout.{kindWord, nullWord, samplesWord, blockWord, leftWord, nextWord, rightWord}
@@ -21,10 +20,6 @@ use Rattle.refine.specs.Spots.{Spot, spot, Spots, no-spots, child, num, 
 use Rattle.refine.specs.Steps.{stepCodeOf, nameIn}
 use Rattle.refine.specs.Numbers.{firstOf, lastFrom, within, withinIn, Good, or-left, or-right, not-both, has-num, has-below}
 use Rattle.refine.specs.Numbered.{Indexes, alike, index-kept, kept-all, indexes-frame-in}
-
--- ---- one word
-pub size-with : (t : List ℕ) (p f v : ℕ) → length (withWord t p f v) ≡ length t
-size-with t p f v = length-set t (p * 16 + f) v
 
 -- ---- the words of a place, and of its cell among its siblings
 abbrev pub ownWords : Bool → ℕ → ℕ → Spots → List ℕ
@@ -63,7 +58,7 @@ abbrev mutual
 
 -- the words that say the tree stand below the right link, and the left one is none of them
 abbrev pub Said : ℕ → Type 0
-Said f = (f < 16) × (f < rightWord) × (f ≡ leftWord → ⊥)
+Said f = (f < placeWords) × (f < rightWord) × (f ≡ leftWord → ⊥)
 
 -- a cell whose words are kept
 pub same-cell : {text t t′ : List ℕ} {q x p : ℕ} {s : Step} {h m : ℕ} → Cell text t q x p s h m → ((f : ℕ) → Said f → word t′ q f ≡ word t q f) → Cell text t′ q x p s h m
@@ -73,12 +68,12 @@ pub same-block : (t t′ : List ℕ) (p : ℕ) (ks : Spots) → word t′ p bloc
 same-block t t′ p ks e r = subst (λ (b : ℕ). Block b ks) (sym e) r
 
 -- one word of a row is written
-pub row-set : (t : List ℕ) (p base f v : ℕ) (xs : List ℕ) → p * 16 + (base + f) < length t → f < length xs → Row t p base xs → Row (withWord t p (base + f) v) p base (set xs f v)
-row-set t p base f v xs l i r g j =
+pub row-set : (t : List ℕ) (p base f v : ℕ) (xs : List ℕ) → IsTable t → IsRow p → base + f < placeWords → f < length xs → Row t p base xs → Row (withWord t p (base + f) v) p base (set xs f v)
+row-set t p base f v xs a b l i r g j =
     cases (eqb g f)
-    (λ e. let d : g ≡ f = eqb-true g f e in rw d (word-same t p (base + f) v l ∙ sym (getD-set-same xs f v 0 i)))
+    (λ e. let d : g ≡ f = eqb-true g f e in rw d (word-same t p (base + f) v a b l ∙ sym (getD-set-same xs f v 0 i)))
     (λ e. let d : g ≡ f → ⊥ = eqb-false g f e in
-    word-other t p (base + f) v p (base + g) (λ x. d (omega arith)) ∙ r g (rw (length-set xs f v) at j) ∙ sym (getD-set-other xs f g v 0 d))
+    word-other t p (base + f) v p (base + g) (λ _ x. d (omega arith)) ∙ r g (rw (length-set xs f v) at j) ∙ sym (getD-set-other xs f g v 0 d))
 
 module _ (text : List ℕ) where
   -- words that are kept keep the tree
@@ -99,16 +94,16 @@ module _ (text : List ℕ) where
 pub record Fits (text t : List ℕ) (n : ℕ) (u : Spot) : Type 0 where
   pub rep : Rep text t u
   pub good : Good n u
-  pub room : tableWords ≤ length t
+  pub room : IsTable t
   pub most : n ≤ placeLimit
-  pub zeros : (q f : ℕ) → n ≤ q → q < placeLimit → f < 16 → word t q f ≡ 0
+  pub zeros : (q f : ℕ) → n ≤ q → q < placeLimit → f < placeWords → word t q f ≡ 0
   pub index : Indexes t u
 
 pub record After (text t : List ℕ) (n : ℕ) (u : Spot) (t′ : List ℕ) (n′ : ℕ) (u′ : Spot) : Type 0 where
   pub fits : Fits text t′ n′ u′
   pub grown : n ≤ n′
   pub same : num u′ ≡ num u
-  pub keeps : (q f : ℕ) → q < n → f < 16 → withinIn q (belowS u) ≡ false → (q ≡ num u → 7 ≤ f) → word t′ q f ≡ word t q f
+  pub keeps : (q f : ℕ) → q < n → f < placeWords → withinIn q (belowS u) ≡ false → (q ≡ num u → 7 ≤ f) → word t′ q f ≡ word t q f
   pub kept : (q : ℕ) → q < n → withinIn q (belowS u′) ≡ withinIn q (belowS u)
 
 module _ (text : List ℕ) where
@@ -125,10 +120,10 @@ module _ (text : List ℕ) where
   }
 
   -- ---- a word of the place's own
-  own-with : (t t′ : List ℕ) (n p : ℕ) (b b′ : Bool) (k k′ m m′ : ℕ) (ks : Spots) → Fits text t n (spot p b k m ks) → tableWords ≤ length t′
-      → Row t′ p kindWord (ownWords b′ k′ m′ ks) → ((q f : ℕ) → f < 16 → (q ≡ p → 5 ≤ f) → word t′ q f ≡ word t q f) → After text t n (spot p b k m ks) t′ n (spot p b′ k′ m′ ks)
+  own-with : (t t′ : List ℕ) (n p : ℕ) (b b′ : Bool) (k k′ m m′ : ℕ) (ks : Spots) → Fits text t n (spot p b k m ks) → IsTable t′
+      → Row t′ p kindWord (ownWords b′ k′ m′ ks) → ((q f : ℕ) → f < placeWords → (q ≡ p → 5 ≤ f) → word t′ q f ≡ word t q f) → After text t n (spot p b k m ks) t′ n (spot p b′ k′ m′ ks)
   own-with t t′ n p b b′ k k′ m m′ ks h z o w =
-      let below : (q f : ℕ) → f < 16 → withinIn q ks ≡ true → word t′ q f ≡ word t q f = λ q f l a. w q f l (λ e. absurd (not-both (withinIn q ks) a (rw e (h .good .1)))) in
+      let below : (q f : ℕ) → f < placeWords → withinIn q ks ≡ true → word t′ q f ≡ word t q f = λ q f l a. w q f l (λ e. absurd (not-both (withinIn q ks) a (rw e (h .good .1)))) in
       record {
         fits = record {
           rep = (o, frameIn text t t′ p ks (h .rep .1) (λ q f l a. below q f (l .0) a), same-block t t′ p ks (w p blockWord (omega arith) (λ _. omega arith)) (h .rep .2));
@@ -148,17 +143,17 @@ module _ (text : List ℕ) where
       }
 
   module _ (t : List ℕ) (n p : ℕ) (b : Bool) (k m : ℕ) (ks : Spots) (h : Fits text t n (spot p b k m ks)) where
-    pub in-row : (f : ℕ) → f < 16 → p * 16 + f < length t
-    in-row f l = omega (arith, h .good .0, h .room, h .most)
+    pub in-row : IsRow p
+    in-row = omega (arith, h .good .0, h .most)
 
-    others : (f v : ℕ) → f < 5 → (q g : ℕ) → g < 16 → (q ≡ p → 5 ≤ g) → word (withWord t p f v) q g ≡ word t q g
-    others f v i q g j y = word-other t p f v q g (λ e. let d : q ≡ p = omega arith in let x = y d in omega arith)
+    others : (f v : ℕ) → f < 5 → (q g : ℕ) → g < placeWords → (q ≡ p → 5 ≤ g) → word (withWord t p f v) q g ≡ word t q g
+    others f v i q g j y = word-other t p f v q g (λ d e. let x = y d in omega arith)
 
     pub set-kind : (j : ℕ) → After text t n (spot p b k m ks) (withWord t p kindWord j) n (spot p b j m ks)
-    set-kind j = own-with t (withWord t p kindWord j) n p b b k j m m ks h (rw size-with (h .room)) (row-set t p 0 0 j (ownWords b k m ks) (in-row 0 (omega arith)) (omega arith) (h .rep .0)) (others 0 j (omega arith))
+    set-kind j = own-with t (withWord t p kindWord j) n p b b k j m m ks h (rw length-with (h .room)) (row-set t p 0 0 j (ownWords b k m ks) (h .room) in-row (omega arith) (omega arith) (h .rep .0)) (others 0 j (omega arith))
 
     pub set-null : After text t n (spot p b k m ks) (withWord t p nullWord 1) n (spot p true k m ks)
-    set-null = own-with t (withWord t p nullWord 1) n p b true k k m m ks h (rw size-with (h .room)) (row-set t p 0 1 1 (ownWords b k m ks) (in-row 1 (omega arith)) (omega arith) (h .rep .0)) (others 1 1 (omega arith))
+    set-null = own-with t (withWord t p nullWord 1) n p b true k k m m ks h (rw length-with (h .room)) (row-set t p 0 1 1 (ownWords b k m ks) (h .room) in-row (omega arith) (omega arith) (h .rep .0)) (others 1 1 (omega arith))
 
     pub set-samples : (v : ℕ) → After text t n (spot p b k m ks) (withWord t p samplesWord v) n (spot p b k v ks)
-    set-samples v = own-with t (withWord t p samplesWord v) n p b b k k m v ks h (rw size-with (h .room)) (row-set t p 0 2 v (ownWords b k m ks) (in-row 2 (omega arith)) (omega arith) (h .rep .0)) (others 2 v (omega arith))
+    set-samples v = own-with t (withWord t p samplesWord v) n p b b k k m v ks h (rw length-with (h .room)) (row-set t p 0 2 v (ownWords b k m ks) (h .room) in-row (omega arith) (omega arith) (h .rep .0)) (others 2 v (omega arith))

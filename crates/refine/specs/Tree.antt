@@ -11,7 +11,7 @@ use Rattle.model.specs.Result.{Result, refused}
 use Rattle.model.specs.Kinds.{Step, field, element, position, key, value, variant}
 use Rattle.model.specs.Tracing.{Tree, node, Kids, no-kids, kid, fresh, Counted, counted}
 use Rattle.shapes.specs.Steps.{fieldCode, unpackedName}
-use Rattle.places.specs.Layout.{kindWord, nullWord, samplesWord, firstWord, nextWord, stepWord, nameWord, heldWord}
+use Rattle.places.specs.Layout.{kindWord, nullWord, samplesWord, firstWord, nextWord, stepWord, nameWord, heldWord, rootPlace}
 use Rattle.leaves.specs.declared.Traced.the-variants as T
 use Rattle.leaves.specs.Leaves.{Out, out}
 
@@ -44,7 +44,7 @@ unfoldable mutual
       ]
 
 unfoldable pub treeOf : List ℕ → List ℕ → Tree
-treeOf text t = treeAt 2048 text t 0
+treeOf text t = treeAt 2048 text t rootPlace
 
 -- a refusal by its number and place, or the count of places and the tree
 unfoldable pub outcome : List ℕ → Out → Result (Counted Tree)

@@ -7,8 +7,7 @@ use Prim.Native.Nat.{_-_, ℕ, zero, suc, _+_, _*_, _<_, _≤_}
 use native.Mathlib.Nat.{le-refl}
 use native.Mathlib.Numerals.{add-one}
 use native.Mathlib.Omega.{arith}
-use lib.ListN.{length, getD, replicate, drop, length-replicate, length-append, getD-replicate, List·getD-append}
-use lib.Seq.{set-getD, set-set, set-comm}
+use lib.ListN.{length, getD}
 use lib.Dec.{eqb, ltb, leb}
 use borrow.Author.Tests.{eqb-true, eqb-false, eq-eqb, ne-eqb, ltb-true, ltb-false, leb-true, leb-false, le-leb, lt-leb, le-ltb}
 use Rattle.logic.specs.Test.{if_then_else_, cases, same-test}
@@ -19,8 +18,8 @@ use Rattle.refusal.specs.declared.Refusal.the-variants as F
 use Rattle.refusal.specs.Number.{numberOf, noJoint}
 use Rattle.text.specs.declared.Name.{Name}
 use Rattle.text.specs.Name.{bytesOf}
-use Rattle.words.specs.Word.{word, withWord, cleared}
-use Rattle.words.specs.Laws.{word-same, word-other}
+use Rattle.words.specs.Word.{IsTable, word, withWord, zeros}
+use Rattle.words.specs.laws.Word.{word-same, word-other, length-with, with-word, with-again, with-swap, zeros-table, word-zero}
 use Rattle.coerce.specs.Joint.{joint}
 use Rattle.commands.specs.declared.Due.the-variants as D
 use Rattle.commands.specs.Commands.{readCommand}
@@ -28,7 +27,6 @@ use Rattle.commands.specs.Laws.{byteOf}
 use Rattle.model.specs.Result.{Result, accepted, refused, _>>=_, orRefused}
 use Rattle.model.specs.Kinds.{sequenceKind, structKind, mapKind, tupleKind, unionKind, isContainer, Step, element, position, key, value, variant}
 use Rattle.model.specs.Reading.{Value, val, cut, no-parts, part, Shape, chosen, shapeOf, marked, rest, readValue, readShape, readParts, enough, recordsFrom, values}
-use Rattle.model.specs.Answer.{tableWords}
 use Rattle.model.specs.Tracing.{depthLimit, placeLimit, sameContainer, meet, has, made, positionsFrom, Counted, counted}
 use Rattle.equality.specs.ReadCommand.{reads-on, reads-inside}
 use Rattle.equality.specs.Reads.{read-cases, value-command, value-refused}
@@ -55,7 +53,7 @@ use Rattle.places.specs.Layout.{kindWord, nullWord, samplesWord, firstWord, las
 use Rattle.refine.specs.Spots.{Spot, spot, Spots, no-spots, child, num, stepsS, newSpot, spotAt, addS, makeS, makeAllS, walk, walkParts, walkAll}
 use Rattle.refine.specs.Steps.{near, Stands}
 use Rattle.refine.specs.Numbers.{firstOf, nearIn, near-add, add-among, add-found}
-use Rattle.refine.specs.Rep.{size-with, Block, no-block, Fits, After, stays, and-then, in-row, set-kind, set-null, set-samples}
+use Rattle.refine.specs.Rep.{Block, no-block, Fits, After, stays, and-then, in-row, set-kind, set-null, set-samples}
 use Rattle.refine.specs.Child.{far-has, far-clashes, still-has, still-at, still-first, zero-row, append-grown}
 use Rattle.refine.specs.Numbered.{index-none}
 use Rattle.refine.specs.Entered.{block-after}
@@ -164,18 +162,18 @@ in-a-block c positions n ks a i l = let d = a .there i l in (d .0, d .1 ∙ ap (
 
 -- the count of the block may as well be stored before a child is appended
 module _ (p v : ℕ) where
-  swap : (t : List ℕ) (q f w : ℕ) → f < 16 → (f ≡ blockWord → ⊥) → withWord (withWord t p blockWord v) q f w ≡ withWord (withWord t q f w) p blockWord v
-  swap t q f w l d = set-comm t (p * 16 + blockWord) (q * 16 + f) v w (λ e. d (omega arith))
+  swap : (t : List ℕ) (q f w : ℕ) → (f ≡ blockWord → ⊥) → withWord (withWord t p blockWord v) q f w ≡ withWord (withWord t q f w) p blockWord v
+  swap t q f w d = with-swap t p blockWord q f v w (λ _. d)
 
   linked-block : (n : ℕ) (t : List ℕ) → linked p n (withWord t p blockWord v) ≡ withWord (linked p n t) p blockWord v
   unfolding linked if_then_else_
   linked-block n t =
-      let f : word (withWord t p blockWord v) p firstWord ≡ word t p firstWord = word-other t p blockWord v p firstWord (λ e. omega arith) in
-      let l : word (withWord t p blockWord v) p lastWord ≡ word t p lastWord = word-other t p blockWord v p lastWord (λ e. omega arith) in
+      let f : word (withWord t p blockWord v) p firstWord ≡ word t p firstWord = word-other t p blockWord v p firstWord (λ _ e. omega arith) in
+      let l : word (withWord t p blockWord v) p lastWord ≡ word t p lastWord = word-other t p blockWord v p lastWord (λ _ e. omega arith) in
       rw (f, l)
       (cases (eqb (word t p firstWord) 0)
-      (λ e. rw e (swap t p firstWord n (omega arith) (λ d. omega arith)))
-      (λ e. rw e (swap t (word t p lastWord) nextWord n (omega arith) (λ d. omega arith))))
+      (λ e. rw e (swap t p firstWord n (λ d. omega arith)))
+      (λ e. rw e (swap t (word t p lastWord) nextWord n (λ d. omega arith))))
 
   appended-block : (code n : ℕ) (name : Name) (t : List ℕ) → appended p code name n (withWord t p blockWord v) ≡ withWord (appended p code name n t) p blockWord v
   unfolding appended described
@@ -186,10 +184,10 @@ module _ (p v : ℕ) where
       let t₃ : List ℕ = withWord t₂ n stepWord code in
       rw (
         linked-block n t,
-        swap t₀ p lastWord n (omega arith) (λ d. omega arith),
-        swap t₁ n parentWord p (omega arith) (λ d. omega arith),
-        swap t₂ n stepWord code (omega arith) (λ d. omega arith),
-        swap t₃ n nameWord (packedName name) (omega arith) (λ d. omega arith),
+        swap t₀ p lastWord n (λ d. omega arith),
+        swap t₁ n parentWord p (λ d. omega arith),
+        swap t₂ n stepWord code (λ d. omega arith),
+        swap t₃ n nameWord (packedName name) (λ d. omega arith),
       ) refl
 
 module _ (text : List ℕ) (p : ℕ) (b : Bool) (k m at c last : ℕ) where
@@ -218,11 +216,11 @@ module _ (text : List ℕ) (p : ℕ) (b : Bool) (k m at c last : ℕ) where
       let g : List ℕ = withWord t p blockWord i in
       let t₁ : List ℕ = appended p (codeOf (S.Position i)) noName n t in
       let t₂ : List ℕ = appended p (codeOf (S.Position i)) noName n g in
-      let long : p * 16 + blockWord < length t = rw (size-with t p blockWord i) at (in-row text g n p b k m ks h blockWord (omega arith)) in
+      let long : IsTable t = rw (length-with t p blockWord i) at (h .room) in
       let more = one-more c i n ks a in
       let G = append-grown text g n p (S.Position i) (position i) b k m ks (position-stands text i) far h l in
-      let B = block-after text g n p b k m ks h (position i) far l t₂ G i refl (word-same t p blockWord i long) (in-a-block c (suc i) (n + 1) (addS (position i) n ks) more) in
-      let same-table : withWord t₂ p blockWord (suc i) ≡ withWord t₁ p blockWord (suc i) = ap (λ (x : List ℕ). withWord x p blockWord (suc i)) (appended-block p i (codeOf (S.Position i)) n noName t) ∙ set-set t₁ (p * 16 + blockWord) i (suc i) in
+      let B = block-after text g n p b k m ks h (position i) far l t₂ G i refl (word-same t p blockWord i long (in-row text g n p b k m ks h) (omega arith)) (in-a-block c (suc i) (n + 1) (addS (position i) n ks) more) in
+      let same-table : withWord t₂ p blockWord (suc i) ≡ withWord t₁ p blockWord (suc i) = ap (λ (x : List ℕ). withWord x p blockWord (suc i)) (appended-block p i (codeOf (S.Position i)) n noName t) ∙ with-again t₁ p blockWord i (suc i) in
       let A : After text g n (spot p b k m ks) (withWord t₁ p blockWord (suc i)) (n + 1) (spot p b k m (addS (position i) n ks)) = subst (λ (x : List ℕ). After text g n (spot p b k m ks) x (n + 1) (spot p b k m (addS (position i) n ks))) same-table B in
       rw (d, lt-leb placeLimit n l) (appends-after A (append-all left (suc i) t₁ (n + 1) (addS (position i) n ks) (omega arith) (A .fits) more)))
       (λ d. rw (d, le-leb placeLimit n (ltb-false n placeLimit d)) no-room))
@@ -243,7 +241,7 @@ module _ (text t : List ℕ) (n p : ℕ) (b : Bool) (k m at : ℕ) where
   unfolding positionsMade if_then_else_
   ensure-positions positions no-spots h =
       let e : word t p firstWord ≡ 0 = h .rep .0 3 (omega arith) in
-      let z : withWord t p blockWord 0 ≡ t = subst (λ (v : ℕ). withWord t p blockWord v ≡ t) (no-positions (word t p blockWord) (h .rep .2)) (set-getD t (p * 16 + blockWord) 0) in
+      let z : withWord t p blockWord 0 ≡ t = subst (λ (v : ℕ). withWord t p blockWord v ≡ t) (no-positions (word t p blockWord) (h .rep .2)) (with-word t p blockWord) in
       let h′ : Fits text (withWord t p blockWord 0) n (spot p b k m no-spots) = subst (λ (x : List ℕ). Fits text x n (spot p b k m no-spots)) (sym z) h in
       rw e (block-all positions no-spots z (append-all text p b k m at n positions positions 0 t n no-spots (omega arith) h′ (none-yet n)))
   ensure-positions positions (child r x y u ks) h =
@@ -456,29 +454,20 @@ batch-sim options commands text bytes (suc f) at n t u y e z h =
     go ih (went {a = a} {n′ = n′} {t′ = t′} {u′ = u′} i y₁ c) = ih a n′ t′ u′ i y₁ (c .same ∙ z) (c .fits)
     go ih balked = turned-down
 
--- a table whose first words are zeros says a tree of one unseen place
-module _ (text t : List ℕ) (long : tableWords ≤ length t) where
-  zero-word : (q f : ℕ) → q < placeLimit → f < 16 → word (cleared t tableWords) q f ≡ 0
-  unfolding cleared
-  zero-word q f l i =
-      let z : q * 16 + f < length (replicate {A = ℕ} tableWords 0) = rw (length-replicate {A = ℕ} tableWords 0) (omega arith) in
-      List·getD-append (replicate tableWords 0) (drop tableWords t) 0 (q * 16 + f) z ∙ getD-replicate tableWords (q * 16 + f) 0 0 (omega arith)
+-- a table of zeros says a tree of one unseen place
+begins : (text : List ℕ) → Fits text zeros 1 (newSpot 0)
+begins text = record {
+  rep = (zero-row zeros 0 0 5 (omega arith) (λ f i. word-zero 0 f), tt, no-block (word zeros 0 blockWord) no-spots (word-zero 0 blockWord));
+  good = (omega arith, refl, tt);
+  room = zeros-table;
+  most = omega arith;
+  zeros = λ q f _ l i. word-zero q f;
+  index = (index-none zeros 0 (omega arith) (word-zero 0 rootWord), tt);
+}
 
-  begins : Fits text (cleared t tableWords) 1 (newSpot 0)
-  unfolding cleared
-  begins = record {
-    rep = (zero-row (cleared t tableWords) 0 0 5 (omega arith) (λ f i. zero-word 0 f (omega arith) i), tt, no-block (word (cleared t tableWords) 0 blockWord) no-spots (zero-word 0 blockWord (omega arith) (omega arith)));
-    good = (omega arith, refl, tt);
-    room = rw (length-append, length-replicate {A = ℕ} tableWords 0) (omega arith);
-    most = omega arith;
-    zeros = λ q f _ l i. zero-word q f l i;
-    index = (index-none (cleared t tableWords) 0 (omega arith) (zero-word 0 rootWord (omega arith) (omega arith)), tt);
-  }
-
--- The flat run over a cleared table and the walk over the values of the batch are refused alike, or leave the same count of places and a
+-- The flat run over a table of zeros and the walk over the values of the batch are refused alike, or leave the same count of places and a
 -- table that says the tree.
-pub flat-is-walk : (options : ℕ) (commands text t : List ℕ) → Bytes commands → tableWords ≤ length t
-    → Ends text (walkAll options (values options commands text) 1 (newSpot 0)) (fromSamples commands text options (cleared t tableWords))
+pub flat-is-walk : (options : ℕ) (commands text : List ℕ) → Bytes commands → Ends text (walkAll options (values options commands text) 1 (newSpot 0)) (fromSamples commands text options zeros)
 unfolding values recordsAt
-flat-is-walk options commands text t bytes long =
-    rw (add-one (length commands)) (batch-sim options commands text bytes (length commands) 0 1 (cleared t tableWords) (newSpot 0) (omega arith) (omega arith) refl (begins text t long))
+flat-is-walk options commands text bytes =
+    rw (add-one (length commands)) (batch-sim options commands text bytes (length commands) 0 1 zeros (newSpot 0) (omega arith) (omega arith) refl (begins text))

@@ -9,7 +9,7 @@ use options::TracingOptions;
 // Containers stand at most so deep.
 const LEVELS: usize = 20;
 
-// All records of a batch at the root, which is place 0.
+// All records of a batch at the root, which is the one place that there is at first.
 pub fn from_samples(
     commands: &[u8],
     text: &[u8],
@@ -22,7 +22,16 @@ pub fn from_samples(
     let mut at: usize = 0;
     let mut places: usize = 1;
     while at < commands.len() {
-        match reading::read_value(commands, text, options, at, LEVELS, 0, places, table) {
+        match reading::read_value(
+            commands,
+            text,
+            options,
+            at,
+            LEVELS,
+            places::ROOT_PLACE,
+            places,
+            table,
+        ) {
             Traced::Next(behind, more) => {
                 at = behind;
                 places = more;

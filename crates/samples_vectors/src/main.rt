@@ -7,8 +7,6 @@ use leaves::Traced;
 use libc::STDOUT_FILENO;
 use options::TracingOptions;
 
-const WORDS: usize = 16384;
-
 fn print_number(n: u32, after: &[u8]) {
     io::print_decimal(STDOUT_FILENO, n as u64);
     io::write_all(STDOUT_FILENO, after);
@@ -48,7 +46,7 @@ fn print_refusal(number: u8, place: usize) {
 fn trace(options: u16, commands: &[u8], text: &[u8], table: &mut [u32])
     requires { ⌜ IsTable (now table) ⌝ }
 {
-    words::clear(table, WORDS);
+    words::clear(table);
     match samples::from_samples(commands, text, TracingOptions::new(options), table) {
         Traced::Next(_, count) => {
             print_places(table, count);
@@ -99,7 +97,7 @@ fn trace_all(batches: &[u8], table: &mut [u32])
 
 fn main() {
     let mut buffer = [0u8; 65536];
-    let mut table = [0u32; 16384];
+    let mut table = [0u32; words::WORDS];
     let n = replay::load(b"batches.bin", &mut buffer);
     trace_all(&buffer[..n], &mut table);
 }

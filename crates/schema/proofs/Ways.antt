@@ -11,7 +11,7 @@ use Rattle.words.specs.Word.{word}
 use Rattle.model.specs.Kinds.{isContainer}
 use Rattle.places.specs.Layout.{kindWord, nullWord}
 use Rattle.order.specs.Flat.{variantAt}
-use Rattle.walk.specs.Order.{nextChild}
+use Rattle.walk.specs.Order.{nextChild, childLimit}
 use Rattle.walk.specs.Walk.{sumOf, gapsAt}
 use Rattle.schema.specs.Put.{put, putGaps}
 use Rattle.schema.specs.Emit.{Writing, writing, Writer, gapsIn, entriesIn, fieldAt, isDictionary, isLeaf, lackingAt, childIn, fieldsFrom, fieldsBelow, emittedBy, emittedAt}
@@ -29,12 +29,12 @@ module _ (t : List ℕ) (inner : Writer) (kind place slot child : ℕ) (w : Writ
 
   -- the whole is what starts behind a map's entries
   module _ (entered before : Writing) (first : ℕ) (s : entered ≡ entriesIn kind before) (f : first ≡ nextChild t true kind place 0) where
-    pub spent : (left : ℕ) → fieldsFrom t inner kind place left slot child w ≡ fieldsFrom t inner kind place 1024 0 first entered → left ≤ 0 → w ≡ fieldsBelow t inner kind place before
+    pub spent : (left : ℕ) → fieldsFrom t inner kind place left slot child w ≡ fieldsFrom t inner kind place childLimit 0 first entered → left ≤ 0 → w ≡ fieldsBelow t inner kind place before
     unfolding fieldsFrom
     spent zero e h = rw (s, f) at e
     spent (suc n) e h = absurd (omega arith)
 
-    pub ended : (left : ℕ) → fieldsFrom t inner kind place left slot child w ≡ fieldsFrom t inner kind place 1024 0 first entered → child ≡ 0 → w ≡ fieldsBelow t inner kind place before
+    pub ended : (left : ℕ) → fieldsFrom t inner kind place left slot child w ≡ fieldsFrom t inner kind place childLimit 0 first entered → child ≡ 0 → w ≡ fieldsBelow t inner kind place before
     unfolding fieldsFrom
     ended zero e z = rw (s, f) at e
     ended (suc n) e z = rw (s, f) at (rw z at e)

@@ -11,7 +11,8 @@ use Rattle.refusal.specs.declared.Refusal.the-variants as F
 use Rattle.words.specs.Word.{word}
 use Rattle.model.specs.Kinds.{mapKind, unionKind, tupleKind, isContainer, isStruct}
 use Rattle.model.specs.Emission.{typeOf, strategyOf, entriesName}
-use Rattle.places.specs.Layout.{kindWord, nullWord, samplesWord, heldWord}
+use Rattle.model.specs.Tracing.{placeLimit}
+use Rattle.places.specs.Layout.{kindWord, nullWord, samplesWord, heldWord, rootPlace}
 use Rattle.walk.specs.declared.Walked.{Walked}
 use Rattle.walk.specs.declared.Walked.the-variants as W
 use Rattle.schema.specs.declared.Emitted.{Emitted}
@@ -103,10 +104,10 @@ unfoldable pub emittedAt : ℕ → List ℕ → List ℕ → ℕ → Writer
 emittedAt options text t zero = emittedBy options text t true (λ kind place w. w)
 emittedAt options text t (suc levels) = emittedBy options text t false (fieldsBelow t (emittedAt options text t levels))
 
--- ---- the schema of what was traced, whose root is place 0
+-- ---- the schema of what was traced
 -- more levels than the tree is deep: a place's number is above its parent's
 abbrev pub levelLimit : ℕ
-levelLimit = 1024
+levelLimit = placeLimit
 
 abbrev pub isStructRoot : ℕ → Bool
 isStructRoot kind = isStruct kind || eqb kind tupleKind
@@ -120,16 +121,17 @@ asAnswered e (writing i j fields names) = answered e fields names
 
 unfoldable pub finished : ℕ → List ℕ → List ℕ → List ℕ → List ℕ → ℕ → ℕ → ℕ → Answered
 finished options text t fields names records bytes below =
-    if eqb (word t 0 nullWord) 1 then answered (E.Refused F.NullableRoot) fields names
-    else if eqb (word t 0 kindWord) null then answered (E.Refused F.NullRoot) fields names
-    else if not (isStructRoot (word t 0 kindWord)) then answered (E.Refused F.RootNotStruct) fields names
+    if eqb (word t rootPlace nullWord) 1 then answered (E.Refused F.NullableRoot) fields names
+    else if eqb (word t rootPlace kindWord) null then answered (E.Refused F.NullRoot) fields names
+    else if not (isStructRoot (word t rootPlace kindWord)) then answered (E.Refused F.RootNotStruct) fields names
     else if ltb (length fields) (records * 8) || ltb (length names) bytes then answered (E.Refused F.ShortBuffer) fields names
     else asAnswered (E.Schema records bytes below)
-    (fieldsBelow t (emittedAt options text t levelLimit) (word t 0 kindWord) 0 (writing 0 0 fields names))
+    (fieldsBelow t (emittedAt options text t levelLimit) (word t rootPlace kindWord) rootPlace (writing 0 0 fields names))
 
 abbrev pub onWalked : (ℕ → ℕ → ℕ → Answered) → List ℕ → List ℕ → Walked → Answered
 onWalked k fields names (W.Refused refusal) = answered (E.Refused refusal) fields names
 onWalked k fields names (W.Below records bytes below) = k records bytes below
 
 unfoldable pub toSchemaAt : ℕ → List ℕ → List ℕ → List ℕ → List ℕ → Answered
-toSchemaAt options text t fields names = onWalked (finished options text t fields names) fields names (walked options text t levelLimit 0)
+toSchemaAt options text t fields names =
+    onWalked (finished options text t fields names) fields names (walked options text t levelLimit rootPlace)

@@ -25,7 +25,7 @@ use walk::Walked;
 const RECORD: usize = 8;
 
 // More than the tree is deep: a place's number is above its parent's.
-const LEVELS: usize = 1024;
+const LEVELS: usize = places::PLACES;
 
 const NULL_TYPE: u8 = 0;
 
@@ -550,7 +550,7 @@ fn wide(n: u32) -> usize
     n as usize
 }
 
-// The schema of what was traced, so many places whose root is place 0. Their children are put in order first.
+// The schema of what was traced, so many places. Their children are put in order first.
 pub fn to_schema(
     options: TracingOptions,
     text: &[u8],
@@ -563,7 +563,7 @@ pub fn to_schema(
     ensures { λ r. ⌜ (Answered.answered r (now (fields .exit)) (now (names .exit)) ≡ toSchemaAt (options .word) (now (text .entry)) (sortedPlaces (now (text .entry)) (now (table .entry)) count) (now (fields .entry)) (now (names .entry))) × (now (table .exit) ≡ sortedPlaces (now (text .entry)) (now (table .entry)) count) ⌝ }
 {
     order::sort_places(text, count, table);
-    match walk::walk_place(options, text, LEVELS, 0, table) {
+    match walk::walk_place(options, text, LEVELS, places::ROOT_PLACE, table) {
         Walked::Refused(refusal) => Emitted::Refused(refusal),
         Walked::Below(records, bytes, below) => finish(
             options,
@@ -592,8 +592,8 @@ fn finish(
     requires { ⌜ Settled (now text) (now table) ⌝ }
     ensures { λ r. ⌜ Answered.answered r (now (fields .exit)) (now (names .exit)) ≡ finished (options .word) (now (text .entry)) (now (table .entry)) (now (fields .entry)) (now (names .entry)) records bytes below ⌝ }
 {
-    let kind = words::get(table, 0, places::KIND);
-    if words::get(table, 0, places::NULL) == 1 {
+    let kind = words::get(table, places::ROOT_PLACE, places::KIND);
+    if words::get(table, places::ROOT_PLACE, places::NULL) == 1 {
         return Emitted::Refused(Refusal::NullableRoot);
     }
     if kind == shapes::UNKNOWN {
@@ -613,7 +613,7 @@ fn finish(
         text,
         LEVELS,
         kind,
-        0,
+        places::ROOT_PLACE,
         Ends {
             records: 0,
             names: 0,

@@ -181,7 +181,7 @@ fn print_answer(answer: Answer, fields: &[u8], names: &[u8])
 }
 
 fn list(options: u16, commands: &[u8], text: &[u8]) {
-    let mut table = [0u32; 16384];
+    let mut table = [0u32; words::WORDS];
     let mut fields = [0u8; 65536];
     let mut names = [0u8; 65536];
     let answer = fasthrom::fasthrom_trace(

@@ -3,7 +3,7 @@
 ghost use mathlib.Core.Path.{_≡_};
 ghost use Prim.Native.Nat.{ℕ, _<_, _≤_};
 ghost use Rattle.model.specs.Tracing.{placeLimit};
-ghost use Rattle.words.specs.Word.{word, IsTable, IsRow};
+ghost use Rattle.words.specs.Word.{placeWords, word, IsTable, IsRow};
 ghost use Rattle.text.specs.Name.{bytesOf, tagOf};
 ghost use Rattle.shapes.specs.Steps.{fieldCode, codeOf, noName, unpackedName, Inside};
 ghost use Rattle.places.specs.Layout.{Tagged, Ready, firstWord, nextWord, nameWord};
@@ -89,7 +89,7 @@ pub fn is_numbered(code: u32) -> bool
 
 // The child that a link of the search tree leads to, or 0. Links lead to places with higher numbers: none other is followed.
 fn follow(place: usize, field: usize, count: usize, table: &[u32]) -> usize
-    requires { ⌜ IsRow place × (field < 16) × IsTable (now table) ⌝ }
+    requires { ⌜ IsRow place × (field < placeWords) × IsTable (now table) ⌝ }
     ensures { λ r. ⌜ r ≡ follow place field count (now (table .entry)) ⌝ }
 {
     let link = words::get(table, place, field) as usize;
@@ -104,7 +104,7 @@ fn follow(place: usize, field: usize, count: usize, table: &[u32]) -> usize
 
 // The link of a child by the lowest bit.
 fn side(bits: u32) -> usize
-    ensures { λ r. ⌜ (r ≡ sideWord bits) × (r < 16) ⌝ }
+    ensures { λ r. ⌜ (r ≡ sideWord bits) × (r < placeWords) ⌝ }
 {
     if bits % 2 == 0 {
         return places::LEFT;

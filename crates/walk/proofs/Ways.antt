@@ -16,7 +16,7 @@ use Rattle.model.specs.Kinds.{sequenceKind, mapKind, unionKind}
 use Rattle.places.specs.Layout.{kindWord}
 use Rattle.walk.specs.declared.Walked.{Walked}
 use Rattle.walk.specs.declared.Walked.the-variants as W
-use Rattle.walk.specs.Order.{nextChild, datalessAt}
+use Rattle.walk.specs.Order.{nextChild, datalessAt, childLimit}
 use Rattle.walk.specs.Walk.{slotBehind, isBeyond, recordsWith, namesWith, columnsWith, childrenFrom, childrenBelow, walkedBy, walked}
 
 -- ---- a turn over a child: what is left gives what the whole gives
@@ -56,11 +56,11 @@ module _ (text t : List ℕ) (inner : ℕ → Walked) (kind place records names 
 
 -- ---- a map's entries
 module _ (text t : List ℕ) (inner : ℕ → Walked) (kind place : ℕ) (answer : Walked) where
-  pub of-map : kind ≡ mapKind → answer ≡ childrenFrom text t inner kind place 1024 1 7 0 0 (nextChild t false kind place 0) → answer ≡ childrenBelow text t inner kind place
+  pub of-map : kind ≡ mapKind → answer ≡ childrenFrom text t inner kind place childLimit 1 7 0 0 (nextChild t false kind place 0) → answer ≡ childrenBelow text t inner kind place
   unfolding if_then_else_
   of-map e a = rw (eq-eqb kind mapKind e) a
 
-  pub of-other : (kind ≡ mapKind → ⊥) → answer ≡ childrenFrom text t inner kind place 1024 0 0 0 0 (nextChild t false kind place 0) → answer ≡ childrenBelow text t inner kind place
+  pub of-other : (kind ≡ mapKind → ⊥) → answer ≡ childrenFrom text t inner kind place childLimit 0 0 0 0 (nextChild t false kind place 0) → answer ≡ childrenBelow text t inner kind place
   unfolding if_then_else_
   of-other n a = rw (ne-eqb kind mapKind n) a
 

@@ -5,11 +5,12 @@ use mathlib.Core.List.{List}
 use Prim.Native.Nat.{ℕ, _≤_}
 use lib.ListN.{length, take}
 use lib.Seq.{length-take-le}
+use Rattle.words.specs.Word.{tableWords}
 use Rattle.answers_vectors.proofs.is_left.Statement.{statement}
 use Rattle.answers_vectors.proofs.is_left.Tie as tie
 
-used : (table : List ℕ) → 16384 ≤ length table → 16384 ≡ length (take 16384 table)
-used table h = sym (length-take-le 16384 table h)
+used : (table : List ℕ) → tableWords ≤ length table → tableWords ≡ length (take tableWords table)
+used table h = sym (length-take-le tableWords table h)
 
 pub is-left-spec : {M : Type 1} → statement M
 is-left-spec =

@@ -5,6 +5,7 @@ use mathlib.Core.List.{List}
 use Prim.Native.Nat.{ℕ, _≤_}
 use lib.ListN.{length}
 use Rattle.refusal.specs.declared.Refusal.{Refusal}
+use Rattle.model.specs.Tracing.{placeLimit}
 use Rattle.leaves.specs.declared.Traced.{Traced}
 use Rattle.leaves.specs.declared.Traced.the-variants as T
 use Rattle.samples.specs.Samples.{fromSamples}
@@ -21,10 +22,10 @@ use Rattle.fasthrom.proofs.trace_and_emit.Statement.{statement}
 use Rattle.fasthrom.proofs.trace_and_emit.Tie as tie
 
 module _ (text u : List ℕ) (r : Traced) (behind n : ℕ) (next : r ≡ T.Next behind n) (after : SoundTraced text u 1 r) where
-  linked-after : Linked text u 1024
+  linked-after : Linked text u placeLimit
   linked-after = let s : SoundTraced text u 1 (T.Next behind n) = rw next at after in linked-more text u n (s .0)
 
-  few-after : n ≤ 1024
+  few-after : n ≤ placeLimit
   few-after = let s : SoundTraced text u 1 (T.Next behind n) = rw next at after in s .0 .linked .most
 
 module _ (options : ℕ) (commands text t u fields names : List ℕ) (r : Traced) (traced : out r u ≡ fromSamples commands text options t) where

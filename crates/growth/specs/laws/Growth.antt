@@ -7,12 +7,12 @@ use native.Mathlib.Nat.{le-refl}
 use native.Mathlib.Omega.{arith}
 use borrow.Author.Tests.{eqb-false}
 use lib.Dec.{eqb, leb}
-use lib.ListN.{length, length-set}
+use lib.ListN.{length}
 use Rattle.logic.specs.Test.{if_then_else_, cases}
 use Rattle.logic.specs.Flag.{if-either}
 use Rattle.text.specs.declared.Name.{Name}
-use Rattle.words.specs.Word.{word, withWord}
-use Rattle.words.specs.Laws.{word-same}
+use Rattle.words.specs.Word.{word, withWord, IsRow, IsTable}
+use Rattle.words.specs.laws.Word.{word-same, word-other, length-with}
 use Rattle.refusal.specs.declared.Refusal.{Refusal}
 use Rattle.text.specs.Name.{bytesOf, eqName, tagOf}
 use Rattle.text.specs.Utf8.{isUtf8}
@@ -30,7 +30,7 @@ use Rattle.growth.specs.Growth.{linked, described, appended, tagged, Ens
 use Rattle.search.specs.Search.{childAt}
 use Rattle.search.specs.laws.Tree.{seek-ends}
 use Rattle.search.specs.Tree.{isNumbered}
-use Rattle.places.specs.laws.Layout.{isPlain, linked-stored, sound-from, sound-plain, word-else, last-below}
+use Rattle.places.specs.laws.Layout.{isPlain, linked-stored, sound-from, sound-plain, last-below}
 
 pub sound-sampled : (text t u : List ℕ) (n place kind : ℕ) → u ≡ sampled place kind t → Sound text t n → Sound text u n
 unfolding sampled
@@ -45,7 +45,7 @@ sound-touched text t u n place child e s =
 -- ---- a new last child
 
 -- and entered into the search tree
-pub sound-entered : (text t u : List ℕ) (n place code : ℕ) → u ≡ entered place code n t → place < n → n < 1024 → Sound text t (n + 1) → Sound text u (n + 1)
+pub sound-entered : (text t u : List ℕ) (n place code : ℕ) → u ≡ entered place code n t → place < n → IsRow n → Sound text t (n + 1) → Sound text u (n + 1)
 unfolding entered if_then_else_
 sound-entered text t u n place code e h m s =
     let ends = seek-ends code n t (λ w. isPlain w ≡ true) refl refl refl place h (omega arith) in
@@ -56,7 +56,7 @@ length-either test x y n e d = if-either (λ z. length z ≡ n) test e d
 
 length-linked : (place child : ℕ) (t : List ℕ) → length (linked place child t) ≡ length t
 unfolding linked
-length-linked place child t = length-either (eqb (word t place firstWord) 0) (withWord t place firstWord child) (withWord t (word t place lastWord) nextWord child) (length t) (simp length-set) (simp length-set)
+length-linked place child t = length-either (eqb (word t place firstWord) 0) (withWord t place firstWord child) (withWord t (word t place lastWord) nextWord child) (length t) (simp length-with) (simp length-with)
 
 -- a name that is packed and unpacked again
 module _ (text : List ℕ) (name : Name) (h : name .length < 65536) where
@@ -80,22 +80,22 @@ abbrev stepped : ℕ → ℕ → ℕ → List ℕ → List ℕ
 stepped place code child t = withWord (below place child t) child stepWord code
 
 -- the words that tell where other places stand are left
-linked-else : (place child : ℕ) (t : List ℕ) (q f : ℕ) → nextWord < f → f < 16 → word (linked place child t) q f ≡ word t q f
+linked-else : (place child : ℕ) (t : List ℕ) (q f : ℕ) → nextWord < f → word (linked place child t) q f ≡ word t q f
 unfolding linked
-linked-else place child t q f a b =
+linked-else place child t q f a =
     if-either (λ x. word x q f ≡ word t q f) (eqb (word t place firstWord) 0) {a = withWord t place firstWord child} {b = withWord t (word t place lastWord) nextWord child}
-    (word-else t place firstWord child q f (omega arith) b (λ e d. omega arith)) (word-else t (word t place lastWord) nextWord child q f (omega arith) b (λ e d. omega arith))
+    (word-other t place firstWord child q f (λ e d. omega arith)) (word-other t (word t place lastWord) nextWord child q f (λ e d. omega arith))
 
-appended-else : (place code child : ℕ) (name : Name) (t : List ℕ) (q f : ℕ) → q < child → parentWord < f → f < 16 → word (appended place code name child t) q f ≡ word t q f
+appended-else : (place code child : ℕ) (name : Name) (t : List ℕ) (q f : ℕ) → q < child → parentWord < f → word (appended place code name child t) q f ≡ word t q f
 unfolding described appended
-appended-else place code child name t q f l a b =
-    word-else (stepped place code child t) child nameWord (packedName name) q f (omega arith) b (λ e d. omega arith)
-    ∙ word-else (below place child t) child stepWord code q f (omega arith) b (λ e d. omega arith)
-    ∙ word-else (withWord (linked place child t) place lastWord child) child parentWord place q f (omega arith) b (λ e d. omega arith)
-    ∙ word-else (linked place child t) place lastWord child q f (omega arith) b (λ e d. omega arith)
-    ∙ linked-else place child t q f (omega arith) b
+appended-else place code child name t q f l a =
+    word-other (stepped place code child t) child nameWord (packedName name) q f (λ e d. omega arith)
+    ∙ word-other (below place child t) child stepWord code q f (λ e d. omega arith)
+    ∙ word-other (withWord (linked place child t) place lastWord child) child parentWord place q f (λ e d. omega arith)
+    ∙ word-other (linked place child t) place lastWord child q f (λ e d. omega arith)
+    ∙ linked-else place child t q f (omega arith)
 
-module _ (text t : List ℕ) (n place : ℕ) (ready : Ready text t n place) (room : n < 1024) where
+module _ (text t : List ℕ) (n place : ℕ) (ready : Ready text t n place) (room : IsRow n) where
   links : Linked text t n
   links = ready .sound .linked
 
@@ -105,12 +105,12 @@ module _ (text t : List ℕ) (n place : ℕ) (ready : Ready text t n place) (roo
       let b : place < n = ready .here in
       let l : word t place lastWord < n = links .last place (omega arith) in
       if-either (λ x. Linked text x (n + 1)) (eqb (word t place firstWord) 0)
-      (linked-stored text t n (n + 1) place firstWord n links (omega arith) (omega arith) (omega arith) (λ z. omega arith) (λ z. absurd (omega arith)) (λ z. absurd (omega arith)) (λ z. absurd (omega arith)))
-      (linked-stored text t n (n + 1) (word t place lastWord) nextWord n links (omega arith) (omega arith) (omega arith) (λ z. absurd (omega arith)) (λ z. absurd (omega arith)) (λ z. (omega arith, l)) (λ z. absurd (omega arith)))
+      (linked-stored text t n (n + 1) place firstWord n links (omega arith) (omega arith) (λ z. omega arith) (λ z. absurd (omega arith)) (λ z. absurd (omega arith)) (λ z. absurd (omega arith)))
+      (linked-stored text t n (n + 1) (word t place lastWord) nextWord n links (omega arith) (omega arith) (λ z. absurd (omega arith)) (λ z. absurd (omega arith)) (λ z. (omega arith, l)) (λ z. absurd (omega arith)))
 
   -- a store to a word behind the links
-  linked-new : (x : List ℕ) (p w v : ℕ) → nextWord < w → w < 16 → (w ≡ nameWord → Inside text (unpackedName v)) → Linked text x (n + 1) → Linked text (withWord x p w v) (n + 1)
-  linked-new x p w v a b i s = linked-stored text x (n + 1) (n + 1) p w v s (le-refl (n + 1)) (omega arith) b (λ z. absurd (omega arith)) (λ z. absurd (omega arith)) (λ z. absurd (omega arith)) i
+  linked-new : (x : List ℕ) (p w v : ℕ) → nextWord < w → (w ≡ nameWord → Inside text (unpackedName v)) → Linked text x (n + 1) → Linked text (withWord x p w v) (n + 1)
+  linked-new x p w v a i s = linked-stored text x (n + 1) (n + 1) p w v s (le-refl (n + 1)) (omega arith) (λ z. absurd (omega arith)) (λ z. absurd (omega arith)) (λ z. absurd (omega arith)) i
 
   module _ (code : ℕ) (name : Name) (good : Good text name) (h : name .length < 65536) where
     abbrev after : List ℕ
@@ -119,36 +119,36 @@ module _ (text t : List ℕ) (n place : ℕ) (ready : Ready text t n place) (roo
     linked-appended : Linked text after (n + 1)
     unfolding described appended
     linked-appended =
-        linked-new _ n nameWord _ (omega arith) (omega arith) (λ z. packed-inside text name h (good .inside))
-        (linked-new _ n stepWord code (omega arith) (omega arith) (λ z. absurd (omega arith))
-        (linked-new _ n parentWord place (omega arith) (omega arith) (λ z. absurd (omega arith))
-        (linked-stored text _ (n + 1) (n + 1) place lastWord n linked-linked (le-refl (n + 1)) (omega arith) (omega arith) (λ z. absurd (omega arith)) (λ z. omega arith) (λ z. absurd (omega arith)) (λ z. absurd (omega arith)))))
+        linked-new _ n nameWord _ (omega arith) (λ z. packed-inside text name h (good .inside))
+        (linked-new _ n stepWord code (omega arith) (λ z. absurd (omega arith))
+        (linked-new _ n parentWord place (omega arith) (λ z. absurd (omega arith))
+        (linked-stored text _ (n + 1) (n + 1) place lastWord n linked-linked (le-refl (n + 1)) (omega arith) (λ z. absurd (omega arith)) (λ z. omega arith) (λ z. absurd (omega arith)) (λ z. absurd (omega arith)))))
 
     appended-name : word after n nameWord ≡ packedName name
     unfolding described appended
     appended-name =
         let x : List ℕ = stepped place code n t in
-        let l : 16384 ≤ length x = rw (length-set, length-set, length-set, length-linked place n t) (links .room) in
-        word-same x n nameWord (packedName name) (omega arith)
+        let l : IsTable x = rw (length-with, length-with, length-with, length-linked place n t) (links .room) in
+        word-same x n nameWord (packedName name) l room (omega arith)
 
     appended-step : word after n stepWord ≡ code
     unfolding described appended
     appended-step =
         let x : List ℕ = below place n t in
-        let l : 16384 ≤ length x = rw (length-set, length-set, length-linked place n t) (links .room) in
-        word-else (stepped place code n t) n nameWord (packedName name) n stepWord (omega arith) (omega arith) (λ e d. omega arith) ∙ word-same x n stepWord code (omega arith)
+        let l : IsTable x = rw (length-with, length-with, length-linked place n t) (links .room) in
+        word-other (stepped place code n t) n nameWord (packedName name) n stepWord (λ e d. omega arith) ∙ word-same x n stepWord code l room (omega arith)
 
     appended-utf8 : isUtf8 (bytesOf text (unpackedName (word after n nameWord))) ≡ true
     appended-utf8 = rw (appended-name, packed-bytes text name h) (good .utf8)
 
-    kept : (q f : ℕ) → q < n → parentWord < f → f < 16 → word after q f ≡ word t q f
+    kept : (q f : ℕ) → q < n → parentWord < f → word after q f ≡ word t q f
     kept = appended-else place code n name t
 
     -- a child that is no field
     pub sound-appended : (u : List ℕ) → u ≡ after → (code ≡ fieldCode → ⊥) → Sound text u (n + 1)
     sound-appended u e no-field =
         rw e (sound-from text t after n (n + 1) (ready .sound) linked-appended
-        (λ q l. kept q stepWord l (omega arith) (omega arith)) (λ q l. kept q nameWord l (omega arith) (omega arith)) (λ q l. kept q tagWord l (omega arith) (omega arith))
+        (λ q l. kept q stepWord l (omega arith)) (λ q l. kept q nameWord l (omega arith)) (λ q l. kept q tagWord l (omega arith))
         (λ q l b. let o : q ≡ n = omega arith in rw o appended-utf8)
         (λ q l b d. let o : q ≡ n = omega arith in absurd (no-field (sym appended-step ∙ rw o at d))))
 
@@ -157,13 +157,13 @@ module _ (text t : List ℕ) (n place : ℕ) (ready : Ready text t n place) (roo
     unfolding tagged
     sound-tagged u e =
         let tag : ℕ = tagOf (bytesOf text name) in
-        let same : (q f : ℕ) → f < tagWord → word (withWord after n tagWord tag) q f ≡ word after q f = λ q f b. word-else after n tagWord tag q f (omega arith) (omega arith) (λ e d. omega arith) in
-        rw e (sound-from text t (withWord after n tagWord tag) n (n + 1) (ready .sound) (linked-new after n tagWord tag (omega arith) (omega arith) (λ z. absurd (omega arith)) linked-appended)
-        (λ q l. same q stepWord (omega arith) ∙ kept q stepWord l (omega arith) (omega arith))
-        (λ q l. same q nameWord (omega arith) ∙ kept q nameWord l (omega arith) (omega arith))
-        (λ q l. word-else after n tagWord tag q tagWord (omega arith) (omega arith) (λ e d. omega arith) ∙ kept q tagWord l (omega arith) (omega arith))
+        let same : (q f : ℕ) → f < tagWord → word (withWord after n tagWord tag) q f ≡ word after q f = λ q f b. word-other after n tagWord tag q f (λ e d. omega arith) in
+        rw e (sound-from text t (withWord after n tagWord tag) n (n + 1) (ready .sound) (linked-new after n tagWord tag (omega arith) (λ z. absurd (omega arith)) linked-appended)
+        (λ q l. same q stepWord (omega arith) ∙ kept q stepWord l (omega arith))
+        (λ q l. same q nameWord (omega arith) ∙ kept q nameWord l (omega arith))
+        (λ q l. word-other after n tagWord tag q tagWord (λ e d. omega arith) ∙ kept q tagWord l (omega arith))
         (λ q l b. let o : q ≡ n = omega arith in rw (o, same n nameWord (omega arith)) appended-utf8)
-        (λ q l b d. let o : q ≡ n = omega arith in rw (o, same n nameWord (omega arith), appended-name, packed-bytes text name h) (word-same after n tagWord tag (let r : 16384 ≤ length after = linked-appended .room in omega arith))))
+        (λ q l b d. let o : q ≡ n = omega arith in rw (o, same n nameWord (omega arith), appended-name, packed-bytes text name h) (word-same after n tagWord tag (linked-appended .room) room (omega arith))))
 
 -- ---- a child that is ensured, and children that are made
 
@@ -278,8 +278,8 @@ module _ (text : List ℕ) (step : Step) (name : Name) (e : name ≡ nameOf step
   step-inside = step-good .inside
 
 -- the last child is a place
-pub last-small : (text t : List ℕ) (n place : ℕ) → Ready text t n place → word t place lastWord < 1024
+pub last-small : (text t : List ℕ) (n place : ℕ) → Ready text t n place → IsRow (word t place lastWord)
 last-small text t n place r =
-    let m : n ≤ 1024 = r .sound .linked .most in
+    let m : n ≤ placeLimit = r .sound .linked .most in
     let l : word t place lastWord < n = last-below text t n place _ (r .sound) (r .here) refl in
     omega arith

@@ -2,9 +2,10 @@
 use mathlib.Core.Path.{_≡_, refl, sym, _∙_}
 use mathlib.Core.Bool.{Bool, true, false, not, _&&_}
 use mathlib.Core.List.{List}
-use Prim.Native.Nat.{ℕ, _+_, _*_, _<_}
+use Prim.Native.Nat.{ℕ, _<_}
 use Rattle.refusal.specs.declared.Refusal.{Refusal}
 use Rattle.words.specs.Word.{word}
+use Rattle.words.specs.laws.Word.{with-word}
 use Rattle.kinds.specs.declared.Met.{Met}
 use Rattle.kinds.specs.declared.Met.the-variants as M
 use Rattle.places.specs.Layout.{kindWord}
@@ -13,7 +14,6 @@ use Rattle.leaves.specs.declared.Traced.the-variants as T
 use Rattle.leaves.specs.Leaves.{Out, out, onMet, stored, observed, isKnown}
 use borrow.Author.Tests.{eqb-true, eq-eqb, ne-eqb, lt-leb, ltb-true, not-true}
 use lib.Dec.{eqb, ltb}
-use lib.Seq.{set-getD}
 use Rattle.logic.specs.Test.{if_then_else_, both}
 use Rattle.coerce.specs.Laws.{joint-same}
 use Rattle.model.specs.Kinds.{sequenceKind}
@@ -57,7 +57,7 @@ meets-itself options levels kind h = rw (lt-leb sequenceKind kind h, joint-same 
 pub observed-again : (options kind levels here behind place n : ℕ) (t : List ℕ) → word t place kindWord ≡ kind → kind < sequenceKind → out (T.Next behind n) t ≡ observed options false kind levels here behind place n t
 unfolding stored if_then_else_
 observed-again options kind levels here behind place n t e h =
-    observe-kind options levels kind kind place t (M.Kind kind) (sym e) (meets-itself options levels kind h) false here behind n kind t refl (sym (rw e at (set-getD t (place * 16 + kindWord) 0)))
+    observe-kind options levels kind kind place t (M.Kind kind) (sym e) (meets-itself options levels kind h) false here behind n kind t refl (sym (rw e at (with-word t place kindWord)))
 
 pub observe-known : (options : ℕ) (isNull : Bool) (before kind levels here behind place n : ℕ) (t : List ℕ) (known : Bool) → before ≡ word t place kindWord → known ≡ isKnown isNull before kind → known ≡ true →
     out (T.Next behind n) t ≡ observed options isNull kind levels here behind place n t

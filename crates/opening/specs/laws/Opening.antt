@@ -11,8 +11,9 @@ use Rattle.refusal.specs.declared.Refusal.the-variants as F
 use Rattle.text.specs.declared.Name.{Name}
 use Rattle.text.specs.Name.{bytesOf}
 use Rattle.text.specs.Utf8.{isUtf8}
-use Rattle.words.specs.Word.{word}
+use Rattle.words.specs.Word.{word, IsRow, IsTable}
 use Rattle.model.specs.Kinds.{unionKind}
+use Rattle.model.specs.Tracing.{placeLimit}
 use Rattle.shapes.specs.declared.Step.{Step}
 use Rattle.shapes.specs.declared.Step.the-variants as S
 use Rattle.shapes.specs.Steps.{fieldCode, Inside, Good}
@@ -35,7 +36,6 @@ use Rattle.shapes.specs.Field.{fieldAt}
 use Rattle.opening.specs.Opening.{held, containerMade, variantHeld, Opening, opening, fieldHeld, fieldOpened, SoundOpened}
 use native.Mathlib.Nat.{le-refl}
 use native.Mathlib.Omega.{arith}
-use lib.ListN.{length}
 use Rattle.growth.specs.laws.Growth.{child-ready, ensured-grows, sound-touched}
 
 -- a container is opened
@@ -131,11 +131,11 @@ module _ (text u : List ℕ) (did : Ensured) (s : SoundEnsured text u did) (chil
   child-sound : Sound text u m × (child < m)
   child-sound = rw e at s
 
-  pub child-room : 16384 ≤ length u
+  pub child-room : IsTable u
   child-room = child-sound .0 .linked .room
 
-  pub child-place : child < 1024
-  child-place = let b : m ≤ 1024 = child-sound .0 .linked .most in let h : child < m = child-sound .1 in omega arith
+  pub child-place : IsRow child
+  child-place = let b : m ≤ placeLimit = child-sound .0 .linked .most in let h : child < m = child-sound .1 in omega arith
 
   pub child-held : (place : ℕ) (v : List ℕ) → v ≡ touched place child u → SoundEnsured text v (E.Child child m)
   child-held place v h = (sound-touched text u v m place child h (child-sound .0), child-sound .1)

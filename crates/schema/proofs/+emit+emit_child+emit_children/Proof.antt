@@ -6,12 +6,15 @@ use mathlib.Core.Path.{_≡_, refl}
 use Prim.Native.Nat.{ℕ, _+_, _*_, _<_, _≤_}
 use native.Mathlib.Omega.{arith}
 use lib.ListN.{length}
+use Rattle.words.specs.Word.{IsRow}
+use Rattle.model.specs.Tracing.{placeLimit}
 use Rattle.walk.proofs.gaps.Reads as gaps
 use Rattle.walk.proofs.next_child.Reads as next-child
 use Rattle.walk.proofs.sum.Reads as sum
 use Rattle.order.proofs.variant.Reads as variant
 use Rattle.words.proofs.get.Reads as get
 use Rattle.places.specs.Layout.{Linked}
+use Rattle.walk.specs.Order.{childLimit}
 use Rattle.schema.specs.Emit.{writing, fieldsFrom, emittedAt}
 use Rattle.schema.proofs.Ways.{spent, ended, next, in-child, some-level, leaf, opened}
 use Rattle.schema.proofs.is_lacking.Reads as is-lacking
@@ -106,8 +109,8 @@ emit-children-claims t = (
 -- the place and the table stand in it too, so that they are at hand in a long turn
 abbrev Inv-loop : emit-children-lts.InvT-loop
 Inv-loop options text levels kind place table fields₀ names₀ so-far₀ slot₀ child₀ left₀ fields names so-far slot child left =
-    (fieldsFrom table (emittedAt (options .word) text table levels) kind place left slot child (writing (so-far .records) (so-far .names) fields names) ≡ fieldsFrom table (emittedAt (options .word) text table levels) kind place 1024 0 child₀ (writing (so-far₀ .records) (so-far₀ .names) fields₀ names₀))
-    × (child < 1024) × (place < 1024) × Linked text table 1024 × (so-far .records ≤ length fields) × (so-far .names ≤ length names) × (length fields ≡ length fields₀) × (length names ≡ length names₀)
+    (fieldsFrom table (emittedAt (options .word) text table levels) kind place left slot child (writing (so-far .records) (so-far .names) fields names) ≡ fieldsFrom table (emittedAt (options .word) text table levels) kind place childLimit 0 child₀ (writing (so-far₀ .records) (so-far₀ .names) fields₀ names₀))
+    × IsRow child × IsRow place × Linked text table placeLimit × (so-far .records ≤ length fields) × (so-far .names ≤ length names) × (length fields ≡ length fields₀) × (length names ≡ length names₀)
 
 abbrev μ-loop : emit-children-lts.MeasureT-loop
 μ-loop options text levels kind place table fields₀ names₀ so-far₀ slot₀ child₀ left₀ fields names so-far slot child left = left

@@ -6,7 +6,8 @@ use mathlib.Core.Bool.{false}
 use mathlib.Core.List.{List}
 use Prim.Native.Nat.{ℕ, zero, suc, _-_, _<_, _≤_}
 use native.Mathlib.Omega.{arith}
-use Rattle.walk.specs.Order.{nextChild}
+use Rattle.words.specs.Word.{IsRow}
+use Rattle.walk.specs.Order.{nextChild, childLimit}
 use Rattle.schema.specs.Emit.{countWith, countFrom}
 use Rattle.schema.proofs.count_children.Statement.{statement}
 use Rattle.schema.proofs.count_children.Tie as tie
@@ -30,7 +31,7 @@ module _ (t : List ℕ) (kind place count child whole : ℕ) where
 
 abbrev Inv-loop : tie.InvT-loop
 Inv-loop table kind place count₀ child₀ left₀ count child left =
-    (countFrom table kind place left count child ≡ countFrom table kind place 1024 0 (nextChild table false kind place 0)) × (child < 1024)
+    (countFrom table kind place left count child ≡ countFrom table kind place childLimit 0 (nextChild table false kind place 0)) × IsRow child
 
 abbrev μ-loop : tie.MeasureT-loop
 μ-loop table kind place count₀ child₀ left₀ count child left = left

@@ -10,13 +10,13 @@ use Rattle.logic.specs.Test.{if_then_else_}
 use Rattle.datatype.specs.Codes.{null}
 use Rattle.refusal.specs.declared.Refusal.the-variants as F
 use Rattle.words.specs.Word.{word}
-use Rattle.places.specs.Layout.{kindWord, nullWord}
+use Rattle.places.specs.Layout.{kindWord, nullWord, rootPlace}
 use Rattle.schema.specs.declared.Emitted.the-variants as E
 use Rattle.schema.specs.Emit.{writing, answered, isStructRoot, emittedAt, fieldsBelow, levelLimit, finished}
 use Rattle.schema.proofs.finish.Statement.{statement}
 use Rattle.schema.proofs.finish.Tie as tie
 
-module _ (options : ℕ) (text t fields names : List ℕ) (records bytes below kind seen : ℕ) (k : kind ≡ word t 0 kindWord) (u : seen ≡ word t 0 nullWord) where
+module _ (options : ℕ) (text t fields names : List ℕ) (records bytes below kind seen : ℕ) (k : kind ≡ word t rootPlace kindWord) (u : seen ≡ word t rootPlace nullWord) where
   nullable-root : seen ≡ 1 → answered (E.Refused F.NullableRoot) fields names ≡ finished options text t fields names records bytes below
   unfolding finished if_then_else_
   nullable-root e = rw (← u, eq-eqb seen 1 e)
@@ -43,7 +43,7 @@ module _ (options : ℕ) (text t fields names : List ℕ) (records bytes below k
           short-names h =
               rw (← u, ne-eqb seen 1 n, ← k, ne-eqb kind null m, sym r ∙ not-false root s, ← d, le-ltb (length fields) (needed * 8) g, ← b, lt-ltb (length names) many h)
 
-          emitted : (i j : ℕ) (out named : List ℕ) → many ≤ length names → writing i j out named ≡ fieldsBelow t (emittedAt options text t levelLimit) kind 0 (writing 0 0 fields names) →
+          emitted : (i j : ℕ) (out named : List ℕ) → many ≤ length names → writing i j out named ≡ fieldsBelow t (emittedAt options text t levelLimit) kind rootPlace (writing 0 0 fields names) →
               answered (E.Schema records bytes below) out named ≡ finished options text t fields names records bytes below
           unfolding finished if_then_else_
           emitted i j out named h e =

@@ -4,15 +4,16 @@ use borrow.Author.Tests.{ne-eqb, eqb-false, not-true}
 use mathlib.Core.Path.{_≡_, sym, _∙_}
 use mathlib.Core.Bool.{Bool, true, false, not, _&&_}
 use mathlib.Core.List.{List}
-use Prim.Native.Nat.{ℕ, _-_, _/_, _%_, _<_, _≤_}
+use Prim.Native.Nat.{ℕ, _-_, _/_, _%_, _≤_}
 use native.Mathlib.Omega.{arith}
 use lib.Dec.{eqb}
 use Rattle.logic.specs.Test.{if_then_else_, both}
 use Rattle.text.specs.declared.Name.{Name}
 use Rattle.text.specs.Name.{bytesOf}
 use Rattle.text.specs.Decimal.{decimal}
-use Rattle.words.specs.Word.{word}
+use Rattle.words.specs.Word.{word, IsRow}
 use Rattle.model.specs.Emission.{elementName, keyName, valueName}
+use Rattle.model.specs.Tracing.{placeLimit}
 use Rattle.shapes.specs.Steps.{fieldCode, Inside}
 use Rattle.places.specs.Layout.{stepWord, Linked}
 use Rattle.order.specs.Flat.{givenName}
@@ -21,7 +22,7 @@ use Rattle.schema.specs.Put.{Put, putBytes}
 use Rattle.schema.proofs.put_name.Statement.{statement}
 use Rattle.schema.proofs.put_name.Tie as tie
 
-inside : (text t : List ℕ) (child : ℕ) (name : Name) → Linked text t 1024 → child < 1024 → name ≡ givenName t child → Inside text name
+inside : (text t : List ℕ) (child : ℕ) (name : Name) → Linked text t placeLimit → IsRow child → name ≡ givenName t child → Inside text name
 inside text t child name sound here g = rw g (sound .names child here)
 
 -- words of positions start at 4

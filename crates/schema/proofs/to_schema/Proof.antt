@@ -4,6 +4,7 @@ use mathlib.Core.Path.{_≡_, sym, _∙_}
 use mathlib.Core.List.{List}
 use Prim.Native.Nat.{ℕ}
 use Rattle.refusal.specs.declared.Refusal.{Refusal}
+use Rattle.places.specs.Layout.{rootPlace}
 use Rattle.walk.specs.declared.Walked.{Walked}
 use Rattle.walk.specs.declared.Walked.the-variants as W
 use Rattle.walk.specs.Walk.{walked}
@@ -13,7 +14,7 @@ use Rattle.schema.proofs.to_schema.Statement.{statement}
 use Rattle.schema.proofs.to_schema.Tie as tie
 
 -- t is the table with the children in order
-module _ (options : ℕ) (text t ordered fields names : List ℕ) (o : t ≡ ordered) (answer : Walked) (a : answer ≡ walked options text t levelLimit 0) where
+module _ (options : ℕ) (text t ordered fields names : List ℕ) (o : t ≡ ordered) (answer : Walked) (a : answer ≡ walked options text t levelLimit rootPlace) where
   refused : (refusal : Refusal) → answer ≡ W.Refused refusal → answered (E.Refused refusal) fields names ≡ toSchemaAt options text ordered fields names
   unfolding toSchemaAt
   refused refusal e = rw (← o, sym a ∙ e)

@@ -15,6 +15,7 @@ use Rattle.words.specs.Word.{word}
 use Rattle.text.specs.Name.{bytesOf, tagOf}
 use Rattle.text.specs.NameLaws.{eqName-true}
 use Rattle.text.specs.Utf8.{isUtf8}
+use Rattle.model.specs.Tracing.{placeLimit}
 use Rattle.shapes.specs.declared.Step.{Step}
 use Rattle.shapes.specs.declared.Step.the-variants as S
 use Rattle.shapes.specs.Steps.{fieldCode, noName, unpackedName}
@@ -30,7 +31,7 @@ childrenLeft child = (1025 - child) % 1025
 
 pub left-falls : (text t : List ℕ) (n child x : ℕ) → Sound text t n → child < n → (child ≡ 0 → ⊥) → x ≡ word t child nextWord → childrenLeft x < childrenLeft child
 left-falls text t n child x s h z e =
-    let m : n ≤ 1024 = s .linked .most in
+    let m : n ≤ placeLimit = s .linked .most in
     let b : x < n = next-below text t n child x s h e in
     cases (eqb x 0)
     (λ d. let o : x ≡ 0 = eqb-true x 0 d in omega arith)
@@ -138,7 +139,7 @@ module _ (text t : List ℕ) (n tag child here : ℕ) (s : Sound text t n) (h : 
     pub past-falls : (x : ℕ) → x ≡ word t here nextWord → childrenLeft x < childrenLeft child
     past-falls x e =
         let up : child ≤ here = p .rises in
-        let m : n ≤ 1024 = s .linked .most in
+        let m : n ≤ placeLimit = s .linked .most in
         let b : here < n = past-below in
         let l : childrenLeft x < childrenLeft here = left-falls text t n here x s b past-known e in
         omega arith
@@ -170,7 +171,7 @@ unfolding inBlock
 in-block place i n t e = both (ltb i (word t place blockWord)) _ e λ a b. ltb-true (word t place firstWord + i) n b
 
 -- and so is the child at any step, where what the search finds is one
-pub child-below : (text t : List ℕ) (n place : ℕ) → place < n → n ≤ 1024 → ((code : ℕ) (name : Name) → findIn text place code name t < n) → (step : Step) → childAt text place step n t < n
+pub child-below : (text t : List ℕ) (n place : ℕ) → place < n → n ≤ placeLimit → ((code : ℕ) (name : Name) → findIn text place code name t < n) → (step : Step) → childAt text place step n t < n
 unfolding childAt if_then_else_
 child-below text t n place h m found S.Element = found _ noName
 child-below text t n place h m found S.Key = found _ noName

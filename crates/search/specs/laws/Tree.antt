@@ -10,6 +10,7 @@ use Rattle.logic.specs.Test.{if_then_else_, cases, both}
 use Rattle.logic.specs.Turns.{Turn, done, after, turns}
 use Rattle.logic.specs.Within.{Keeps, goes-on-within, ends-within, holds-within}
 use Rattle.words.specs.Word.{word}
+use Rattle.model.specs.Tracing.{placeLimit}
 use Rattle.search.specs.declared.Slot.{Slot}
 use Rattle.places.specs.Layout.{rootWord, leftWord, rightWord, stepWord}
 use Rattle.search.specs.Tree.{Seeking, follow, seek, seekAt, seekFrom, seekStop, seekTurn, seeking, sideWord, slot}
@@ -64,12 +65,12 @@ module _ (code n : ℕ) (t : List ℕ) (F : ℕ → Type 0) (root : F rootWord) 
       (λ d. rw (e, d) (record { here = h .0; link = h .1; leads = refl; at = λ z. eqb-true (word t child stepWord) code d }))
       (λ d. let b = follow-below place field n t (eqb-false child 0 e) in rw (e, d) ((b .1, side F left right bits), omega (arith, b .0, b .1))))
 
-  pub seek-ends : (place : ℕ) → place < n → n ≤ 1024 → Ends (seek place code n t)
+  pub seek-ends : (place : ℕ) → place < n → n ≤ placeLimit → Ends (seek place code n t)
   unfolding seekFrom
   seek-ends place h m = holds-within (seekTurn code n t) seekStop Before Ends ahead turn-ends 1025 (seeking (code / 2) place rootWord) (h, root) (omega arith)
 
 -- what it finds is a place
-pub seek-below : (code n : ℕ) (t : List ℕ) (place : ℕ) → place < n → n ≤ 1024 → seek place code n t .child < n
+pub seek-below : (code n : ℕ) (t : List ℕ) (place : ℕ) → place < n → n ≤ placeLimit → seek place code n t .child < n
 seek-below code n t place h m =
     let e = seek-ends code n t (λ w. Unit {0}) tt tt tt place h m in
     let s : Slot = seek place code n t in
@@ -78,7 +79,7 @@ seek-below code n t place h m =
     (λ z. follow-below (s .place) (s .field) n t (eqb-false _ 0 z) .1))
 
 -- one turn of it, in a loop that holds the child that its link leads to
-module _ (code n : ℕ) (t : List ℕ) (bits place field child : ℕ) (r : Slot) (most : n ≤ 1024) (here : place < n) (leads : child ≡ follow place field n t) (whole : seekFrom code n t (seeking bits place field) ≡ r) where
+module _ (code n : ℕ) (t : List ℕ) (bits place field child : ℕ) (r : Slot) (most : n ≤ placeLimit) (here : place < n) (leads : child ≡ follow place field n t) (whole : seekFrom code n t (seeking bits place field) ≡ r) where
   abbrev turn : Seeking → Turn Seeking Slot
   turn = seekTurn code n t
 
@@ -136,6 +137,6 @@ module _ (code n n′ : ℕ) (t t′ : List ℕ) (P : ℕ → ℕ → Type 0)
       (λ d. rw (e, d, x .0, e, x .1, d) (p, λ h. refl))
       (λ d. rw (e, d, x .0, e, x .1, d) (again-from g (bits / 2) c (sideWord bits) (omega (arith, b .0, b .1)) (side (P c) (x .2) (x .3) bits))))
 
-  pub seek-again : (p : ℕ) → P p rootWord → n ≤ 1024 → Again (seek p code n t) (seek p code n′ t′)
+  pub seek-again : (p : ℕ) → P p rootWord → n ≤ placeLimit → Again (seek p code n t) (seek p code n′ t′)
   unfolding seekFrom
   seek-again p h m = again-from 1025 (code / 2) p rootWord (omega arith) h

@@ -1,0 +1,16 @@
+-- `get` reads the word where it stands.
+use borrow.Author.Needs.{needs}
+use mathlib.Core.Path.{sym}
+use Rattle.words.proofs.Ways.{word-at}
+use Rattle.words.proofs.get.Statement.{statement}
+use Rattle.words.proofs.get.Tie as tie
+
+pub get-spec : {M : Type 1} → statement M
+get-spec =
+    tie.close
+    (tie.spec
+    (λ c. search needs)
+    (λ c. search needs)
+    (λ c. search needs)
+    (λ c. search needs)
+    (λ c. sym (word-at _ _ _ (search needs) (search needs))))

@@ -1,0 +1,17 @@
+-- `set` stores the word where it stands.
+use borrow.Author.Needs.{needs}
+use mathlib.Core.Path.{sym}
+use Rattle.words.proofs.Ways.{with-at}
+use Rattle.words.proofs.set.Statement.{statement}
+use Rattle.words.proofs.set.Tie as tie
+
+pub set-spec : {M : Type 1} → statement M
+set-spec =
+    tie.close
+    (tie.spec
+    (λ c. search needs)
+    (λ c. search needs)
+    (λ c. search needs)
+    (λ c. search needs)
+    (λ c. search needs)
+    (λ c. sym (with-at _ _ _ (search needs) (search needs) _)))
