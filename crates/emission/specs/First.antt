@@ -27,8 +27,8 @@ use Rattle.refine.specs.Rep.{Rep, RepIn}
 use Rattle.refine.specs.Erase.{erase, eraseIn}
 use Rattle.walk.specs.declared.Walked.{Walked}
 use Rattle.walk.specs.declared.Walked.the-variants as W
-use Rattle.order.specs.Flat.{variantAt}
-use Rattle.walk.specs.Order.{isOrdered, nextOrdered, nextChild, onward, datalessAt}
+use Rattle.places.specs.Reading.{variantAt, isOrdered, nextOrdered, nextChild}
+use Rattle.walk.specs.Order.{onward, datalessAt}
 use Rattle.walk.specs.Order as Order
 use Rattle.walk.specs.Walk.{childrenBelow, walkedBy, walked}
 use Rattle.emission.specs.Arranged.{orderS, Enumerates, Orders, OrdersIn, FitS, FitIn}

@@ -20,8 +20,8 @@ use Rattle.refine.specs.Steps.{stepCodeOf}
 use Rattle.refine.specs.Numbers.{within, withinIn, Good, GoodIn, or-right}
 use Rattle.refine.specs.Rep.{Cell}
 use Rattle.refine.specs.Erase.{erase, eraseIn}
-use Rattle.order.specs.Flat.{variantCode, variantAt}
-use Rattle.walk.specs.Order.{childName}
+use Rattle.places.specs.Reading.{variantAt, childName}
+use Rattle.order.specs.Flat.{variantCode}
 use Rattle.emission.specs.Arranged.{insertNumberS, byNumberS, stepFits}
 
 -- ---- how many places a tree has, and how many children a place

@@ -21,9 +21,9 @@ use Rattle.refine.specs.Spots.{Spot, spot, Spots, no-spots, child, num}
 use Rattle.refine.specs.Steps.{near, nameIn}
 use Rattle.refine.specs.Numbers.{firstOf, within, withinIn, Good, GoodIn, nearIn, both-false, or-right, not-both, un-true, bounded, self}
 use Rattle.refine.specs.Rep.{Cell, Rep, RepIn, same-block}
-use Rattle.order.specs.Flat.{variantAt, givenName, linkAt, isBefore, sortedChildren, sortedPlace, sortedPlaces}
+use Rattle.places.specs.Reading.{givenName, variantAt, linkAt, isOrdered, nextOrdered, nextChild}
+use Rattle.order.specs.Flat.{isBefore, sortedChildren, sortedPlace, sortedPlaces}
 use Rattle.order.specs.Laws.{length-ordered, words-ordered}
-use Rattle.walk.specs.Order.{isOrdered, nextOrdered, nextChild}
 use Rattle.emission.specs.Chain.{among, here, Chain, Sorted, Distinct, InLine, Lined, link-same, link-is, chain-kept, line-kept, or-swap, before-same, unique, lined}
 use Rattle.emission.specs.Arranged.{insertNumberS, byNumberS, insertNameS, byNameS, orderS, Enumerates, Rising, Orders, OrdersIn, stepFits, FitS, FitIn}
 use Rattle.emission.specs.FirstPlaces.{AllS, number-all, child-variant}

@@ -25,8 +25,8 @@ use Rattle.refine.specs.Spots.{Spot, spot, Spots, no-spots, child, num, kindS}
 use Rattle.refine.specs.Numbers.{Good}
 use Rattle.refine.specs.Rep.{Rep, Row, ownWords}
 use Rattle.refine.specs.Erase.{erase, eraseIn}
-use Rattle.order.specs.Flat.{variantAt}
-use Rattle.walk.specs.Order.{childName, nextChild, childLimit, datalessAt}
+use Rattle.places.specs.Reading.{variantAt, childName, childLimit, nextChild}
+use Rattle.walk.specs.Order.{datalessAt}
 use Rattle.walk.specs.Walk.{sumOf, gapsAt}
 use Rattle.schema.specs.Put.{recordOf}
 use Rattle.schema.specs.Emit.{countFrom, fieldCount, isDictionary, Writing, writing, both, gapsIn, entriesIn, fieldAt, isLeaf, Writer, childIn, fieldsFrom, fieldsBelow, emittedBy, emittedAt, levelLimit}

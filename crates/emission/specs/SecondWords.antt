@@ -24,8 +24,8 @@ use Rattle.refine.specs.Spots.{Spot, spot, Spots, no-spots, child, num, kindS}
 use Rattle.refine.specs.Numbers.{Good, GoodIn}
 use Rattle.refine.specs.Rep.{Cell, Rep, RepIn}
 use Rattle.refine.specs.Erase.{erase, eraseIn}
-use Rattle.order.specs.Flat.{variantAt, givenName}
-use Rattle.walk.specs.Order.{positionAt, childName, isOrdered, nextOrdered, nextChild, onward, childLimit}
+use Rattle.places.specs.Reading.{givenName, variantAt, childName, childLimit, isOrdered, nextOrdered, nextChild}
+use Rattle.walk.specs.Order.{positionAt, onward}
 use Rattle.walk.specs.Order.{datalessFrom as datalessAtFrom}
 use Rattle.emission.specs.FirstPlaces as First
 use Rattle.emission.specs.FirstPlaces.{manyS, AllS, number-all, number-places, child-variant}

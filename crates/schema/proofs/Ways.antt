@@ -10,8 +10,7 @@ use Rattle.logic.specs.Test.{if_then_else_, neither}
 use Rattle.words.specs.Word.{word}
 use Rattle.model.specs.Kinds.{isContainer}
 use Rattle.places.specs.Layout.{kindWord, nullWord}
-use Rattle.order.specs.Flat.{variantAt}
-use Rattle.walk.specs.Order.{nextChild}
+use Rattle.places.specs.Reading.{variantAt, nextChild}
 use Rattle.walk.specs.Walk.{sumOf, gapsAt}
 use Rattle.schema.specs.Put.{put, putGaps}
 use Rattle.schema.specs.Emit.{Writing, writing, Writer, gapsIn, entriesIn, fieldAt, isDictionary, isLeaf, lackingAt, childIn, fieldsFrom, fieldsBelow, emittedBy, emittedAt}

@@ -16,8 +16,8 @@ use Rattle.walk.specs.declared.Walked.{Walked}
 use Rattle.walk.specs.declared.Walked.the-variants as W
 use Rattle.schema.specs.declared.Emitted.{Emitted}
 use Rattle.schema.specs.declared.Emitted.the-variants as E
-use Rattle.order.specs.Flat.{variantAt}
-use Rattle.walk.specs.Order.{childName, nextChild, datalessAt, childLimit}
+use Rattle.places.specs.Reading.{variantAt, childName, childLimit, nextChild}
+use Rattle.walk.specs.Order.{datalessAt}
 use Rattle.walk.specs.Walk.{sumOf, gapsAt, walked}
 use Rattle.schema.specs.Put.{Put, put, putBytes, recordOf, putGaps}
 

@@ -6,7 +6,7 @@ use mathlib.Core.Bool.{false}
 use mathlib.Core.List.{List}
 use Prim.Native.Nat.{ℕ, zero, suc, _-_, _<_, _≤_}
 use native.Mathlib.Omega.{arith}
-use Rattle.walk.specs.Order.{nextChild}
+use Rattle.places.specs.Reading.{nextChild}
 use Rattle.schema.specs.Emit.{countWith, countFrom}
 use Rattle.schema.proofs.count_children.Statement.{statement}
 use Rattle.schema.proofs.count_children.Tie as tie

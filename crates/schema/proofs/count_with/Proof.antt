@@ -6,7 +6,7 @@ use mathlib.Core.List.{List}
 use Prim.Native.Nat.{ℕ}
 use Rattle.logic.specs.Test.{if_then_else_}
 use Rattle.model.specs.Kinds.{unionKind}
-use Rattle.order.specs.Flat.{variantAt}
+use Rattle.places.specs.Reading.{variantAt}
 use Rattle.walk.specs.Walk.{sumOf}
 use Rattle.schema.specs.Emit.{countWith}
 use Rattle.schema.proofs.count_with.Statement.{statement}

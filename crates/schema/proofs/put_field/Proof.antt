@@ -12,7 +12,7 @@ use Rattle.options.specs.Word.{dictionaryType}
 use Rattle.words.specs.Word.{word}
 use Rattle.model.specs.Emission.{typeOf, strategyOf}
 use Rattle.places.specs.Layout.{kindWord}
-use Rattle.walk.specs.Order.{childName}
+use Rattle.places.specs.Reading.{childName}
 use Rattle.schema.specs.Put.{put, putBytes, recordOf}
 use Rattle.schema.specs.Emit.{writing, both, isDictionary, fieldCount, fieldAt}
 use Rattle.schema.proofs.put_field.Statement.{statement}

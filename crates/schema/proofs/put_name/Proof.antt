@@ -15,8 +15,7 @@ use Rattle.words.specs.Word.{word}
 use Rattle.model.specs.Emission.{elementName, keyName, valueName}
 use Rattle.shapes.specs.Steps.{fieldCode, Inside}
 use Rattle.places.specs.Layout.{stepWord, Linked}
-use Rattle.order.specs.Flat.{givenName}
-use Rattle.walk.specs.Order.{childName}
+use Rattle.places.specs.Reading.{givenName, childName}
 use Rattle.schema.specs.Put.{Put, putBytes}
 use Rattle.schema.proofs.put_name.Statement.{statement}
 use Rattle.schema.proofs.put_name.Tie as tie

@@ -16,8 +16,8 @@ use Rattle.model.specs.Kinds.{sequenceKind, mapKind, unionKind}
 use Rattle.places.specs.Layout.{kindWord}
 use Rattle.walk.specs.declared.Walked.{Walked}
 use Rattle.walk.specs.declared.Walked.the-variants as W
-use Rattle.walk.specs.Order.{nextChild, datalessAt}
-use Rattle.walk.specs.Walk.{slotBehind, isBeyond, recordsWith, namesWith, columnsWith, childrenFrom, childrenBelow, walkedBy, walked}
+use Rattle.places.specs.Reading.{nextChild}
+use Rattle.walk.specs.Walk.{datalessAt, slotBehind, isBeyond, recordsWith, namesWith, columnsWith, childrenFrom, childrenBelow, walkedBy, walked}
 
 -- ---- a turn over a child: what is left gives what the whole gives
 module _ (text t : List ℕ) (inner : ℕ → Walked) (kind place records names below slot child : ℕ) (whole : Walked) where
