@@ -23,7 +23,7 @@ use Rattle.refine.specs.Numbers.{firstOf, within, withinIn, Good, GoodIn, nearI
 use Rattle.refine.specs.Rep.{Cell, Rep, RepIn, same-block}
 use Rattle.places.specs.Reading.{givenName, variantAt, linkAt, isOrdered, nextOrdered, nextChild}
 use Rattle.order.specs.Flat.{isBefore, sortedChildren, sortedPlace, sortedPlaces}
-use Rattle.order.specs.Laws.{length-ordered, words-ordered}
+use Rattle.order.specs.laws.Flat.{length-ordered, words-ordered}
 use Rattle.emission.specs.Chain.{among, here, Chain, Sorted, Distinct, InLine, Lined, link-same, link-is, chain-kept, line-kept, or-swap, before-same, unique, lined}
 use Rattle.emission.specs.Arranged.{insertNumberS, byNumberS, insertNameS, byNameS, orderS, Enumerates, Rising, Orders, OrdersIn, stepFits, FitS, FitIn}
 use Rattle.emission.specs.FirstPlaces.{AllS, number-all, child-variant}

@@ -28,8 +28,9 @@ use Rattle.refine.specs.Erase.{erase, eraseIn}
 use Rattle.places.specs.Reading.{variantAt, childName, childLimit, nextChild}
 use Rattle.walk.specs.Order.{datalessAt}
 use Rattle.walk.specs.Walk.{sumOf, gapsAt}
-use Rattle.schema.specs.Put.{recordOf}
-use Rattle.schema.specs.Emit.{countFrom, fieldCount, isDictionary, Writing, writing, both, gapsIn, entriesIn, fieldAt, isLeaf, Writer, childIn, fieldsFrom, fieldsBelow, emittedBy, emittedAt, levelLimit}
+use Rattle.schema.specs.Put.{recordOf, Writing, writing, both, gapsIn, entriesIn}
+use Rattle.schema.specs.Fields.{countFrom, fieldCount, isDictionary, isLeaf}
+use Rattle.schema.specs.Emit.{fieldAt, Writer, childIn, fieldsFrom, fieldsBelow, emittedBy, emittedAt, levelLimit}
 use Rattle.emission.specs.Arranged.{byNumberS, insertNameS, byNameS, orderS, Enumerates, Rising, Orders, FitS}
 use Rattle.emission.specs.SecondPut.{wrote, Writes, writes-none, writes-next, writes-as, writes-both, record-is, gapRecords, gap-records, gap-names, gap-count, writes-gaps, writes-entries, entries-none}
 use Rattle.emission.specs.FirstPlaces.{manyS, AllS}

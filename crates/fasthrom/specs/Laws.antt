@@ -31,7 +31,7 @@ use Rattle.refine.specs.Refinement.{traced-is-model}
 use Rattle.schema.specs.declared.Emitted.the-variants as E
 use Rattle.schema.specs.Emit.{Answered, answered, toSchemaAt}
 use Rattle.order.specs.Flat.{sortedPlaces}
-use Rattle.order.specs.Laws.{tail-ordered}
+use Rattle.order.specs.laws.Flat.{tail-ordered}
 use Rattle.emission.specs.Refinement.{Emits, schema-is-model}
 use Rattle.refusal.specs.declared.Refusal.{Refusal}
 use Rattle.refusal.specs.declared.Refusal.the-variants as F
