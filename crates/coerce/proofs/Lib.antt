@@ -1,1 +1,2 @@
-mod Ways
+pub mod Codes
+pub mod Ways

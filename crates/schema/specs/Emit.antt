@@ -27,18 +27,18 @@ use Rattle.schema.specs.Fields.{fieldCount, isStructRoot, lackingAt, isD
 unfoldable pub fieldAt : ℕ → List ℕ → List ℕ → ℕ → Bool → ℕ → Writing → Writing
 fieldAt options text t place nullable number w =
     if isDictionary options t place then
-      both (recordOf (dictionaryType options) nullable noStrategy number (length (childName text t place)) 0) (childName text t place) w
+    both (recordOf (dictionaryType options) nullable noStrategy number (length (childName text t place)) 0) (childName text t place) w
     else
-      both
-      (recordOf
-      (typeOf options (word t place kindWord) % 256)
-      nullable
-      (strategyOf (word t place kindWord))
-      number
-      (length (childName text t place))
-      (fieldCount t (word t place kindWord) place))
-      (childName text t place)
-      w
+    both
+    (recordOf
+    (typeOf options (word t place kindWord) % 256)
+    nullable
+    (strategyOf (word t place kindWord))
+    number
+    (length (childName text t place))
+    (fieldCount t (word t place kindWord) place))
+    (childName text t place)
+    w
 
 -- a writer of the field of a place, which a sample lacks or not, with a variant number
 abbrev pub Writer : Type 0
@@ -76,8 +76,8 @@ emittedAt options text t (suc levels) = emittedBy options text t false (fieldsBe
 abbrev pub emittedBelow : ℕ → List ℕ → List ℕ → ℕ → ℕ → ℕ → Writing → Writing
 emittedBelow options text t levels = fieldsBelow t (emittedAt options text t levels)
 
-abbrev pub emittedChild : ℕ → List ℕ → List ℕ → ℕ → ℕ → ℕ → ℕ → ℕ → Writing → Writing
-emittedChild options text t levels = childIn t (emittedAt options text t levels)
+abbrev pub childAt : ℕ → List ℕ → List ℕ → ℕ → ℕ → ℕ → ℕ → ℕ → Writing → Writing
+childAt options text t levels = childIn t (emittedAt options text t levels)
 
 -- ---- the schema of what was traced, whose root is place 0
 -- more levels than the tree is deep: a place's number is above its parent's

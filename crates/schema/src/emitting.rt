@@ -7,7 +7,7 @@ ghost use Rattle.words.specs.Word.{IsRow};
 ghost use Rattle.model.specs.Tracing.{placeLimit};
 ghost use Rattle.places.specs.Layout.{Settled};
 ghost use Rattle.schema.specs.Put.{Within, Writes};
-ghost use Rattle.schema.specs.Emit.{fieldAt, emittedAt, emittedBelow, emittedChild, Finishes, Emits};
+ghost use Rattle.schema.specs.Emit.{fieldAt, emittedAt, emittedBelow, childAt, Finishes, Emits};
 use super::Emitted;
 use super::fields;
 use super::putting;
@@ -184,7 +184,7 @@ fn emit_child(
     requires { ⌜ Settled (now text) (now table) × IsRow place ⌝ }
     requires { ⌜ IsRow child ⌝ }
     requires { ⌜ Within ends (now fields) (now names) ⌝ }
-    ensures { λ r. ⌜ Writes (emittedChild (options .word) (atEntry text) (atEntry table) levels kind place slot child) ends fields names r ⌝ }
+    ensures { λ r. ⌜ Writes (childAt (options .word) (atEntry text) (atEntry table) levels kind place slot child) ends fields names r ⌝ }
 {
     let at = ends.records;
     let start = ends.names;
