@@ -1,6 +1,5 @@
 -- Laws of reading a place: a step comes back from its word and its name, names end inside the text, links are places.
 use mathlib.Core.Path.{_≡_, refl, sym, ap}
-use mathlib.Core.Bool.{Bool}
 use mathlib.Core.List.{List}
 use Prim.Native.Nat.{ℕ, _+_, _*_, _%_, _<_}
 use native.Mathlib.Omega.{arith}
@@ -10,14 +9,16 @@ use Rattle.logic.specs.Test.{if_then_else_, cases}
 use Rattle.logic.specs.Flag.{if-either}
 use Rattle.words.specs.Word.{word}
 use Rattle.text.specs.declared.Name.{Name}
+use Rattle.model.specs.Kinds.{variantOf}
 use Rattle.model.specs.Tracing.{placeLimit}
 use Rattle.shapes.specs.declared.Step.{Step}
 use Rattle.shapes.specs.declared.Step.the-variants as S
-use Rattle.shapes.specs.Steps.{codeOf, fieldCode, nameOf, Inside}
+use Rattle.shapes.specs.Steps.{codeOf, fieldCode, Inside}
 use Rattle.places.specs.Layout.{stepWord, Linked}
-use Rattle.places.specs.Reading.{givenName, numberIn, stepOf, stepAt, linkAt}
+use Rattle.places.specs.Reading.{givenName, numberIn, stepOf, stepAt, variantIn, stepIn, linkAt}
 
--- ---- a step comes back from its word and its name, where its number is of 16 bits
+-- ---- a step and its word
+-- the number that its word holds
 abbrev pub numberOf : Step → ℕ
 numberOf S.Element = 0
 numberOf S.Key = 0
@@ -26,21 +27,8 @@ numberOf (S.Field name) = 0
 numberOf (S.Position i) = i
 numberOf (S.Variant number name) = number
 
-pub step-back : (s : Step) → numberOf s < 65536 → stepOf (codeOf s) (nameOf s) ≡ s
-unfolding stepOf if_then_else_
-step-back S.Element l = refl
-step-back S.Key l = refl
-step-back S.Value l = refl
-step-back (S.Field name) l = refl
-step-back (S.Position i) l =
-    let n : numberIn (4 + 2 * i) ≡ i = omega arith in
-    rw (ne-eqb (4 + 2 * i) 0 (omega arith), ne-eqb (4 + 2 * i) 1 (omega arith), ne-eqb (4 + 2 * i) 2 (omega arith), ne-eqb (4 + 2 * i) 3 (omega arith), eq-eqb ((4 + 2 * i) % 2) 0 (omega arith), n)
-step-back (S.Variant number name) l =
-    let n : numberIn (5 + 2 * number) ≡ number = omega arith in
-    rw (ne-eqb (5 + 2 * number) 0 (omega arith), ne-eqb (5 + 2 * number) 1 (omega arith), ne-eqb (5 + 2 * number) 2 (omega arith), ne-eqb (5 + 2 * number) 3 (omega arith), ne-eqb ((5 + 2 * number) % 2) 0 (omega arith), n)
-
--- ---- the name of a step that is read is the one that the text gave
-abbrev HasName : Name → Step → Type 0
+-- its name, where it has one, is the one that the text gave
+abbrev pub HasName : Name → Step → Type 0
 HasName given S.Element = Unit {0}
 HasName given S.Key = Unit {0}
 HasName given S.Value = Unit {0}
@@ -48,6 +36,31 @@ HasName given (S.Field name) = name ≡ given
 HasName given (S.Position i) = Unit {0}
 HasName given (S.Variant number name) = name ≡ given
 
+-- it comes back from its word and the name given, where its number is of 16 bits
+pub step-back : (given : Name) (s : Step) → numberOf s < 65536 → HasName given s → stepOf (codeOf s) given ≡ s
+unfolding stepOf if_then_else_
+step-back given S.Element l h = refl
+step-back given S.Key l h = refl
+step-back given S.Value l h = refl
+step-back given (S.Field name) l h = ap S.Field (sym h)
+step-back given (S.Position i) l h =
+    let n : numberIn (4 + 2 * i) ≡ i = omega arith in
+    rw (ne-eqb (4 + 2 * i) 0 (omega arith), ne-eqb (4 + 2 * i) 1 (omega arith), ne-eqb (4 + 2 * i) 2 (omega arith), ne-eqb (4 + 2 * i) 3 (omega arith), eq-eqb ((4 + 2 * i) % 2) 0 (omega arith), n)
+step-back given (S.Variant number name) l h =
+    let n : numberIn (5 + 2 * number) ≡ number = omega arith in
+    rw (ne-eqb (5 + 2 * number) 0 (omega arith), ne-eqb (5 + 2 * number) 1 (omega arith), ne-eqb (5 + 2 * number) 2 (omega arith), ne-eqb (5 + 2 * number) 3 (omega arith), ne-eqb ((5 + 2 * number) % 2) 0 (omega arith), n)
+    (ap (S.Variant number) (sym h))
+
+-- its variant number is the model's
+pub variant-in : (text : List ℕ) (s : Step) → variantIn s ≡ variantOf (stepIn text s)
+variant-in text S.Element = refl
+variant-in text S.Key = refl
+variant-in text S.Value = refl
+variant-in text (S.Field name) = refl
+variant-in text (S.Position i) = refl
+variant-in text (S.Variant number name) = refl
+
+-- and whatever the word is, a step that is read has no other name
 has-name : (code : ℕ) (given : Name) → HasName given (stepOf code given)
 unfolding stepOf
 has-name code given =
