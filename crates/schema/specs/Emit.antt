@@ -26,19 +26,11 @@ use Rattle.schema.specs.Fields.{fieldCount, isStructRoot, lackingAt, isD
 -- the record and the name of a place, with nothing below it
 unfoldable pub fieldAt : ℕ → List ℕ → List ℕ → ℕ → Bool → ℕ → Writing → Writing
 fieldAt options text t place nullable number w =
-    if isDictionary options t place then
-    both (recordOf (dictionaryType options) nullable noStrategy number (length (childName text t place)) 0) (childName text t place) w
-    else
-    both
-    (recordOf
-    (typeOf options (word t place kindWord) % 256)
-    nullable
-    (strategyOf (word t place kindWord))
-    number
-    (length (childName text t place))
-    (fieldCount t (word t place kindWord) place))
-    (childName text t place)
-    w
+    let kind = word t place kindWord in
+    let name = childName text t place in
+    let own : ℕ → ℕ → ℕ → Writing = λ type strategy children. both (recordOf type nullable strategy number (length name) children) name w in
+    if isDictionary options t place then own (dictionaryType options) noStrategy 0
+    else own (typeOf options kind % 256) (strategyOf kind) (fieldCount t kind place)
 
 -- a writer of the field of a place, which a sample lacks or not, with a variant number
 abbrev pub Writer : Type 0
@@ -117,5 +109,6 @@ Finishes options text table fields names records bytes below r =
 -- the children of the first so many places are put in order first
 abbrev pub Emits : (options count : ℕ) → (text table fields names : Slice) → Emitted → Type 0
 Emits options count text table fields names r =
-    (answered r (atExit fields) (atExit names) ≡ toSchemaAt options (atEntry text) (atExit table) (atEntry fields) (atEntry names))
-    × (atExit table ≡ sortedPlaces (atEntry text) (atEntry table) count)
+    let ordered = sortedPlaces (atEntry text) (atEntry table) count in
+    (answered r (atExit fields) (atExit names) ≡ toSchemaAt options (atEntry text) ordered (atEntry fields) (atEntry names))
+    × (atExit table ≡ ordered)

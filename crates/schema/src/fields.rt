@@ -25,7 +25,7 @@ fn count_with(kind: u32, table: &[u32], child: usize, count: u32) -> u32
     walk::sum(count, 1)
 }
 
-// How many fields stand below a place, from a child on.
+// How many fields stand below a place.
 fn count_children(table: &[u32], kind: u32, place: usize) -> u32
     requires { ⌜ IsRow place × IsTable (now table) ⌝ }
     ensures { λ r. ⌜ r ≡ countBelow (atEntry table) kind place ⌝ }
@@ -66,6 +66,7 @@ pub fn is_struct_root(kind: u32) -> bool
     kind == shapes::TUPLE
 }
 
+// A string.
 fn is_text(kind: u32) -> bool
     ensures { λ r. ⌜ r ≡ (eqb kind utf8 || eqb kind largeUtf8) ⌝ }
 {

@@ -52,19 +52,19 @@ pub fn put_record(
     nullable: bool,
     strategy: u8,
     number: u8,
-    length: u32,
+    name_length: u32,
     children: u32,
 ) -> usize
-    requires { ⌜ at ≤ lib.ListN.length (now fields) ⌝ }
-    ensures { λ r. ⌜ Puts (recordOf kind nullable strategy number length children) fields at r ⌝ }
+    requires { ⌜ at ≤ length (now fields) ⌝ }
+    ensures { λ r. ⌜ Puts (recordOf kind nullable strategy number «name_length» children) fields at r ⌝ }
 {
     let record = [
         kind,
         bit(nullable),
         strategy,
         number,
-        (length % 256) as u8,
-        (length / 256 % 256) as u8,
+        (name_length % 256) as u8,
+        (name_length / 256 % 256) as u8,
         (children % 256) as u8,
         (children / 256 % 256) as u8,
     ];
