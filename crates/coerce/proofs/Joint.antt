@@ -16,17 +16,21 @@ module _ (word x y p q : ℕ) (a : x ≡ p) (b : y ≡ q) where
       let s : p ≡ q = sym a ∙ e ∙ b in
       cases (eqb p null) (λ n. rw n (rw s)) (λ n. rw (n, ← s, n, eq-eqb p p refl))
 
-  pub first-null : x ≡ null → some q ≡ joint word p q
-  unfolding joint if_then_else_
-  first-null e = rw (eq-eqb p null (sym a ∙ e))
+  -- `none` is the code of Null, as the code is told it
+  module _ (none : ℕ) (z : none ≡ null) where
+    pub first-null : x ≡ none → some q ≡ joint word p q
+    unfolding joint if_then_else_
+    first-null e = rw (eq-eqb p null (sym a ∙ e ∙ z))
 
-  pub second-null : (x ≡ null → ⊥) → y ≡ null → some p ≡ joint word p q
-  unfolding joint if_then_else_
-  second-null d e = rw (ne-eqb p null (λ n. d (a ∙ n)), eq-eqb q null (sym b ∙ e))
+    module _ (d : x ≡ none → ⊥) (other : ℕ) (o : other ≡ null) where
+      pub second-null : y ≡ other → some p ≡ joint word p q
+      unfolding joint if_then_else_
+      second-null e = rw (ne-eqb p null (λ n. d (a ∙ n ∙ sym z)), eq-eqb q null (sym b ∙ e ∙ o))
 
-  pub unequal : (x ≡ null → ⊥) → (y ≡ null → ⊥) → (x ≡ y → ⊥) → (r : Option ℕ) → r ≡ jointOfUnequal word p q → r ≡ joint word p q
-  unfolding joint if_then_else_
-  unequal d e f r g = rw (ne-eqb p null (λ n. d (a ∙ n)), ne-eqb q null (λ n. e (b ∙ n)), ne-eqb p q (λ n. f (a ∙ n ∙ sym b))) g
+      pub unequal : (y ≡ other → ⊥) → (x ≡ y → ⊥) → (r : Option ℕ) → r ≡ jointOfUnequal word p q → r ≡ joint word p q
+      unfolding joint if_then_else_
+      unequal e f r g =
+          rw (ne-eqb p null (λ n. d (a ∙ n ∙ sym z)), ne-eqb q null (λ n. e (b ∙ n ∙ sym o)), ne-eqb p q (λ n. f (a ∙ n ∙ sym b))) g
 
   module _ (numbers : Bool) (n : numbers ≡ (isNumber x && isNumber y)) (r : Option ℕ) where
     pub of-numbers : numbers ≡ true → r ≡ jointOfNumbers word x y → r ≡ jointOfUnequal word p q

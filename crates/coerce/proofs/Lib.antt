@@ -1,1 +1,2 @@
-mod Joint
+pub mod Codes
+pub mod Joint

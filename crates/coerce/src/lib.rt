@@ -49,28 +49,11 @@ const NUMBERS: [[DataType; 10]; 10] = [
     [F64, F64, F64, F64, F64, F64, F64, F64, F64, F64],
 ];
 
-// Codes by which the families of types are told (document 01, "Field records").
-const NULL: u8 = 0;
-
-const BOOLEAN: u8 = 1;
-
-const INT8: u8 = 2;
-
-const FLOAT64: u8 = 11;
-
-const UTF8: u8 = 12;
-
-const LARGE_UTF8: u8 = 13;
-
-const TIMESTAMP_NAIVE: u8 = 18;
-
-const TIMESTAMP_UTC: u8 = 19;
-
-// Whether the code is that of a number type.
+// Whether the code is that of a number type. Families of types are ranges of codes, or two codes (document 01, "Field records").
 fn is_numeric(code: u8) -> bool
     ensures { λ r. ⌜ r ≡ isNumber code ⌝ }
 {
-    INT8 <= code && code <= FLOAT64
+    DataType::Int8.code() <= code && code <= DataType::Float64.code()
 }
 
 // Whether both are.
@@ -84,21 +67,21 @@ fn are_numeric(a: u8, b: u8) -> bool
 fn is_string(code: u8) -> bool
     ensures { λ r. ⌜ r ≡ isString code ⌝ }
 {
-    code == UTF8 || code == LARGE_UTF8
+    code == DataType::Utf8.code() || code == DataType::LargeUtf8.code()
 }
 
 // Whether the code is that of a timestamp, in either zone.
 fn is_timestamp(code: u8) -> bool
     ensures { λ r. ⌜ r ≡ isTimestamp code ⌝ }
 {
-    code == TIMESTAMP_NAIVE || code == TIMESTAMP_UTC
+    code == DataType::Timestamp(Zone::Naive).code() || code == DataType::Timestamp(Zone::Utc).code()
 }
 
 // Whether the type gives way to a string under allow_to_string.
 fn is_to_string(code: u8) -> bool
     ensures { λ r. ⌜ r ≡ isToString code ⌝ }
 {
-    code == BOOLEAN || is_numeric(code)
+    code == DataType::Boolean.code() || is_numeric(code)
 }
 
 // Whether the type gives way to a string that it meets.
@@ -113,7 +96,8 @@ fn number_joint(a: u8, b: u8) -> DataType
     requires { ⌜ (isNumber a && isNumber b) ≡ true ⌝ }
     ensures { λ r. ⌜ codeOf r ≡ numberJoint a b ⌝ }
 {
-    NUMBERS[(a - INT8) as usize][(b - INT8) as usize]
+    let first = DataType::Int8.code();
+    NUMBERS[(a - first) as usize][(b - first) as usize]
 }
 
 // Number types meet.
@@ -188,10 +172,10 @@ pub fn coerce_primitive_type(prev: DataType, curr: DataType, options: TracingOpt
     if a == b {
         return Coerced::Type(prev);
     }
-    if a == NULL {
+    if a == DataType::Null.code() {
         return Coerced::Type(curr);
     }
-    if b == NULL {
+    if b == DataType::Null.code() {
         return Coerced::Type(prev);
     }
     joint_of_unequal(prev, curr, options)

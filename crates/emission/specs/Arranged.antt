@@ -10,7 +10,7 @@ use Rattle.text.specs.Name.{ltName}
 use Rattle.model.specs.Kinds.{unionKind, mapModeKind, isStruct, Step, field, element, position, key, value, variant, variantOf}
 use Rattle.model.specs.Emission.{nameOf}
 use Rattle.refine.specs.Spots.{Spot, spot, Spots, no-spots, child, num}
-use Rattle.walk.specs.Order.{nextChild}
+use Rattle.places.specs.Reading.{nextChild}
 
 -- ---- by number, and by name
 unfoldable pub insertNumberS : Step → ℕ → ℕ → Spot → Spots → Spots

@@ -27,10 +27,9 @@ use Rattle.refine.specs.Rep.{Rep, RepIn}
 use Rattle.refine.specs.Erase.{erase, eraseIn}
 use Rattle.walk.specs.declared.Walked.{Walked}
 use Rattle.walk.specs.declared.Walked.the-variants as W
-use Rattle.order.specs.Flat.{variantAt}
-use Rattle.walk.specs.Order.{isOrdered, nextOrdered, nextChild, onward, datalessAt}
-use Rattle.walk.specs.Order as Order
-use Rattle.walk.specs.Walk.{childrenBelow, walkedBy, walked}
+use Rattle.places.specs.Reading.{variantAt, isOrdered, nextOrdered, nextChild}
+use Rattle.walk.specs.Walk as Walk
+use Rattle.walk.specs.Walk.{onward, datalessAt, childrenBelow, walkedBy, walked}
 use Rattle.emission.specs.Arranged.{orderS, Enumerates, Orders, OrdersIn, FitS, FitIn}
 use Rattle.emission.specs.FirstSums.{sorted-count, sorted-columns, sorted-names, columns-few}
 use Rattle.emission.specs.FirstPlaces.{sizeS, sizeIn, manyS, many-few, places-few, AllS, number-places, number-all, number-size, variant-small, child-variant, child-name, name-short}
@@ -76,34 +75,34 @@ onward-next : (slot : ℕ) → slot < 1025 → onward slot ≡ slot + 1
 onward-next slot l = omega arith
 
 module _ (options : ℕ) (text t : List ℕ) (inner : ℕ → Walked) (k p m : ℕ) where
-  dataless-end : (left slot : ℕ) → Order.datalessFrom t p left slot 0 ≡ true
-  unfolding Order.datalessFrom
+  dataless-end : (left slot : ℕ) → Walk.datalessFrom t p left slot 0 ≡ true
+  unfolding Walk.datalessFrom
   dataless-end zero slot = refl
   dataless-end (suc left) slot = refl
 
-  dataless-not : (left slot q : ℕ) → eqb q 0 ≡ false → (eqb (variantAt t q) slot && eqb (word t q kindWord) null) ≡ false → Order.datalessFrom t p (suc left) slot q ≡ false
-  unfolding Order.datalessFrom
-  dataless-not left slot q e d = rw (e, d, Order.datalessFrom)
+  dataless-not : (left slot q : ℕ) → eqb q 0 ≡ false → (eqb (variantAt t q) slot && eqb (word t q kindWord) null) ≡ false → Walk.datalessFrom t p (suc left) slot q ≡ false
+  unfolding Walk.datalessFrom
+  dataless-not left slot q e d = rw (e, d, Walk.datalessFrom)
 
   dataless-step : (left slot q : ℕ) → eqb q 0 ≡ false → (eqb (variantAt t q) slot && eqb (word t q kindWord) null) ≡ true
-      → Order.datalessFrom t p (suc left) slot q ≡ Order.datalessFrom t p left (onward slot) (nextOrdered t p q)
-  unfolding Order.datalessFrom
-  dataless-step left slot q e d = rw (e, d, Order.datalessFrom)
+      → Walk.datalessFrom t p (suc left) slot q ≡ Walk.datalessFrom t p left (onward slot) (nextOrdered t p q)
+  unfolding Walk.datalessFrom
+  dataless-step left slot q e d = rw (e, d, Walk.datalessFrom)
 
   dataless-is : (qs : Spots) (left slot last : ℕ) → eqb k unionKind ≡ true → AllS (λ s h x u. Child options text t inner s u) qs → manyS qs ≤ left → slot + manyS qs ≤ placeLimit → Enumerates t false k p last qs
-      → Order.datalessFrom t p left slot (nextOrdered t p last) ≡ Model.datalessFrom slot (placesOf k m (eraseIn qs))
+      → Walk.datalessFrom t p left slot (nextOrdered t p last) ≡ Model.datalessFrom slot (placesOf k m (eraseIn qs))
   unfolding Model.datalessFrom placeOf
   dataless-is no-spots left slot last d a l i e =
       let z : nextOrdered t p last ≡ 0 = sym (next-ordered t k p last d) ∙ e in
-      ap (Order.datalessFrom t p left slot) z ∙ dataless-end left slot
+      ap (Walk.datalessFrom t p left slot) z ∙ dataless-end left slot
   dataless-is (child s h x u qs) zero slot last d a l i e = absurd (omega arith)
   dataless-is (child s h x u qs) (suc left) slot last d a l i e =
       let z : nextOrdered t p last ≡ num u = sym (next-ordered t k p last d) ∙ e .0 in
       let o : eqb (num u) 0 ≡ false = ne-eqb (num u) 0 (λ y. omega (arith, a .0 .some-number)) in
       let y : (eqb (variantAt t (num u)) slot && eqb (word t (num u) kindWord) null) ≡ (eqb (variantOf s) slot && isDataless (placeOf (isMissing k m h) (erase u))) = rw (a .0 .variant-is, a .0 .kind-is, kind-dataless (isMissing k m h) u) in
-      ap (Order.datalessFrom t p (suc left) slot) z
+      ap (Walk.datalessFrom t p (suc left) slot) z
       ∙ cases (eqb (variantOf s) slot && isDataless (placeOf (isMissing k m h) (erase u)))
-      (λ c. dataless-step left slot (num u) o (y ∙ c) ∙ ap (λ (n : ℕ). Order.datalessFrom t p left n (nextOrdered t p (num u))) (onward-next slot (omega arith))
+      (λ c. dataless-step left slot (num u) o (y ∙ c) ∙ ap (λ (n : ℕ). Walk.datalessFrom t p left n (nextOrdered t p (num u))) (onward-next slot (omega arith))
       ∙ dataless-is qs left (slot + 1) (num u) d (a .1) (omega arith) (omega arith) (e .1) ∙ rw c)
       (λ c. dataless-not left slot (num u) o (y ∙ c) ∙ rw c)
 
@@ -232,7 +231,7 @@ mutual
   children-say options text t n p c (child s′ h m u ks) k levels l g r f e s i = (
     record {
       some-number = omega (arith, g .0);
-      variant-is = child-variant text t (num u) _ p s′ h m (r .0);
+      variant-is = child-variant text t (num u) _ p k s′ h m (r .0) (f .0);
       small = variant-small k s′ (f .0);
       name-is = child-name text t (num u) _ p k s′ h m (r .0) (f .0);
       short = name-short text t (num u) _ p k s′ h m (r .0) (f .0);

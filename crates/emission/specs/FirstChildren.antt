@@ -23,9 +23,8 @@ use Rattle.refine.specs.Spots.{Spot, Spots, no-spots, child, num, kindS}
 use Rattle.refine.specs.Erase.{erase, eraseIn}
 use Rattle.walk.specs.declared.Walked.{Walked}
 use Rattle.walk.specs.declared.Walked.the-variants as W
-use Rattle.order.specs.Flat.{variantAt}
-use Rattle.walk.specs.Order.{childName, nextChild, onward}
-use Rattle.walk.specs.Walk.{sumOf, gapsAt, slotBehind, isBeyond, recordsWith, namesWith, columnsWith, withChild, childrenFrom}
+use Rattle.places.specs.Reading.{variantAt, childName, nextChild}
+use Rattle.walk.specs.Walk.{onward, sumOf, gapsAt, slotBehind, isBeyond, recordsWith, namesWith, columnsWith, withChild, childrenFrom}
 use Rattle.walk.specs.Walk as Flat
 use Rattle.emission.specs.Arranged.{Enumerates}
 use Rattle.emission.specs.FirstSums.{gaps-count, gaps-columns, gaps-names, columns-are, column-few}

@@ -14,14 +14,17 @@ use Rattle.text.specs.Decimal.{numeral, decimal}
 use Rattle.model.specs.Kinds.{unionKind, isStruct, Step, field, element, position, key, value, variant, variantOf}
 use Rattle.model.specs.Tracing.{one}
 use Rattle.model.specs.Emission.{insertVariant, byNumber, isMissing, placeOf, placesOf, nameOf}
+use Rattle.words.specs.Word.{word}
+use Rattle.shapes.specs.declared.Step.the-variants as S
 use Rattle.shapes.specs.Steps.{unpackedName}
 use Rattle.refine.specs.Spots.{Spot, spot, Spots, no-spots, child, num}
-use Rattle.refine.specs.Steps.{stepCodeOf}
+use Rattle.refine.specs.Steps.{stepCodeOf, nameIn}
 use Rattle.refine.specs.Numbers.{within, withinIn, Good, GoodIn, or-right}
 use Rattle.refine.specs.Rep.{Cell}
 use Rattle.refine.specs.Erase.{erase, eraseIn}
-use Rattle.order.specs.Flat.{variantCode, variantAt}
-use Rattle.walk.specs.Order.{childName}
+use Rattle.places.specs.Layout.{stepWord}
+use Rattle.places.specs.Reading.{givenName, stepAt, variantAt, stepIn, childName}
+use Rattle.places.specs.laws.Reading.{step-back, variant-in}
 use Rattle.emission.specs.Arranged.{insertNumberS, byNumberS, stepFits}
 
 -- ---- how many places a tree has, and how many children a place
@@ -138,15 +141,6 @@ number-size no-spots = refl
 number-size (child s h x u ks) = insert-size s h x u (byNumberS ks) ∙ ap (λ (n : ℕ). sizeS u + n) (number-size ks)
 
 -- ---- a child's words
-code-variant : (s : Step) → (if ltb (stepCodeOf s) variantCode || eqb (stepCodeOf s % 2) 0 then 0 else (stepCodeOf s - variantCode) / 2) ≡ variantOf s
-unfolding if_then_else_
-code-variant (field name) = refl
-code-variant element = refl
-code-variant (position i) = rw (eq-eqb ((4 + 2 * i) % 2) 0 (omega arith), or-right (ltb (4 + 2 * i) 5) true refl)
-code-variant key = refl
-code-variant value = refl
-code-variant (variant k name) = rw (le-ltb (5 + 2 * k) 5 (omega arith), ne-eqb ((5 + 2 * k) % 2) 0 (omega arith)) (omega arith)
-
 numeral-short : (fuel n : ℕ) → length (numeral fuel n) ≤ fuel
 unfolding numeral
 numeral-short zero n = omega arith
@@ -174,22 +168,24 @@ position-small k i e =
     (λ c. let e′ : ltb i 65536 ≡ true = rw (d, c) at e in ltb-true i 65536 e′))
 
 module _ (text t : List ℕ) (q x p : ℕ) where
-  pub child-variant : (s : Step) (h m : ℕ) → Cell text t q x p s h m → variantAt t q ≡ variantOf s
+  -- they say its step
+  step-is : (k : ℕ) (s : Step) (h m : ℕ) → Cell text t q x p s h m → stepFits k s ≡ true → stepIn text (stepAt t q) ≡ s
+  step-is k s h m c e = go s (c .row 2 (omega arith)) (rw (c .row 3 (omega arith)) (c .says)) e where
+    go : (s : Step) → word t q stepWord ≡ stepCodeOf s → bytesOf text (givenName t q) ≡ nameIn s → stepFits k s ≡ true → stepIn text (stepAt t q) ≡ s
+    go (field name) w n f = rw (w, step-back (givenName t q) (S.Field (givenName t q)) (omega arith) refl) (ap field n)
+    go element w n f = rw (w, step-back (givenName t q) S.Element (omega arith) tt)
+    go (position i) w n f = rw (w, step-back (givenName t q) (S.Position i) (position-small k i f) tt)
+    go key w n f = rw (w, step-back (givenName t q) S.Key (omega arith) tt)
+    go value w n f = rw (w, step-back (givenName t q) S.Value (omega arith) tt)
+    go (variant i name) w n f = rw (w, step-back (givenName t q) (S.Variant i (givenName t q)) (variant-small k (variant i name) f) refl) (ap (variant i) n)
+
+  pub child-variant : (k : ℕ) (s : Step) (h m : ℕ) → Cell text t q x p s h m → stepFits k s ≡ true → variantAt t q ≡ variantOf s
   unfolding variantAt
-  child-variant s h m c = rw (c .row 2 (omega arith)) (code-variant s)
+  child-variant k s h m c e = variant-in text (stepAt t q) ∙ ap variantOf (step-is k s h m c e)
 
   pub child-name : (k : ℕ) (s : Step) (h m : ℕ) → Cell text t q x p s h m → stepFits k s ≡ true → childName text t q ≡ nameOf s
-  unfolding childName decimal if_then_else_
-  child-name k (field name) h m c e = rw (c .row 2 (omega arith), c .row 3 (omega arith)) (c .says)
-  child-name k element h m c e = rw (c .row 2 (omega arith))
-  child-name k (position i) h m c e =
-      let l : i < 65536 = position-small k i e in
-      let d : (4 + 2 * i - 4) / 2 % 65536 ≡ i = omega arith in
-      rw (c .row 2 (omega arith), ne-eqb (4 + 2 * i) 0 (omega arith), ne-eqb (4 + 2 * i) 1 (omega arith), ne-eqb (4 + 2 * i) 2 (omega arith), ne-eqb (4 + 2 * i) 3 (omega arith), eq-eqb ((4 + 2 * i) % 2) 0 (omega arith), d)
-  child-name k key h m c e = rw (c .row 2 (omega arith))
-  child-name k value h m c e = rw (c .row 2 (omega arith))
-  child-name k (variant i name) h m c e =
-      rw (c .row 2 (omega arith), ne-eqb (5 + 2 * i) 0 (omega arith), ne-eqb (5 + 2 * i) 1 (omega arith), ne-eqb (5 + 2 * i) 2 (omega arith), ne-eqb (5 + 2 * i) 3 (omega arith), ne-eqb ((5 + 2 * i) % 2) 0 (omega arith), c .row 3 (omega arith)) (c .says)
+  unfolding childName
+  child-name k s h m c e = ap nameOf (step-is k s h m c e)
 
   bytes-short : (w : ℕ) → length (bytesOf text (unpackedName w)) ≤ 65536
   bytes-short w = rw length-take (omega arith)

@@ -21,9 +21,9 @@ use Rattle.refine.specs.Spots.{Spot, spot, Spots, no-spots, child, num}
 use Rattle.refine.specs.Steps.{near, nameIn}
 use Rattle.refine.specs.Numbers.{firstOf, within, withinIn, Good, GoodIn, nearIn, both-false, or-right, not-both, un-true, bounded, self}
 use Rattle.refine.specs.Rep.{Cell, Rep, RepIn, same-block}
-use Rattle.order.specs.Flat.{variantAt, givenName, linkAt, isBefore, sortedChildren, sortedPlace, sortedPlaces}
-use Rattle.order.specs.Laws.{length-ordered, words-ordered}
-use Rattle.walk.specs.Order.{isOrdered, nextOrdered, nextChild}
+use Rattle.places.specs.Reading.{givenName, variantAt, linkAt, isOrdered, nextOrdered, nextChild}
+use Rattle.order.specs.Flat.{isBefore, sortedChildren, sortedPlace, sortedPlaces}
+use Rattle.order.specs.laws.Flat.{length-ordered, words-ordered}
 use Rattle.emission.specs.Chain.{among, here, Chain, Sorted, Distinct, InLine, Lined, link-same, link-is, chain-kept, line-kept, or-swap, before-same, unique, lined}
 use Rattle.emission.specs.Arranged.{insertNumberS, byNumberS, insertNameS, byNameS, orderS, Enumerates, Rising, Orders, OrdersIn, stepFits, FitS, FitIn}
 use Rattle.emission.specs.FirstPlaces.{AllS, number-all, child-variant}
@@ -205,7 +205,7 @@ number-pair text t p (variant k name) (position v) x y a b h m i j f g d c e = a
 number-pair text t p (variant k name) key x y a b h m i j f g d c e = absurd (false≢true g)
 number-pair text t p (variant k name) value x y a b h m i j f g d c e = absurd (false≢true g)
 number-pair text t p (variant k name) (variant l other) x y a b h m i j f g d c e =
-    rw (child-variant text t x a p (variant k name) h m c, child-variant text t y b p (variant l other) i j e) (
+    rw (child-variant text t x a p unionKind (variant k name) h m c f, child-variant text t y b p unionKind (variant l other) i j e g) (
       (λ q. q),
       (λ q.
           let o : l ≤ k = ltb-false k l q in
@@ -405,9 +405,9 @@ module _ (text t : List ℕ) (n : ℕ) (most : n ≤ placeLimit) (room : IsTable
     abbrev NumberIs : ℕ → Step → ℕ → ℕ → Spot → Type 0
     NumberIs slot s h m u = (variantAt t (num u) ≡ variantOf s) × (slot ≤ variantOf s)
 
-    numbers-said : (p : ℕ) (ks : Spots) → RepIn text t p ks → AllS (NumberIs 0) ks
-    numbers-said p no-spots r = tt
-    numbers-said p (child s h m u ks) r = ((child-variant text t (num u) (firstOf ks) p s h m (r .0), omega arith), numbers-said p ks (r .2))
+    numbers-said : (p k : ℕ) (ks : Spots) → RepIn text t p ks → FitIn k ks → AllS (NumberIs 0) ks
+    numbers-said p k no-spots r f = tt
+    numbers-said p k (child s h m u ks) r f = ((child-variant text t (num u) (firstOf ks) p k s h m (r .0) (f .0), omega arith), numbers-said p k ks (r .2) (f .2))
 
     raised : (slot low x : ℕ) (ks : Spots) → variantAt t x ≡ slot → AllS (NumberIs low) ks → ((y : ℕ) → among y (numsOf ks) ≡ true → isBefore text t false x y ≡ true) → AllS (NumberIs (slot + 1)) ks
     unfolding isBefore if_then_else_
@@ -425,7 +425,7 @@ module _ (text t : List ℕ) (n : ℕ) (most : n ≤ placeLimit) (room : IsTable
     rises-at p k ks h e =
         let z : k ≡ unionKind = eqb-true k unionKind e in
         let o = sorted-sort numberFront (isBefore text t false) (transitive text t false) ks (apart false p ks (rw z at h)) in
-        rw e (rising 0 (byNumberS ks) (number-all (NumberIs 0) ks (numbers-said p ks (h .rep))) (rw (sort-number ks) at o))
+        rw e (rising 0 (byNumberS ks) (number-all (NumberIs 0) ks (numbers-said p k ks (h .rep) (h .fit))) (rw (sort-number ks) at o))
 
     -- ---- at every place of the tree
     mutual

@@ -25,11 +25,11 @@ use Rattle.refine.specs.Spots.{Spot, spot, Spots, no-spots, child, num, kindS}
 use Rattle.refine.specs.Numbers.{Good}
 use Rattle.refine.specs.Rep.{Rep, Row, ownWords}
 use Rattle.refine.specs.Erase.{erase, eraseIn}
-use Rattle.order.specs.Flat.{variantAt}
-use Rattle.walk.specs.Order.{childName, nextChild, childLimit, datalessAt}
-use Rattle.walk.specs.Walk.{sumOf, gapsAt}
-use Rattle.schema.specs.Put.{recordOf}
-use Rattle.schema.specs.Emit.{countFrom, fieldCount, isDictionary, Writing, writing, both, gapsIn, entriesIn, fieldAt, isLeaf, Writer, childIn, fieldsFrom, fieldsBelow, emittedBy, emittedAt, levelLimit}
+use Rattle.places.specs.Reading.{variantAt, childName, childLimit, nextChild}
+use Rattle.walk.specs.Walk.{datalessAt, sumOf, gapsAt}
+use Rattle.schema.specs.Put.{recordOf, Writing, writing, both, gapsIn, entriesIn}
+use Rattle.schema.specs.Fields.{countFrom, fieldCount, isDictionary, isLeaf}
+use Rattle.schema.specs.Emit.{fieldAt, Writer, childIn, fieldsFrom, fieldsBelow, emittedBy, emittedAt, levelLimit}
 use Rattle.emission.specs.Arranged.{byNumberS, insertNameS, byNameS, orderS, Enumerates, Rising, Orders, FitS}
 use Rattle.emission.specs.SecondPut.{wrote, Writes, writes-none, writes-next, writes-as, writes-both, record-is, gapRecords, gap-records, gap-names, gap-count, writes-gaps, writes-entries, entries-none}
 use Rattle.emission.specs.FirstPlaces.{manyS, AllS}
@@ -185,7 +185,7 @@ module _ (options : ℕ) (text t : List ℕ) (n p k m : ℕ) where
   count-union (suc left) last (child s i j u ks) f l z a y h =
       let up : 0 < num u = omega (arith, a .0 .0 .above) in
       let no : eqb (num u) 0 ≡ false = ne-eqb (num u) 0 (omega arith) in
-      let v : variantAt t (num u) ≡ variantOf s = variant-is (a .0 .0 .cell) in
+      let v : variantAt t (num u) ≡ variantOf s = variant-is k (a .0 .0 .cell) (a .0 .0 .step) in
       let few : variantOf s < 128 = small k s (a .0 .1 .0) (a .0 .0 .plain) in
       let after : slotAfter t last ≤ variantAt t (num u) = rw v (y .0) in
       let sl : slotAfter t (num u) ≡ variantOf s + 1 = rw (no, v) refl in
@@ -234,7 +234,7 @@ module _ (options : ℕ) (text t : List ℕ) (n p k m : ℕ) where
       → childIn t inner k p slot (num u) w ≡ inner (num u) (isMissing k m h) (variantOf s) (gapsIn slot (gapsOf slot s) w)
   unfolding childIn
   child-in inner slot s h x u w sm a =
-      let v : variantAt t (num u) ≡ variantOf s = variant-is (a .0 .cell) in
+      let v : variantAt t (num u) ≡ variantOf s = variant-is k (a .0 .cell) (a .0 .step) in
       let he : word t (num u) heldWord ≡ h = a .0 .cell .row 4 (omega arith) in
       let few : variantOf s < 128 = small k s (a .1 .0) (a .0 .plain) in
       let md : variantOf s % 256 ≡ variantOf s = let y : variantOf s < 256 = omega arith in mod-eq-of-lt y in
@@ -247,7 +247,7 @@ module _ (options : ℕ) (text t : List ℕ) (n p k m : ℕ) where
   fields-write inner (suc left) slot last no-spots l z sm a h w room = rw h (writes-none w room)
   fields-write inner zero slot last (child s i j u ks) l z sm a h w room = absurd (omega arith)
   fields-write inner (suc left) slot last (child s i j u ks) l z sm a h w room =
-      let v : variantAt t (num u) ≡ variantOf s = variant-is (a .0 .0 .0 .cell) in
+      let v : variantAt t (num u) ≡ variantOf s = variant-is k (a .0 .0 .0 .cell) (a .0 .0 .0 .step) in
       let few : variantOf s < 128 = small k s (a .0 .0 .1 .0) (a .0 .0 .0 .plain) in
       let on : sumOf (variantAt t (num u)) 1 ≡ variantOf s + 1 = rw v (let x : variantOf s + 1 < 2 ^ 32 = omega arith in mod-eq-of-lt x) in
       let f : Field = fieldOf options (nameOf s) (variantOf s) (placeOf (isMissing k m i) (erase u)) in

@@ -27,7 +27,9 @@ use Rattle.refine.specs.Numbers.{Good}
 use Rattle.refine.specs.Rep.{Rep}
 use Rattle.refine.specs.Erase.{erase, eraseIn}
 use Rattle.schema.specs.declared.Emitted.the-variants as E
-use Rattle.schema.specs.Emit.{isStructRoot, Answered, answered, writing, fieldsBelow, emittedAt, levelLimit, finished}
+use Rattle.schema.specs.Put.{writing}
+use Rattle.schema.specs.Fields.{isStructRoot}
+use Rattle.schema.specs.Emit.{Answered, answered, fieldsBelow, emittedAt, levelLimit, finished}
 use Rattle.emission.specs.Arranged.{orderS, Orders, FitS}
 use Rattle.emission.specs.FirstChildren.{fieldsOfField}
 use Rattle.emission.specs.SecondWords.{Neat, place-is}

@@ -1,7 +1,7 @@
 -- What the words of a place and of its children say, for a walk over the children in order.
 use Prim.{Unit, tt}
 use mathlib.Core.Path.{_≡_, refl, ap, _∙_}
-use mathlib.Core.Bool.{Bool, true, false, not, _&&_, _||_}
+use mathlib.Core.Bool.{Bool, true, false, _&&_, _||_}
 use mathlib.Core.List.{List}
 use Prim.Native.Nat.{ℕ, zero, suc, _+_, _%_, _^_, _<_, _≤_}
 use native.Mathlib.Nat.{mod-eq-of-lt}
@@ -10,25 +10,24 @@ use lib.Dec.{eqb, ltb}
 use lib.ListN.{length, length-take}
 use borrow.Author.Tests.{ne-eqb}
 use Rattle.logic.specs.Test.{if_then_else_, cases}
+use Rattle.logic.specs.Flag.{if-either}
 use Rattle.datatype.specs.Codes.{null}
 use Rattle.text.specs.Name.{bytesOf, ltName}
-use Rattle.text.specs.Decimal.{decimal}
 use Rattle.text.specs.DecimalLaws.{length-u16}
 use Rattle.words.specs.Word.{word}
-use Rattle.model.specs.Kinds.{mapKind, unionKind, mapModeKind, isContainer, Step, element, key, value, variantOf, isVariant}
+use Rattle.model.specs.Kinds.{mapKind, unionKind, mapModeKind, isContainer, Step, variantOf, isVariant}
 use Rattle.model.specs.Tracing.{one}
 use Rattle.model.specs.Emission.{nameOf, shown, isMissing, placeOf, placesOf, isDataless, datalessFrom}
-use Rattle.shapes.specs.Steps.{fieldCode}
-use Rattle.places.specs.Layout.{kindWord, stepWord}
+use Rattle.shapes.specs.declared.Step as Shapes
+use Rattle.shapes.specs.Steps.{fieldCode, unpackedName}
+use Rattle.places.specs.Layout.{kindWord, stepWord, nameWord}
 use Rattle.refine.specs.Spots.{Spot, spot, Spots, no-spots, child, num, kindS}
 use Rattle.refine.specs.Numbers.{Good, GoodIn}
 use Rattle.refine.specs.Rep.{Cell, Rep, RepIn}
 use Rattle.refine.specs.Erase.{erase, eraseIn}
-use Rattle.order.specs.Flat.{variantAt, givenName}
-use Rattle.walk.specs.Order.{positionAt, childName, isOrdered, nextOrdered, nextChild, onward, childLimit}
-use Rattle.walk.specs.Order.{datalessFrom as datalessAtFrom}
-use Rattle.emission.specs.FirstPlaces as First
-use Rattle.emission.specs.FirstPlaces.{manyS, AllS, number-all, number-places, child-variant}
+use Rattle.places.specs.Reading.{numberIn, stepOf, variantAt, stepIn, childName, childLimit, isOrdered, nextOrdered, nextChild}
+use Rattle.walk.specs.Walk.{onward, datalessFrom as datalessAtFrom}
+use Rattle.emission.specs.FirstPlaces.{manyS, AllS, number-all, number-places, child-variant, child-name}
 use Rattle.emission.specs.Arranged.{insertNumberS, byNumberS, insertNameS, byNameS, orderS, Enumerates, Orders, OrdersIn, stepFits, FitS, FitIn}
 
 -- ---- tests
@@ -46,37 +45,30 @@ abbrev mutual
   NeatIn kind (child s h m u ks) = (eqb kind unionKind ≡ false → isVariant s ≡ false) × Neat u × NeatIn kind ks
 
 -- ---- a child's words
-pub variant-is : {text t : List ℕ} {q x p : ℕ} {s : Step} {h m : ℕ} → Cell text t q x p s h m → variantAt t q ≡ variantOf s
-variant-is {text} {t} {q} {x} {p} {s} {h} {m} c = child-variant text t q x p s h m c
+module _ {text t : List ℕ} {q x p : ℕ} {s : Step} {h m : ℕ} (k : ℕ) (c : Cell text t q x p s h m) (e : stepFits k s ≡ true) where
+  pub variant-is : variantAt t q ≡ variantOf s
+  variant-is = child-variant text t q x p k s h m c e
 
--- the name by the word and the name given
-unfoldable nameBy : ℕ → ℕ → List ℕ → List ℕ
-nameBy code at given =
-    if eqb code 0 then nameOf element
-    else if eqb code 1 then nameOf key
-    else if eqb code 2 then nameOf value
-    else if not (eqb code fieldCode) && eqb (code % 2) 0 then decimal at
-    else given
-
-child-name : (text t : List ℕ) (q : ℕ) → childName text t q ≡ nameBy (word t q stepWord) (positionAt t q) (bytesOf text (givenName t q))
-unfolding childName nameBy
-child-name text t q = refl
-
-pub name-is : {text t : List ℕ} {q x p : ℕ} {s : Step} {h m : ℕ} (k : ℕ) → Cell text t q x p s h m → stepFits k s ≡ true → childName text t q ≡ nameOf s
-name-is {text} {t} {q} {x} {p} {s} {h} {m} k c e = First.child-name text t q x p k s h m c e
+  pub name-is : childName text t q ≡ nameOf s
+  name-is = child-name text t q x p k s h m c e
 
 -- a name's length is of 16 bits
-by-short : (code at : ℕ) (given : List ℕ) → at < 2 ^ 16 → length given < 65536 → length (nameBy code at given) < 65536
-unfolding nameBy if_then_else_
-by-short code at given a l =
-    cases (eqb code 0) (λ e. rw e (omega arith)) (λ e. rw e (
-    cases (eqb code 1) (λ f. rw f (omega arith)) (λ f. rw f (
-    cases (eqb code 2) (λ g. rw g (omega arith)) (λ g. rw g (
-    cases (not (eqb code fieldCode) && eqb (code % 2) 0) (λ d. rw d (omega (arith, length-u16 at a))) (λ d. rw d l)))))))
+abbrev Short : List ℕ → Shapes.Step → Type 0
+Short text s = length (nameOf (stepIn text s)) < 65536
+
+step-short : (text : List ℕ) (code given : ℕ) → Short text (stepOf code (unpackedName given))
+unfolding stepOf
+step-short text code given =
+    let l : length (bytesOf text (unpackedName given)) < 65536 = rw length-take (omega arith) in
+    if-either (Short text) (eqb code 0) (omega arith)
+    (if-either (Short text) (eqb code 1) (omega arith)
+    (if-either (Short text) (eqb code 2) (omega arith)
+    (if-either (Short text) (eqb code fieldCode) l
+    (if-either (Short text) (eqb (code % 2) 0) (omega (arith, length-u16 (numberIn code) (omega arith))) l))))
 
 pub short-name : (text t : List ℕ) (q : ℕ) → length (childName text t q) < 65536
-short-name text t q =
-    rw child-name (by-short (word t q stepWord) (positionAt t q) (bytesOf text (givenName t q)) (omega arith) (rw length-take (omega arith)))
+unfolding childName
+short-name text t q = step-short text (word t q stepWord) (word t q nameWord)
 
 pub kind-word : (text t : List ℕ) (u : Spot) → Rep text t u → word t (num u) kindWord ≡ kindS u
 kind-word text t (spot p b k m ks) r = r .0 0 (omega arith)
@@ -165,7 +157,7 @@ module _ (text t : List ℕ) (n p m : ℕ) where
   dataless-from zero slot last (child s i j u ks) l z a h = absurd (omega arith)
   dataless-from (suc left) slot last (child s i j u ks) l z a h =
       let e : nextOrdered t p last ≡ num u = h .0 in
-      let v : variantAt t (num u) ≡ variantOf s = variant-is (a .0 .cell) in
+      let v : variantAt t (num u) ≡ variantOf s = variant-is unionKind (a .0 .cell) (a .0 .step) in
       let w : word t (num u) kindWord ≡ kindS u = kind-word text t u (a .0 .rep) in
       let on : onward slot ≡ slot + 1 = let x : slot + 1 < 2 ^ 32 = omega arith in mod-eq-of-lt x in
       let ih = dataless-from left (slot + 1) (num u) ks (omega arith) (omega arith) (a .1) (h .1) in

@@ -33,7 +33,8 @@ orderedFirstWord = 5
 abbrev pub rootWord : ℕ
 rootWord = 5
 
--- how many positions stand in a block: its first so many children are positions 0, 1, 2, .., each with the place number after the one before
+-- how many positions stand in a block: its first so many children are positions 0, 1, 2, .., each with the place number
+-- after the one before
 abbrev pub blockWord : ℕ
 blockWord = 6
 
@@ -60,7 +61,8 @@ markWord = 13
 abbrev pub orderedNextWord : ℕ
 orderedNextWord = 14
 
--- its links in the search tree of its parent's numbered children, by a bit of its code; the right one stands where the next in order stands later
+-- its links in the search tree of its parent's numbered children, by a bit of its code; the right one stands where the
+-- next in order stands later
 abbrev pub leftWord : ℕ
 leftWord = 7
 

@@ -1,2 +1,2 @@
 pub mod Puts
-pub mod Ways
+pub mod Emits

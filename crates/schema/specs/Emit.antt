@@ -1,78 +1,37 @@
 -- The second walk: what it writes; and the schema, with refusals 15 to 18.
-use mathlib.Core.Bool.{Bool, true, false, not, _&&_, _||_}
+use mathlib.Core.Path.{_≡_}
+use mathlib.Core.Bool.{Bool, true, false, not, _||_}
 use mathlib.Core.List.{List}
 use Prim.Native.Nat.{ℕ, zero, suc, _*_, _%_}
 use lib.Dec.{eqb, ltb}
 use lib.ListN.{length}
 use Rattle.logic.specs.Test.{if_then_else_}
-use Rattle.datatype.specs.Codes.{null, struct, noStrategy}
-use Rattle.options.specs.Word.{enumsWithoutDataAsStrings, dictionaryType}
+use Rattle.logic.specs.Slices.{Slice, atEntry, atExit}
+use Rattle.datatype.specs.Codes.{null, noStrategy}
+use Rattle.options.specs.Word.{dictionaryType}
 use Rattle.refusal.specs.declared.Refusal.the-variants as F
 use Rattle.words.specs.Word.{word}
-use Rattle.model.specs.Kinds.{mapKind, unionKind, tupleKind, isContainer, isStruct}
-use Rattle.model.specs.Emission.{typeOf, strategyOf, entriesName}
+use Rattle.model.specs.Emission.{typeOf, strategyOf}
 use Rattle.model.specs.Tracing.{placeLimit}
-use Rattle.places.specs.Layout.{kindWord, nullWord, samplesWord, heldWord, rootPlace}
+use Rattle.places.specs.Layout.{kindWord, nullWord, rootPlace}
+use Rattle.places.specs.Reading.{variantAt, childName, childLimit, nextChild}
+use Rattle.order.specs.Flat.{sortedPlaces}
 use Rattle.walk.specs.declared.Walked.{Walked}
 use Rattle.walk.specs.declared.Walked.the-variants as W
+use Rattle.walk.specs.Walk.{sumOf, gapsAt, walked}
 use Rattle.schema.specs.declared.Emitted.{Emitted}
 use Rattle.schema.specs.declared.Emitted.the-variants as E
-use Rattle.order.specs.Flat.{variantAt}
-use Rattle.walk.specs.Order.{childName, nextChild, datalessAt, childLimit}
-use Rattle.walk.specs.Walk.{sumOf, gapsAt, walked}
-use Rattle.schema.specs.Put.{Put, put, putBytes, recordOf, putGaps}
-
--- how many fields with a child: of a union the slots up to its own
-abbrev pub countWith : ℕ → List ℕ → ℕ → ℕ → ℕ
-countWith kind t child count = if eqb kind unionKind then sumOf (variantAt t child) 1 else sumOf count 1
-
--- how many fields a place's field has
-unfoldable pub countFrom : List ℕ → ℕ → ℕ → ℕ → ℕ → ℕ → ℕ
-countFrom t kind place zero count child = count
-countFrom t kind place (suc left) count child =
-    elim (eqb child 0) [
-      | true ↦ count
-      | false ↦ countFrom t kind place left (countWith kind t child count) (nextChild t false kind place child)
-    ]
-
-unfoldable pub fieldCount : List ℕ → ℕ → ℕ → ℕ
-fieldCount t kind place = if eqb kind mapKind then 1 else countFrom t kind place childLimit 0 (nextChild t false kind place 0)
-
-abbrev pub lackingAt : List ℕ → ℕ → ℕ → ℕ → Bool
-lackingAt t kind place child = isStruct kind && ltb (word t child heldWord) (word t place samplesWord)
-
-abbrev pub isDictionary : ℕ → List ℕ → ℕ → Bool
-isDictionary options t place = eqb (word t place kindWord) unionKind && enumsWithoutDataAsStrings options && datalessAt t place
-
--- where the next record and the next name go, and both buffers
-pub data Writing : Type 0 where
-  writing : (i j : ℕ) → (fields names : List ℕ) → Writing
-
-abbrev pub asWriting : Put → Put → Writing
-asWriting (put i fields) (put j names) = writing i j fields names
-
--- a record and a name
-unfoldable pub both : List ℕ → List ℕ → Writing → Writing
-both bytes name (writing i j fields names) = asWriting (putBytes bytes fields i) (putBytes name names j)
-
-unfoldable pub gapsIn : ℕ → ℕ → Writing → Writing
-gapsIn slot count (writing i j fields names) = asWriting (putGaps slot 0 count (put i fields)) (put j names)
-
--- a map's entries
-unfoldable pub entriesIn : ℕ → Writing → Writing
-entriesIn kind w = if eqb kind mapKind then both (recordOf struct false noStrategy 0 (length entriesName) 2) entriesName w else w
+use Rattle.schema.specs.Put.{recordOf, Writing, writing, both, gapsIn, entriesIn}
+use Rattle.schema.specs.Fields.{fieldCount, isStructRoot, lackingAt, isDictionary, isLeaf}
 
 -- the record and the name of a place, with nothing below it
 unfoldable pub fieldAt : ℕ → List ℕ → List ℕ → ℕ → Bool → ℕ → Writing → Writing
 fieldAt options text t place nullable number w =
-    if isDictionary options t place then both (recordOf (dictionaryType options) nullable noStrategy number (length (childName text t place)) 0) (childName text t place) w
-    else both
-    (recordOf (typeOf options (word t place kindWord) % 256) nullable (strategyOf (word t place kindWord)) number (length (childName text t place)) (fieldCount t (word t place kindWord) place))
-    (childName text t place) w
-
--- whether nothing is emitted below a place
-unfoldable pub isLeaf : ℕ → List ℕ → Bool → ℕ → Bool
-isLeaf options t flat place = not (isContainer (word t place kindWord)) || flat || isDictionary options t place
+    let kind = word t place kindWord in
+    let name = childName text t place in
+    let own : ℕ → ℕ → ℕ → Writing = λ type strategy children. both (recordOf type nullable strategy number (length name) children) name w in
+    if isDictionary options t place then own (dictionaryType options) noStrategy 0
+    else own (typeOf options kind % 256) (strategyOf kind) (fieldCount t kind place)
 
 -- a writer of the field of a place, which a sample lacks or not, with a variant number
 abbrev pub Writer : Type 0
@@ -80,7 +39,8 @@ Writer = ℕ → Bool → ℕ → Writing → Writing
 
 -- a child, after the slots of a union never seen
 unfoldable pub childIn : List ℕ → Writer → ℕ → ℕ → ℕ → ℕ → Writing → Writing
-childIn t inner kind place slot child w = inner child (lackingAt t kind place child) (variantAt t child % 256) (gapsIn slot (gapsAt kind t slot child) w)
+childIn t inner kind place slot child w =
+    inner child (lackingAt t kind place child) (variantAt t child % 256) (gapsIn slot (gapsAt kind t slot child) w)
 
 -- the fields below a place, from a child on
 unfoldable pub fieldsFrom : List ℕ → Writer → ℕ → ℕ → ℕ → ℕ → ℕ → Writing → Writing
@@ -88,7 +48,8 @@ fieldsFrom t inner kind place zero slot child w = w
 fieldsFrom t inner kind place (suc left) slot child w =
     elim (eqb child 0) [
       | true ↦ w
-      | false ↦ fieldsFrom t inner kind place left (sumOf (variantAt t child) 1) (nextChild t true kind place child) (childIn t inner kind place slot child w)
+      | false ↦ fieldsFrom t inner kind place left
+          (sumOf (variantAt t child) 1) (nextChild t true kind place child) (childIn t inner kind place slot child w)
     ]
 
 abbrev pub fieldsBelow : List ℕ → Writer → ℕ → ℕ → Writing → Writing
@@ -104,13 +65,17 @@ unfoldable pub emittedAt : ℕ → List ℕ → List ℕ → ℕ → Writer
 emittedAt options text t zero = emittedBy options text t true (λ kind place w. w)
 emittedAt options text t (suc levels) = emittedBy options text t false (fieldsBelow t (emittedAt options text t levels))
 
+-- the fields below a place, and one of them, with so many levels left
+abbrev pub emittedBelow : ℕ → List ℕ → List ℕ → ℕ → ℕ → ℕ → Writing → Writing
+emittedBelow options text t levels = fieldsBelow t (emittedAt options text t levels)
+
+abbrev pub childAt : ℕ → List ℕ → List ℕ → ℕ → ℕ → ℕ → ℕ → ℕ → Writing → Writing
+childAt options text t levels = childIn t (emittedAt options text t levels)
+
 -- ---- the schema of what was traced
 -- more levels than the tree is deep: a place's number is above its parent's
 abbrev pub levelLimit : ℕ
 levelLimit = placeLimit
-
-abbrev pub isStructRoot : ℕ → Bool
-isStructRoot kind = isStruct kind || eqb kind tupleKind
 
 -- what is answered, and both buffers then
 pub data Answered : Type 0 where
@@ -134,4 +99,17 @@ onWalked k fields names (W.Below records bytes below) = k records bytes below
 
 unfoldable pub toSchemaAt : ℕ → List ℕ → List ℕ → List ℕ → List ℕ → Answered
 toSchemaAt options text t fields names =
-    onWalked (finished options text t fields names) fields names (walked options text t levelLimit rootPlace)
+    onWalked (finished options text t fields names) fields names (walked options text t levelLimit 0)
+
+-- ---- what `finish` and `to_schema` answer for
+abbrev pub Finishes : ℕ → (text table fields names : Slice) → (records bytes below : ℕ) → Emitted → Type 0
+Finishes options text table fields names records bytes below r =
+    answered r (atExit fields) (atExit names)
+    ≡ finished options (atEntry text) (atEntry table) (atEntry fields) (atEntry names) records bytes below
+
+-- the children of the first so many places are put in order first
+abbrev pub Emits : (options count : ℕ) → (text table fields names : Slice) → Emitted → Type 0
+Emits options count text table fields names r =
+    let ordered = sortedPlaces (atEntry text) (atEntry table) count in
+    (answered r (atExit fields) (atExit names) ≡ toSchemaAt options (atEntry text) ordered (atEntry fields) (atEntry names))
+    × (atExit table ≡ ordered)

@@ -12,12 +12,30 @@ use Rattle.words.specs.Word.{word}
 use Rattle.model.specs.Kinds.{mapKind, unionKind, isContainer}
 use Rattle.model.specs.Emission.{slotLimit, entriesName}
 use Rattle.places.specs.Layout.{kindWord}
-use Rattle.order.specs.Flat.{variantAt}
+use Rattle.places.specs.Reading.{variantAt, childName, childLimit, nextOrdered, nextChild}
 use Rattle.walk.specs.declared.Walked.{Walked}
 use Rattle.walk.specs.declared.Walked.the-variants as W
-use Rattle.walk.specs.Order.{childName, nextChild, onward, datalessAt, childLimit}
 
--- counts are of 32 bits, which no batch exceeds
+-- ---- a union of only dataless variants without gaps
+-- slots are of 32 bits, which no batch exceeds
+abbrev pub onward : ℕ → ℕ
+onward n = (n + 1) % 2 ^ 32
+
+unfoldable pub datalessFrom : List ℕ → ℕ → ℕ → ℕ → ℕ → Bool
+datalessFrom t place zero slot child = true
+datalessFrom t place (suc left) slot child =
+    elim (eqb child 0) [
+      | true ↦ true
+      | false ↦ elim (eqb (variantAt t child) slot && eqb (word t child kindWord) null) [
+        | false ↦ false
+        | true ↦ datalessFrom t place left (onward slot) (nextOrdered t place child)
+      ]
+    ]
+
+abbrev pub datalessAt : List ℕ → ℕ → Bool
+datalessAt t place = datalessFrom t place childLimit 0 (nextOrdered t place 0)
+
+-- ---- counts are of 32 bits, which no batch exceeds
 abbrev pub sumOf : ℕ → ℕ → ℕ
 sumOf a b = (a + b) % 2 ^ 32
 
@@ -69,7 +87,8 @@ childrenFrom text t inner kind place (suc left) records names below slot child =
 -- a map's entries stand above its key and value
 abbrev pub childrenBelow : List ℕ → List ℕ → (ℕ → Walked) → ℕ → ℕ → Walked
 childrenBelow text t inner kind place =
-    childrenFrom text t inner kind place childLimit (if eqb kind mapKind then 1 else 0) (if eqb kind mapKind then length entriesName else 0) 0 0 (nextChild t false kind place 0)
+    childrenFrom text t inner kind place childLimit
+    (if eqb kind mapKind then 1 else 0) (if eqb kind mapKind then length entriesName else 0) 0 0 (nextChild t false kind place 0)
 
 -- a place: refusals 12 and 13, and what stands below it; `flat` where no level is left, and a reader of its children
 unfoldable pub walkedBy : ℕ → List ℕ → List ℕ → Bool → (ℕ → Walked) → ℕ → Walked
@@ -84,3 +103,12 @@ walkedBy options text t flat inner place =
 unfoldable pub walked : ℕ → List ℕ → List ℕ → ℕ → ℕ → Walked
 walked options text t zero = walkedBy options text t true (λ child. W.Below 0 0 0)
 walked options text t (suc levels) = walkedBy options text t false (walked options text t levels)
+
+-- all children of a place, with so many levels left for each
+abbrev pub walkedBelow : ℕ → List ℕ → List ℕ → ℕ → ℕ → ℕ → Walked
+walkedBelow options text t levels = childrenBelow text t (walked options text t levels)
+
+-- from counts of records and name bytes that stand above them
+abbrev pub walkedFrom : ℕ → List ℕ → List ℕ → ℕ → ℕ → ℕ → ℕ → ℕ → Walked
+walkedFrom options text t levels kind place records names =
+    childrenFrom text t (walked options text t levels) kind place childLimit records names 0 0 (nextChild t false kind place 0)

@@ -54,25 +54,28 @@ rule a b (p, q, r, s) =
     eqb-true (codeOf (getD (getD table (a - int8) []) (b - int8) Null)) (numberJoint a b) (rw (x, y) at entry)
 
 sub-result : tie.Need-sub-result
-sub-result c = numbers (c .args .a) (c .args .b) (c .pre) .0
+sub-result c = let h = numbers (c .before .args .a) (c .before .args .b) (c .before .pre) in omega (arith, c .code .ensures)
 
 sub-result-2 : tie.Need-sub-result-2
-sub-result-2 c = numbers (c .args .a) (c .args .b) (c .pre) .2
+sub-result-2 c = let h = numbers (c .before .args .a) (c .before .args .b) (c .before .pre) in omega (arith, c .code .ensures)
 
 index-1-result : tie.Need-index-1-result
-index-1-result c = let h = numbers (c .args .a) (c .args .b) (c .pre) in omega arith
+index-1-result c = let h = numbers (c .before .args .a) (c .before .args .b) (c .before .pre) in omega (arith, c .code .ensures)
 
 index-2-result : tie.Need-index-2-result
-index-2-result c = let h = numbers (c .args .a) (c .args .b) (c .pre) in omega arith
+index-2-result c = let h = numbers (c .before .args .a) (c .before .args .b) (c .before .pre) in omega (arith, c .code .ensures)
 
 returns : tie.Need-returns
 unfolding table
-returns c = rule (c .before .args .a) (c .before .args .b) (numbers (c .before .args .a) (c .before .args .b) (c .before .pre))
+returns c =
+    let s = c .before .before in
+    rw (c .before .code .ensures) (rule (s .args .a) (s .args .b) (numbers (s .args .a) (s .args .b) (s .pre)))
 
 pub number-joint-spec : {M : Type 1} → statement M
 number-joint-spec =
     tie.close
     (tie.spec
+    (λ c κs. search needs)
     sub-result
     (λ c. search needs)
     sub-result-2
