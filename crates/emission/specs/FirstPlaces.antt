@@ -3,11 +3,11 @@ use Prim.{Unit, tt}
 use mathlib.Core.Path.{_≡_, refl, sym, ap, _∙_}
 use mathlib.Core.Bool.{Bool, true, false, _||_, false≢true}
 use mathlib.Core.List.{List}
-use Prim.Native.Nat.{_-_, ℕ, zero, suc, _+_, _*_, _/_, _%_, _≤_, _<_}
+use Prim.Native.Nat.{ℕ, zero, suc, _+_, _/_, _≤_, _<_}
 use native.Mathlib.Omega.{arith}
 use lib.Dec.{eqb, ltb}
 use lib.ListN.{length, length-append, length-take}
-use borrow.Author.Tests.{ltb-true, eqb-true, eqb-false, eq-eqb, ne-eqb, le-ltb}
+use borrow.Author.Tests.{ltb-true, eqb-true, eqb-false, ne-eqb}
 use Rattle.logic.specs.Test.{if_then_else_, cases}
 use Rattle.text.specs.Name.{bytesOf}
 use Rattle.text.specs.Decimal.{numeral, decimal}
@@ -19,7 +19,7 @@ use Rattle.shapes.specs.declared.Step.the-variants as S
 use Rattle.shapes.specs.Steps.{unpackedName}
 use Rattle.refine.specs.Spots.{Spot, spot, Spots, no-spots, child, num}
 use Rattle.refine.specs.Steps.{stepCodeOf, nameIn}
-use Rattle.refine.specs.Numbers.{within, withinIn, Good, GoodIn, or-right}
+use Rattle.refine.specs.Numbers.{within, withinIn, Good, GoodIn}
 use Rattle.refine.specs.Rep.{Cell}
 use Rattle.refine.specs.Erase.{erase, eraseIn}
 use Rattle.places.specs.Layout.{stepWord}
