@@ -1,8 +1,10 @@
 -- A primitive at a place: what is answered, and the table then.
+use mathlib.Core.Path.{_≡_}
 use mathlib.Core.Bool.{Bool, not, _&&_}
 use mathlib.Core.List.{List}
 use Prim.Native.Nat.{ℕ, _≤_}
 use Rattle.logic.specs.Test.{if_then_else_}
+use Rattle.logic.specs.Slices.{Slice, atEntry, atExit}
 use Rattle.datatype.specs.Codes.{null}
 use Rattle.words.specs.Word.{word, withWord}
 use Rattle.kinds.specs.declared.Met.{Met}
@@ -34,6 +36,11 @@ observed options null kind levels here behind place n t =
 abbrev pub SoundTraced : List ℕ → List ℕ → ℕ → Traced → Type 0
 SoundTraced text t n (T.Next behind m) = Sound text t m × (n ≤ m)
 SoundTraced text t n (T.Refused refusal offset) = Unit {0}
+
+-- what is promised of a function that traces: its answer and the table then are what the definition gives of the table before, the table
+-- is sound, and no place is lost of those that there were
+abbrev pub TracedAs : Slice → Slice → ℕ → Traced → Out → Type 0
+TracedAs text table n r wanted = (out r (atExit table) ≡ wanted) × SoundTraced (atEntry text) (atExit table) n r
 
 -- a value that is no null, of the type that is there
 unfoldable pub isKnown : Bool → ℕ → ℕ → Bool
