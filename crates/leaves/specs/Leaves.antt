@@ -11,6 +11,7 @@ use Rattle.kinds.specs.declared.Met.{Met}
 use Rattle.kinds.specs.declared.Met.the-variants as M
 use Rattle.places.specs.Layout.{kindWord, nullWord, Sound}
 use Rattle.kinds.specs.Meeting.{meeting}
+use Rattle.leaves.specs.declared.Site.{Site}
 use Rattle.leaves.specs.declared.Traced.{Traced}
 use Rattle.leaves.specs.declared.Traced.the-variants as T
 use lib.Dec.{eqb, ltb}
@@ -31,6 +32,9 @@ stored null kind place t = if null then withWord (withWord t place kindWord kind
 unfoldable pub observed : ℕ → Bool → ℕ → ℕ → ℕ → ℕ → ℕ → ℕ → List ℕ → Out
 observed options null kind levels here behind place n t =
     onMet here t (λ joint. out (T.Next behind n) (stored null joint place t)) (meeting options levels (word t place kindWord) kind)
+
+abbrev pub observedAt : ℕ → Bool → ℕ → ℕ → ℕ → Site → List ℕ → Out
+observedAt options null kind here behind site t = observed options null kind (site .levels) here behind (site .place) (site .count) t
 
 -- ---- what is true of the table afterwards: it is sound, and no place is lost
 abbrev pub SoundTraced : List ℕ → List ℕ → ℕ → Traced → Type 0

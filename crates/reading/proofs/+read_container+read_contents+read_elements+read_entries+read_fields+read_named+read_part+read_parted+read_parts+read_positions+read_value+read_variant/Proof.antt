@@ -81,40 +81,40 @@ use Rattle.reading.proofs.+read_container+read_contents+read_elements+r
 }
 
 abbrev μ-read-container : Measures 3 read-container-kinds.ps ℕ
-μ-read-container κs a = 8 * (a .1 .1 .1 .1 .1 .1 .1 .0) + 1
+μ-read-container κs a = 8 * (a .1 .1 .1 .1 .1 .1 .1 .0 .levels) + 1
 
 abbrev μ-read-contents : Measures 3 read-contents-kinds.ps ℕ
-μ-read-contents κs a = 8 * (a .1 .1 .1 .1 .1 .1 .0) + 4
+μ-read-contents κs a = 8 * (a .1 .1 .1 .1 .1 .1 .0 .levels) + 4
 
 abbrev μ-read-elements : Measures 3 read-elements-kinds.ps ℕ
-μ-read-elements κs a = 8 * (a .1 .1 .1 .1 .0) + 6
+μ-read-elements κs a = 8 * (a .1 .1 .1 .1 .0 .levels) + 6
 
 abbrev μ-read-entries : Measures 3 read-entries-kinds.ps ℕ
-μ-read-entries κs a = 8 * (a .1 .1 .1 .1 .0) + 6
+μ-read-entries κs a = 8 * (a .1 .1 .1 .1 .0 .levels) + 6
 
 abbrev μ-read-fields : Measures 3 read-fields-kinds.ps ℕ
-μ-read-fields κs a = 8 * (a .1 .1 .1 .1 .1 .0) + 6
+μ-read-fields κs a = 8 * (a .1 .1 .1 .1 .1 .0 .levels) + 6
 
 abbrev μ-read-named : Measures 3 read-named-kinds.ps ℕ
-μ-read-named κs a = 8 * (a .1 .1 .1 .1 .1 .0) + 3
+μ-read-named κs a = 8 * (a .1 .1 .1 .1 .1 .0 .levels) + 3
 
 abbrev μ-read-part : Measures 3 read-part-kinds.ps ℕ
-μ-read-part κs a = 8 * (a .1 .1 .1 .1 .1 .1 .0) + 5
+μ-read-part κs a = 8 * (a .1 .1 .1 .1 .1 .1 .0 .levels) + 5
 
 abbrev μ-read-parted : Measures 3 read-parted-kinds.ps ℕ
-μ-read-parted κs a = 8 * (a .1 .1 .1 .1 .0) + 2
+μ-read-parted κs a = 8 * (a .1 .1 .1 .1 .0 .levels) + 2
 
 abbrev μ-read-parts : Measures 3 read-parts-kinds.ps ℕ
-μ-read-parts κs a = 8 * (a .1 .1 .1 .1 .1 .1 .0) + 7
+μ-read-parts κs a = 8 * (a .1 .1 .1 .1 .1 .1 .0 .levels) + 7
 
 abbrev μ-read-positions : Measures 3 read-positions-kinds.ps ℕ
-μ-read-positions κs a = 8 * (a .1 .1 .1 .1 .1 .0) + 6
+μ-read-positions κs a = 8 * (a .1 .1 .1 .1 .1 .0 .levels) + 6
 
 abbrev μ-read-value : Measures 3 read-value-kinds.ps ℕ
-μ-read-value κs a = 8 * (a .1 .1 .1 .1 .0) + 3
+μ-read-value κs a = 8 * (a .1 .1 .1 .1 .0 .levels) + 3
 
 abbrev μ-read-variant : Measures 3 read-variant-kinds.ps ℕ
-μ-read-variant κs a = 8 * (a .1 .1 .1 .1 .1 .1 .1 .1 .0) + 1
+μ-read-variant κs a = 8 * (a .1 .1 .1 .1 .1 .1 .1 .1 .0 .levels) + 1
 
 abbrev read-container-at : ℕ → In 3 read-container-kinds.ps
 read-container-at t =
@@ -285,8 +285,8 @@ read-container-open-container-requires t c κs = search needs
 read-container-enum-known-more : (t : ℕ) → read-container-lts.Need-enum-known-more (read-container-claims t) (read-container-at t) read-container.Post
 read-container-enum-known-more t c = search needs
 
-read-container-sub-read-parts : (t : ℕ) → read-container-lts.Need-sub-read-parts (read-container-claims t) (read-container-at t) read-container.Post
-read-container-sub-read-parts t c = search (opened-left, needs)
+read-container-sub-levels : (t : ℕ) → read-container-lts.Need-sub-levels (read-container-claims t) (read-container-at t) read-container.Post
+read-container-sub-levels t c = search (opened-left, needs)
 
 read-container-read-parts-requires : (t : ℕ) → read-container-lts.Need-read-parts-requires (read-container-claims t) (read-container-at t) read-container.Post
 read-container-read-parts-requires t c κs = (search (falls-parts, opened-left, needs), (search (opened-ready, needs), search needs))
@@ -363,12 +363,12 @@ read-contents-returns-4 : (t : ℕ) → read-contents-lts.Need-returns-4 (read-c
 read-contents-returns-4 t c = (search (contents-fields, needs), search needs)
 
 abbrev read-elements-Inv-loop : read-elements-lts.InvT-loop
-read-elements-Inv-loop commands text options start levels place count table₀ at₀ places₀ table at places =
-    (partsFrom commands text (readers commands text (options .word) levels) sequenceKind 0 place 0 at places table ≡ partsBy commands text (readers commands text (options .word) levels) sequenceKind 0 place start count table₀)
-    × Ready text table places place × (count ≤ places) × (length table ≡ length table₀)
+read-elements-Inv-loop commands text options start site table₀ at₀ places₀ table at places =
+    (partsFrom commands text (readers commands text (options .word) (site .levels)) sequenceKind 0 (site .place) 0 at places table ≡ partsBy commands text (readers commands text (options .word) (site .levels)) sequenceKind 0 (site .place) start (site .count) table₀)
+    × Ready text table places (site .place) × (site .count ≤ places) × (length table ≡ length table₀)
 
 abbrev read-elements-μ-loop : read-elements-lts.MeasureT-loop
-read-elements-μ-loop commands text options start levels place count table₀ at₀ places₀ table at places = length commands - at
+read-elements-μ-loop commands text options start site table₀ at₀ places₀ table at places = length commands - at
 
 read-elements-loop-holds : (t : ℕ) → read-elements-lts.Need-loop-holds (read-elements-claims t) (read-elements-at t) read-elements.Post read-elements-Inv-loop read-elements-μ-loop
 read-elements-loop-holds t c = search needs
@@ -422,12 +422,12 @@ read-elements-returns-3 : (t : ℕ) → read-elements-lts.Need-returns-3 (read-e
 read-elements-returns-3 t c = (search (parts-stopped, element-part, needs), search needs)
 
 abbrev read-entries-Inv-loop : read-entries-lts.InvT-loop
-read-entries-Inv-loop commands text options start levels place count table₀ i₀ at₀ places₀ table i at places =
-    (partsFrom commands text (readers commands text (options .word) levels) mapKind 0 place i at places table ≡ partsBy commands text (readers commands text (options .word) levels) mapKind 0 place start count table₀)
-    × Ready text table places place × (count ≤ places) × (i ≤ at) × (length table ≡ length table₀)
+read-entries-Inv-loop commands text options start site table₀ i₀ at₀ places₀ table i at places =
+    (partsFrom commands text (readers commands text (options .word) (site .levels)) mapKind 0 (site .place) i at places table ≡ partsBy commands text (readers commands text (options .word) (site .levels)) mapKind 0 (site .place) start (site .count) table₀)
+    × Ready text table places (site .place) × (site .count ≤ places) × (i ≤ at) × (length table ≡ length table₀)
 
 abbrev read-entries-μ-loop : read-entries-lts.MeasureT-loop
-read-entries-μ-loop commands text options start levels place count table₀ i₀ at₀ places₀ table i at places = length commands - at
+read-entries-μ-loop commands text options start site table₀ i₀ at₀ places₀ table i at places = length commands - at
 
 read-entries-loop-holds : (t : ℕ) → read-entries-lts.Need-loop-holds (read-entries-claims t) (read-entries-at t) read-entries.Post read-entries-Inv-loop read-entries-μ-loop
 read-entries-loop-holds t c = search needs
@@ -481,12 +481,12 @@ read-entries-loop-again : (t : ℕ) → read-entries-lts.Need-loop-again (read-e
 read-entries-loop-again t c = (parts-more _ _ _ _ _ _ _ _ _ _ _ _ (c .before .before .before .before .before .before .before .before .before .before .before .loop .inv .0) _ (c .before .before .before .before .before .before .before .before .before .before .entry-part .ensures) _ _ (c .before .before .before .before .before .before .before .before .step .given .1) _ _ (c .before .before .before .before .before .read-part .ensures .0) _ _ (c .before .behind2 .given .1), search (traced-ready, needs), le-trans (c .before .before .before .before .before .before .before .before .before .before .before .loop .inv .2) (traced-grows _ _ _ _ (c .before .before .before .before .before .read-part .ensures .1) _ _ (c .before .behind2 .given .1)), parts-counted _ _ _ _ _ _ _ _ _ _ _ _ (c .before .before .before .before .before .before .before .before .before .before .before .loop .inv .0) _ (c .before .before .before .before .before .before .before .before .before .before .entry-part .ensures) _ _ (c .before .before .before .before .before .before .before .before .step .given .1) _ _ (c .before .before .before .before .before .read-part .ensures .0) _ _ (c .before .behind2 .given .1) _ (le-refl _) (c .before .before .before .before .before .before .before .before .before .before .before .loop .inv .3), search needs)
 
 abbrev read-fields-Inv-loop : read-fields-lts.InvT-loop
-read-fields-Inv-loop commands text options kind start levels place count table₀ at₀ places₀ table at places =
-    (partsFrom commands text (readers commands text (options .word) levels) kind 0 place 0 at places table ≡ partsBy commands text (readers commands text (options .word) levels) kind 0 place start count table₀)
-    × Ready text table places place × (count ≤ places) × (length table ≡ length table₀)
+read-fields-Inv-loop commands text options kind start site table₀ at₀ places₀ table at places =
+    (partsFrom commands text (readers commands text (options .word) (site .levels)) kind 0 (site .place) 0 at places table ≡ partsBy commands text (readers commands text (options .word) (site .levels)) kind 0 (site .place) start (site .count) table₀)
+    × Ready text table places (site .place) × (site .count ≤ places) × (length table ≡ length table₀)
 
 abbrev read-fields-μ-loop : read-fields-lts.MeasureT-loop
-read-fields-μ-loop commands text options kind start levels place count table₀ at₀ places₀ table at places = length commands - at
+read-fields-μ-loop commands text options kind start site table₀ at₀ places₀ table at places = length commands - at
 
 read-fields-loop-holds : (t : ℕ) → read-fields-lts.Need-loop-holds (read-fields-claims t) (read-fields-at t) read-fields.Post read-fields-Inv-loop read-fields-μ-loop
 read-fields-loop-holds t c = search needs
@@ -723,12 +723,12 @@ read-parts-returns-4 : (t : ℕ) → read-parts-lts.Need-returns-4 (read-parts-c
 read-parts-returns-4 t c = (search (by-positions, needs), search needs)
 
 abbrev read-positions-Inv-loop : read-positions-lts.InvT-loop
-read-positions-Inv-loop commands text options positions start levels place count table₀ i₀ at₀ places₀ table i at places =
-    (partsFrom commands text (readers commands text (options .word) levels) tupleKind positions place i at places table ≡ partsBy commands text (readers commands text (options .word) levels) tupleKind positions place start count table₀)
-    × Ready text table places place × (count ≤ places) × (i ≤ positions) × (length table ≡ length table₀)
+read-positions-Inv-loop commands text options positions start site table₀ i₀ at₀ places₀ table i at places =
+    (partsFrom commands text (readers commands text (options .word) (site .levels)) tupleKind positions (site .place) i at places table ≡ partsBy commands text (readers commands text (options .word) (site .levels)) tupleKind positions (site .place) start (site .count) table₀)
+    × Ready text table places (site .place) × (site .count ≤ places) × (i ≤ positions) × (length table ≡ length table₀)
 
 abbrev read-positions-μ-loop : read-positions-lts.MeasureT-loop
-read-positions-μ-loop commands text options positions start levels place count table₀ i₀ at₀ places₀ table i at places = length commands - at
+read-positions-μ-loop commands text options positions start site table₀ i₀ at₀ places₀ table i at places = length commands - at
 
 read-positions-loop-holds : (t : ℕ) → read-positions-lts.Need-loop-holds (read-positions-claims t) (read-positions-at t) read-positions.Post read-positions-Inv-loop read-positions-μ-loop
 read-positions-loop-holds t c = search needs
@@ -868,7 +868,7 @@ pub +read-container+read-contents+read-elements+read-entries+read-fields+read-na
     read-container.Post
     (read-container-open-container-requires t)
     (read-container-enum-known-more t)
-    (read-container-sub-read-parts t)
+    (read-container-sub-levels t)
     (read-container-read-parts-requires t)
     (read-container-enum-known-refusal t)
     (read-container-same-length t)
