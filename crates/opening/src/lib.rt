@@ -40,7 +40,8 @@ pub fn open_container(
     table: &mut [u32],
 ) -> Made
     requires { ⌜ Ready (now text) (now table) count place ⌝ }
-    ensures { λ r. ⌜ MadeAs text table r (containerMade (now (text .entry)) (options .word) levels kind positions place count (now (table .entry))) ⌝ }
+    ensures { λ r. ⌜ MadeAs text table r
+        (containerMade (now (text .entry)) (options .word) levels kind positions place count (now (table .entry))) ⌝ }
 {
     let before = words::get(table, place, places::KIND);
     match kinds::meet(options, levels, before, kind) {
@@ -65,7 +66,8 @@ pub fn open_variant(
 ) -> Ensured
     requires { ⌜ Ready (now text) (now table) count place ⌝ }
     requires { ⌜ Good (now text) name ⌝ }
-    ensures { λ r. ⌜ EnsuredAs text table r (variantHeld (now (text .entry)) (options .word) levels number name place count (now (table .entry))) ⌝ }
+    ensures { λ r. ⌜ EnsuredAs text table r
+        (variantHeld (now (text .entry)) (options .word) levels number name place count (now (table .entry))) ⌝ }
 {
     let before = words::get(table, place, places::KIND);
     match kinds::meet(options, levels, before, shapes::UNION) {
@@ -127,7 +129,8 @@ pub fn open_field(
     table: &mut [u32],
 ) -> Opened
     requires { ⌜ Ready (now text) (now table) count place ⌝ }
-    ensures { λ r. ⌜ OpenedAs text table count r (openedAt (now (commands .entry)) (now (text .entry)) kind at place count (now (table .entry))) ⌝ }
+    ensures { λ r. ⌜ OpenedAs text table count r
+        (openedAt (now (commands .entry)) (now (text .entry)) kind at place count (now (table .entry))) ⌝ }
 {
     match shapes::field_at(commands, text, kind, at) {
         Field::Named(name) => hold_field(text, place, name, count, table),

@@ -18,7 +18,8 @@ pub fn from_samples(
     table: &mut [u32],
 ) -> Traced
     requires { ⌜ Sound (now text) (now table) 1 ⌝ }
-    ensures { λ r. ⌜ TracedAs text table 1 r (fromSamples (now (commands .entry)) (now (text .entry)) (options .word) (now (table .entry))) ⌝ }
+    ensures { λ r. ⌜ TracedAs text table 1 r
+        (fromSamples (now (commands .entry)) (now (text .entry)) (options .word) (now (table .entry))) ⌝ }
 {
     let mut at: usize = 0;
     let mut places: usize = 1;

@@ -35,7 +35,8 @@ fn past_others(tag: u32, child: usize, table: &[u32]) -> usize
 
 // Whether the child is the field with that name. The tags of the names are compared first: most differ there.
 fn is_field(text: &[u8], name: Name, tag: u32, child: usize, table: &[u32]) -> bool
-    requires { ⌜ Comparable (now text) (now table) name child × (tag ≡ tagOf (bytesOf (now text) name)) × Tagged (now text) (now table) child ⌝ }
+    requires { ⌜ Comparable (now text) (now table) name child ⌝ }
+    requires { ⌜ (tag ≡ tagOf (bytesOf (now text) name)) × Tagged (now text) (now table) child ⌝ }
     ensures { λ r. ⌜ r ≡ isAt (now (text .entry)) fieldCode name child (now (table .entry)) ⌝ }
 {
     if words::get(table, child, places::TAG) != tag {

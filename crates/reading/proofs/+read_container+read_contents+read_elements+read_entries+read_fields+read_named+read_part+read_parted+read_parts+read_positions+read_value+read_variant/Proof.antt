@@ -127,47 +127,121 @@ level ps μ pre t = and 3 ps (is 3 ps μ t) pre
 abbrev lower : (ps : List (PK 3)) → Measures 3 ps ℕ → In 3 ps → ℕ → In 3 ps
 lower ps μ pre t = and 3 ps (falls 3 ps _<_ μ t) pre
 
+abbrev container-at : ℕ → In 3 read-container-kinds.ps
+container-at = level read-container-kinds.ps μ-read-container read-container.Pre
+
 abbrev container-below : ℕ → In 3 read-container-kinds.ps
 container-below = lower read-container-kinds.ps μ-read-container read-container.Pre
+
+abbrev contents-at : ℕ → In 3 read-contents-kinds.ps
+contents-at = level read-contents-kinds.ps μ-read-contents read-contents.Pre
 
 abbrev contents-below : ℕ → In 3 read-contents-kinds.ps
 contents-below = lower read-contents-kinds.ps μ-read-contents read-contents.Pre
 
+abbrev elements-at : ℕ → In 3 read-elements-kinds.ps
+elements-at = level read-elements-kinds.ps μ-read-elements read-elements.Pre
+
 abbrev elements-below : ℕ → In 3 read-elements-kinds.ps
 elements-below = lower read-elements-kinds.ps μ-read-elements read-elements.Pre
+
+abbrev entries-at : ℕ → In 3 read-entries-kinds.ps
+entries-at = level read-entries-kinds.ps μ-read-entries read-entries.Pre
 
 abbrev entries-below : ℕ → In 3 read-entries-kinds.ps
 entries-below = lower read-entries-kinds.ps μ-read-entries read-entries.Pre
 
+abbrev fields-at : ℕ → In 3 read-fields-kinds.ps
+fields-at = level read-fields-kinds.ps μ-read-fields read-fields.Pre
+
 abbrev fields-below : ℕ → In 3 read-fields-kinds.ps
 fields-below = lower read-fields-kinds.ps μ-read-fields read-fields.Pre
+
+abbrev named-at : ℕ → In 3 read-named-kinds.ps
+named-at = level read-named-kinds.ps μ-read-named read-named.Pre
 
 abbrev named-below : ℕ → In 3 read-named-kinds.ps
 named-below = lower read-named-kinds.ps μ-read-named read-named.Pre
 
+abbrev part-at : ℕ → In 3 read-part-kinds.ps
+part-at = level read-part-kinds.ps μ-read-part read-part.Pre
+
 abbrev part-below : ℕ → In 3 read-part-kinds.ps
 part-below = lower read-part-kinds.ps μ-read-part read-part.Pre
+
+abbrev parted-at : ℕ → In 3 read-parted-kinds.ps
+parted-at = level read-parted-kinds.ps μ-read-parted read-parted.Pre
 
 abbrev parted-below : ℕ → In 3 read-parted-kinds.ps
 parted-below = lower read-parted-kinds.ps μ-read-parted read-parted.Pre
 
+abbrev parts-at : ℕ → In 3 read-parts-kinds.ps
+parts-at = level read-parts-kinds.ps μ-read-parts read-parts.Pre
+
 abbrev parts-below : ℕ → In 3 read-parts-kinds.ps
 parts-below = lower read-parts-kinds.ps μ-read-parts read-parts.Pre
+
+abbrev positions-at : ℕ → In 3 read-positions-kinds.ps
+positions-at = level read-positions-kinds.ps μ-read-positions read-positions.Pre
 
 abbrev positions-below : ℕ → In 3 read-positions-kinds.ps
 positions-below = lower read-positions-kinds.ps μ-read-positions read-positions.Pre
 
+abbrev value-at : ℕ → In 3 read-value-kinds.ps
+value-at = level read-value-kinds.ps μ-read-value read-value.Pre
+
 abbrev value-below : ℕ → In 3 read-value-kinds.ps
 value-below = lower read-value-kinds.ps μ-read-value read-value.Pre
 
+abbrev variant-at : ℕ → In 3 read-variant-kinds.ps
+variant-at = level read-variant-kinds.ps μ-read-variant read-variant.Pre
+
 abbrev variant-below : ℕ → In 3 read-variant-kinds.ps
 variant-below = lower read-variant-kinds.ps μ-read-variant read-variant.Pre
+
+-- ---- what each of them takes of those that it calls
+
+abbrev container-claims : ℕ → read-container-lts.Claims
+container-claims t = (open-container-reads.Asked, open-container-reads.Learnt, parts-below t, read-parts.Post)
+
+abbrev contents-claims : ℕ → read-contents-lts.Claims
+contents-claims t = (observe-reads.Asked, observe-reads.Learnt, value-below t, read-value.Post, container-below t, read-container.Post)
+
+abbrev elements-claims : ℕ → read-elements-lts.Claims
+elements-claims t = (value-part-reads.Asked, value-part-reads.Learnt, part-below t, read-part.Post, past-same-reads.Asked, past-same-reads.Learnt)
+
+abbrev entries-claims : ℕ → read-entries-lts.Claims
+entries-claims t = (entry-part-reads.Asked, entry-part-reads.Learnt, part-below t, read-part.Post)
+
+abbrev fields-claims : ℕ → read-fields-lts.Claims
+fields-claims t = (open-field-reads.Asked, open-field-reads.Learnt, read-name-reads.Asked, read-name-reads.Learnt, named-below t, read-named.Post)
+
+abbrev named-claims : ℕ → read-named-lts.Claims
+named-claims t = (past-marks-reads.Asked, past-marks-reads.Learnt, leaf-at-reads.Asked, leaf-at-reads.Learnt, observe-reads.Asked, observe-reads.Learnt, lower-reads.Asked, lower-reads.Learnt, parted-below t, read-parted.Post)
+
+abbrev part-claims : ℕ → read-part-lts.Claims
+part-claims t = (hold-reads.Asked, hold-reads.Learnt, value-below t, read-value.Post)
+
+abbrev parted-claims : ℕ → read-parted-lts.Claims
+parted-claims t = (is-struct-at-reads.Asked, is-struct-at-reads.Learnt, container-below t, read-container.Post, read-command-reads.Asked, read-command-reads.Learnt, refusal-reads.Asked, refusal-reads.Learnt, place-reads.Asked, place-reads.Learnt, shape-of-reads.Asked, shape-of-reads.Learnt, observe-reads.Asked, observe-reads.Learnt, variant-below t, read-variant.Post)
+
+abbrev parts-claims : ℕ → read-parts-lts.Claims
+parts-claims t = (is-struct-reads.Asked, is-struct-reads.Learnt, fields-below t, read-fields.Post, elements-below t, read-elements.Post, entries-below t, read-entries.Post, positions-below t, read-positions.Post)
+
+abbrev positions-claims : ℕ → read-positions-lts.Claims
+positions-claims t = (value-part-reads.Asked, value-part-reads.Learnt, part-below t, read-part.Post)
+
+abbrev value-claims : ℕ → read-value-lts.Claims
+value-claims t = (past-marks-reads.Asked, past-marks-reads.Learnt, leaf-at-reads.Asked, leaf-at-reads.Learnt, observe-reads.Asked, observe-reads.Learnt, parted-below t, read-parted.Post)
+
+abbrev variant-claims : ℕ → read-variant-lts.Claims
+variant-claims t = (open-variant-reads.Asked, open-variant-reads.Learnt, lower-reads.Asked, lower-reads.Learnt, contents-below t, read-contents.Post)
 
 -- ---- the loops: from here on the parts give what they give from the start on, the place is ready, and no place is lost
 abbrev Left : List ℕ → List ℕ → TracingOptions → ℕ → ℕ → ℕ → Site → List ℕ → ℕ → ℕ → ℕ → List ℕ → Type 0
 Left commands text options kind positions start site table₀ i at places table =
     (partsFrom commands text (readers commands text (options .word) (site .levels)) kind positions (site .place) i at places table
-     ≡ partsBy commands text (readers commands text (options .word) (site .levels)) kind positions (site .place) start (site .count) table₀)
+    ≡ partsBy commands text (readers commands text (options .word) (site .levels)) kind positions (site .place) start (site .count) table₀)
     × Ready text table places (site .place) × (site .count ≤ places) × (length table ≡ length table₀)
 
 abbrev read-elements-Inv-loop : read-elements-lts.InvT-loop
@@ -214,9 +288,7 @@ pub +read-container+read-contents+read-elements+read-entries+read-fields+read-na
     μ-read-positions
     μ-read-value
     μ-read-variant
-    (λ t. read-container-lts.spec
-    (open-container-reads.Asked, open-container-reads.Learnt, parts-below t, read-parts.Post)
-    (level read-container-kinds.ps μ-read-container read-container.Pre t)
+    (λ t. read-container-lts.spec (container-claims t) (container-at t)
     read-container.Post
     (λ c κs. search needs)
     (λ c. search needs)
@@ -227,9 +299,7 @@ pub +read-container+read-contents+read-elements+read-entries+read-fields+read-na
     (λ c. (search (container-parts, opened-left, needs), search (opened-from, needs)))
     (λ c. search needs)
     (λ c. (search (container-refused, needs), search needs)))
-    (λ t. read-contents-lts.spec
-    (observe-reads.Asked, observe-reads.Learnt, value-below t, read-value.Post, container-below t, read-container.Post)
-    (level read-contents-kinds.ps μ-read-contents read-contents.Pre t)
+    (λ t. read-contents-lts.spec (contents-claims t) (contents-at t)
     read-contents.Post
     (λ c. search needs)
     (λ c κs. search (is-place, has-room, needs))
@@ -247,9 +317,7 @@ pub +read-container+read-contents+read-elements+read-entries+read-fields+read-na
     (λ c. (search (contents-positions, needs), search needs))
     (λ c. search needs)
     (λ c. (search (contents-fields, needs), search needs)))
-    (λ t. read-elements-lts.spec
-    (value-part-reads.Asked, value-part-reads.Learnt, part-below t, read-part.Post, past-same-reads.Asked, past-same-reads.Learnt)
-    (level read-elements-kinds.ps μ-read-elements read-elements.Pre t)
+    (λ t. read-elements-lts.spec (elements-claims t) (elements-at t)
     read-elements.Post
     read-elements-Inv-loop
     read-elements-μ-loop
@@ -286,9 +354,7 @@ pub +read-container+read-contents+read-elements+read-entries+read-fields+read-na
     (λ c. search needs)
     (λ c. search needs)
     (λ c. (search (parts-stopped, element-part, needs), search needs)))
-    (λ t. read-entries-lts.spec
-    (entry-part-reads.Asked, entry-part-reads.Learnt, part-below t, read-part.Post)
-    (level read-entries-kinds.ps μ-read-entries read-entries.Pre t)
+    (λ t. read-entries-lts.spec (entries-claims t) (entries-at t)
     read-entries.Post
     read-entries-Inv-loop
     read-entries-μ-loop
@@ -307,31 +373,29 @@ pub +read-container+read-contents+read-elements+read-entries+read-fields+read-na
     (λ c. search needs)
     (λ c. (search (parts-stopped, needs), search needs))
     (λ c.
-    let inv = c .before .before .before .before .before .before .before .before .before .before .before .loop .inv in
+    let inv = c .before .before .before .before .before .before .before .before .before .before .before .loop .inv .0 in
     let part = c .before .before .before .before .before .before .before .before .before .before .entry-part .ensures in
     let step = c .before .before .before .before .before .before .before .before .step .given .1 in
     let read = c .before .before .before .before .before .read-part .ensures in
     let next = c .before .behind2 .given .1 in
-    record { fits = count-fits _ _ _ _ _ _ _ _ _ _ _ _ (inv .0 .0) _ part _ _ step _ _ (read .0) _ _ next _ (inv .1) (search needs) })
+    record { fits = count-fits _ _ _ _ _ _ _ _ _ _ _ _ (inv .0) _ part _ _ step _ _ (read .0) _ _ next _ (search needs) (search needs) })
     (λ c.
-    let inv = c .before .before .before .before .before .before .before .before .before .before .before .loop .inv in
+    let inv = c .before .before .before .before .before .before .before .before .before .before .before .loop .inv .0 in
     let part = c .before .before .before .before .before .before .before .before .before .before .entry-part .ensures in
     let step = c .before .before .before .before .before .before .before .before .step .given .1 in
     let read = c .before .before .before .before .before .read-part .ensures in
     let next = c .before .behind2 .given .1 in
-    parts-less _ _ _ _ _ _ _ _ _ _ _ _ (inv .0 .0) _ part _ _ step _ _ (read .0) _ _ next _ (le-refl _))
+    parts-less _ _ _ _ _ _ _ _ _ _ _ _ (inv .0) _ part _ _ step _ _ (read .0) _ _ next _ (le-refl _))
     (λ c.
-    let inv = c .before .before .before .before .before .before .before .before .before .before .before .loop .inv in
+    let inv = c .before .before .before .before .before .before .before .before .before .before .before .loop .inv .0 in
     let part = c .before .before .before .before .before .before .before .before .before .before .entry-part .ensures in
     let step = c .before .before .before .before .before .before .before .before .step .given .1 in
     let read = c .before .before .before .before .before .read-part .ensures in
     let next = c .before .behind2 .given .1 in
-    let more = parts-more _ _ _ _ _ _ _ _ _ _ _ _ (inv .0 .0) _ part _ _ step _ _ (read .0) _ _ next in
-    let counted = parts-counted _ _ _ _ _ _ _ _ _ _ _ _ (inv .0 .0) _ part _ _ step _ _ (read .0) _ _ next _ (le-refl _) (inv .1) in
-    ((more, search (traced-ready, needs), le-trans (inv .0 .2) (traced-grows _ _ _ _ (read .1) _ _ next), search needs), counted)))
-    (λ t. read-fields-lts.spec
-    (open-field-reads.Asked, open-field-reads.Learnt, read-name-reads.Asked, read-name-reads.Learnt, named-below t, read-named.Post)
-    (level read-fields-kinds.ps μ-read-fields read-fields.Pre t)
+    let more = parts-more _ _ _ _ _ _ _ _ _ _ _ _ (inv .0) _ part _ _ step _ _ (read .0) _ _ next in
+    let counted = parts-counted _ _ _ _ _ _ _ _ _ _ _ _ (inv .0) _ part _ _ step _ _ (read .0) _ _ next _ (le-refl _) (search needs) in
+    ((more, search (traced-ready, needs), le-trans (inv .2) (traced-grows _ _ _ _ (read .1) _ _ next), search needs), counted)))
+    (λ t. read-fields-lts.spec (fields-claims t) (fields-at t)
     read-fields.Post
     read-fields-Inv-loop
     read-fields-μ-loop
@@ -381,9 +445,7 @@ pub +read-container+read-contents+read-elements+read-entries+read-fields+read-na
     let name = c .before .before .before .before .before .before .before .read-name .ensures in
     let read = c .before .before .before .before .before .read-named .ensures in
     (fields-stopped _ _ _ _ _ _ _ _ _ is _ (inv .0) _ _ (field .0) _ _ child _ name _ _ (read .0) _ _ (c .before .refusal2 .given .1), search needs)))
-    (λ t. read-named-lts.spec
-    (past-marks-reads.Asked, past-marks-reads.Learnt, leaf-at-reads.Asked, leaf-at-reads.Learnt, observe-reads.Asked, observe-reads.Learnt, lower-reads.Asked, lower-reads.Learnt, parted-below t, read-parted.Post)
-    (level read-named-kinds.ps μ-read-named read-named.Pre t)
+    (λ t. read-named-lts.spec (named-claims t) (named-at t)
     read-named.Post
     (λ c κs. search (is-place, has-room, needs))
     (λ c κs. search needs)
@@ -396,9 +458,7 @@ pub +read-container+read-contents+read-elements+read-entries+read-fields+read-na
     (λ c. (search (value-leaf, needs), search (observed-sound, past-ready, needs)))
     (λ c. search needs)
     (λ c. (search (named-parted, needs), search needs)))
-    (λ t. read-part-lts.spec
-    (hold-reads.Asked, hold-reads.Learnt, value-below t, read-value.Post)
-    (level read-part-kinds.ps μ-read-part read-part.Pre t)
+    (λ t. read-part-lts.spec (part-claims t) (part-at t)
     read-part.Post
     (λ c κs. (search needs, search (unnamed, needs), search needs))
     (λ c. search needs)
@@ -408,15 +468,13 @@ pub +read-container+read-contents+read-elements+read-entries+read-fields+read-na
     (λ c. (search (part-child, needs), search (held-from, needs)))
     (λ c. search needs)
     (λ c. (search (part-refused, needs), search needs)))
-    (λ t. read-parted-lts.spec
-    (is-struct-at-reads.Asked, is-struct-at-reads.Learnt, container-below t, read-container.Post, read-command-reads.Asked, read-command-reads.Learnt, refusal-reads.Asked, refusal-reads.Learnt, place-reads.Asked, place-reads.Learnt, shape-of-reads.Asked, shape-of-reads.Learnt, observe-reads.Asked, observe-reads.Learnt, variant-below t, read-variant.Post)
-    (level read-parted-kinds.ps μ-read-parted read-parted.Pre t)
+    (λ t. read-parted-lts.spec (parted-claims t) (parted-at t)
     read-parted.Post
     (λ c κs. search needs)
     (λ c. search (struct-fits, needs))
     (λ c κs. (search needs, (search needs, search struct-parted)))
     (λ c. search needs)
-    (λ c. (search (parted-struct, flagged, needs), search needs))
+    (λ c. (search (parted-struct, needs), search needs))
     (λ c κs. search needs)
     (λ c. search needs)
     (λ c. search needs)
@@ -438,9 +496,7 @@ pub +read-container+read-contents+read-elements+read-entries+read-fields+read-na
     (λ c. search needs)
     (λ c. (search (parted-variant, needs), search needs))
     (λ c. (search (parted-none, needs), search needs)))
-    (λ t. read-parts-lts.spec
-    (is-struct-reads.Asked, is-struct-reads.Learnt, fields-below t, read-fields.Post, elements-below t, read-elements.Post, entries-below t, read-entries.Post, positions-below t, read-positions.Post)
-    (level read-parts-kinds.ps μ-read-parts read-parts.Pre t)
+    (λ t. read-parts-lts.spec (parts-claims t) (parts-at t)
     read-parts.Post
     (λ c κs. search needs)
     (λ c κs. (search needs, (search needs, search (flagged, needs))))
@@ -455,9 +511,7 @@ pub +read-container+read-contents+read-elements+read-entries+read-fields+read-na
     (λ c κs. (search needs, search needs))
     (λ c. search needs)
     (λ c. (search (by-positions, needs), search needs)))
-    (λ t. read-positions-lts.spec
-    (value-part-reads.Asked, value-part-reads.Learnt, part-below t, read-part.Post)
-    (level read-positions-kinds.ps μ-read-positions read-positions.Pre t)
+    (λ t. read-positions-lts.spec (positions-claims t) (positions-at t)
     read-positions.Post
     read-positions-Inv-loop
     read-positions-μ-loop
@@ -477,25 +531,23 @@ pub +read-container+read-contents+read-elements+read-entries+read-fields+read-na
     (λ c. (search (parts-stopped, position-part, needs), search needs))
     (λ c. search needs)
     (λ c.
-    let inv = c .before .before .before .before .before .before .before .before .before .before .before .before .loop .inv in
+    let inv = c .before .before .before .before .before .before .before .before .before .before .before .before .loop .inv .0 in
     let part = position-part _ _ _ _ _ _ (c .before .before .before .before .before .before .before .before .before .before .before .loop-test .taken) (c .before .before .before .before .before .before .before .before .before .before .value-part .ensures) in
     let step = c .before .before .before .before .before .before .before .before .step .given .1 in
     let read = c .before .before .before .before .before .read-part .ensures in
     let next = c .before .behind2 .given .1 in
-    parts-less _ _ _ _ _ _ _ _ _ _ _ _ (inv .0 .0) _ part _ _ step _ _ (read .0) _ _ next _ (le-refl _))
+    parts-less _ _ _ _ _ _ _ _ _ _ _ _ (inv .0) _ part _ _ step _ _ (read .0) _ _ next _ (le-refl _))
     (λ c.
-    let inv = c .before .before .before .before .before .before .before .before .before .before .before .before .loop .inv in
+    let inv = c .before .before .before .before .before .before .before .before .before .before .before .before .loop .inv .0 in
     let part = position-part _ _ _ _ _ _ (c .before .before .before .before .before .before .before .before .before .before .before .loop-test .taken) (c .before .before .before .before .before .before .before .before .before .before .value-part .ensures) in
     let step = c .before .before .before .before .before .before .before .before .step .given .1 in
     let read = c .before .before .before .before .before .read-part .ensures in
     let next = c .before .behind2 .given .1 in
-    let more = parts-more _ _ _ _ _ _ _ _ _ _ _ _ (inv .0 .0) _ part _ _ step _ _ (read .0) _ _ next in
-    ((more, search (traced-ready, needs), le-trans (inv .0 .2) (traced-grows _ _ _ _ (read .1) _ _ next), search needs), search needs))
+    let more = parts-more _ _ _ _ _ _ _ _ _ _ _ _ (inv .0) _ part _ _ step _ _ (read .0) _ _ next in
+    ((more, search (traced-ready, needs), le-trans (inv .2) (traced-grows _ _ _ _ (read .1) _ _ next), search needs), search needs))
     (λ c. search needs)
     (λ c. (parts-end _ _ _ _ _ _ _ _ _ _ _ _ (c .before .loop .inv .0 .0) _ (positions-end _ _ _ _ _ (search needs)) _ refl, search needs)))
-    (λ t. read-value-lts.spec
-    (past-marks-reads.Asked, past-marks-reads.Learnt, leaf-at-reads.Asked, leaf-at-reads.Learnt, observe-reads.Asked, observe-reads.Learnt, parted-below t, read-parted.Post)
-    (level read-value-kinds.ps μ-read-value read-value.Pre t)
+    (λ t. read-value-lts.spec (value-claims t) (value-at t)
     read-value.Post
     (λ c κs. search (is-place, has-room, needs))
     (λ c κs. search needs)
@@ -507,9 +559,7 @@ pub +read-container+read-contents+read-elements+read-entries+read-fields+read-na
     (λ c. (search (value-leaf, needs), search (observed-sound, past-ready, needs)))
     (λ c. search needs)
     (λ c. (search (value-parted, needs), search needs)))
-    λ t. read-variant-lts.spec
-    (open-variant-reads.Asked, open-variant-reads.Learnt, lower-reads.Asked, lower-reads.Learnt, contents-below t, read-contents.Post)
-    (level read-variant-kinds.ps μ-read-variant read-variant.Pre t)
+    λ t. read-variant-lts.spec (variant-claims t) (variant-at t)
     read-variant.Post
     (λ c κs. search needs)
     (λ c. search needs)
