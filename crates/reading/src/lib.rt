@@ -48,15 +48,9 @@ pub fn read_value(
 {
     let here = leaves::past_marks(commands, at, site.place, table);
     match shapes::leaf_at(commands, text, options, here) {
-        Leaf::Value(null, kind, next) => leaves::observe(
-            options,
-            null,
-            kind,
-            here,
-            next,
-            site,
-            table,
-        ),
+        Leaf::Value(null, kind, next) => {
+            leaves::observe(options, null, kind, here, next, site, table)
+        }
         Leaf::Other => read_parted(commands, text, options, here, site, table),
     }
 }
@@ -78,15 +72,9 @@ fn read_named(
 {
     let here = leaves::past_marks(commands, at, site.place, table);
     match shapes::leaf_at(commands, text, options, here) {
-        Leaf::Value(null, kind, next) => leaves::observe(
-            options,
-            null,
-            kind,
-            here,
-            next,
-            site,
-            table,
-        ),
+        Leaf::Value(null, kind, next) => {
+            leaves::observe(options, null, kind, here, next, site, table)
+        }
         Leaf::Other => {
             let levels = lower(site.levels, name, text);
             let below = Site {
@@ -131,17 +119,9 @@ fn read_parted(
     };
     match shapes::shape_of(command, text, options) {
         Shape::Leaf(null, kind) => leaves::observe(options, null, kind, here, next, site, table),
-        Shape::Parts(kind, n) => read_container(
-            commands,
-            text,
-            options,
-            kind,
-            n,
-            here,
-            next,
-            site,
-            table,
-        ),
+        Shape::Parts(kind, n) => {
+            read_container(commands, text, options, kind, n, here, next, site, table)
+        }
         Shape::Variant(number, name, contents) => read_variant(
             commands,
             text,
@@ -239,11 +219,11 @@ fn read_fields(
     ensures { λ r. ⌜ Reads commands text options start site table (parts kind 0) r ⌝ }
 {
     let mut at = start;
-    let mut places = site.count;
+    let mut grown = site;
     loop {
-        match opening::open_field(commands, text, kind, at, site.place, places, table) {
+        match opening::open_field(commands, text, kind, at, grown.place, grown.count, table) {
             Opened::Ended => {
-                return Traced::Next(at + 1, places);
+                return Traced::Next(at + 1, grown.count);
             }
             Opened::Refused(refusal) => {
                 return Traced::Refused(refusal, at);
@@ -253,12 +233,12 @@ fn read_fields(
                 let below = Site {
                     place: child,
                     count: more,
-                    levels: site.levels,
+                    levels: grown.levels,
                 };
                 match read_named(commands, text, options, name, at + 5, below, table) {
                     Traced::Next(behind, still) => {
                         at = behind;
-                        places = still;
+                        grown.count = still;
                     }
                     Traced::Refused(refusal, offset) => {
                         return Traced::Refused(refusal, offset);
@@ -282,25 +262,20 @@ fn read_elements(
     ensures { λ r. ⌜ Reads commands text options start site table (parts sequenceKind 0) r ⌝ }
 {
     let mut at = start;
-    let mut places = site.count;
+    let mut grown = site;
     loop {
         match shapes::value_part(commands, text, Step::Element, Due::ValueOrEnd, at) {
             Part::Ended(behind) => {
-                return Traced::Next(behind, places);
+                return Traced::Next(behind, grown.count);
             }
             Part::Refused(refusal, offset) => {
                 return Traced::Refused(refusal, offset);
             }
             Part::Step(step, value) => {
-                let here = Site {
-                    place: site.place,
-                    count: places,
-                    levels: site.levels,
-                };
-                match read_part(commands, text, options, step, at, value, here, table) {
+                match read_part(commands, text, options, step, at, value, grown, table) {
                     Traced::Next(behind, more) => {
-                        at = runs::past_same(commands, behind, site.place, table);
-                        places = more;
+                        at = runs::past_same(commands, behind, grown.place, table);
+                        grown.count = more;
                     }
                     Traced::Refused(refusal, offset) => {
                         return Traced::Refused(refusal, offset);
@@ -325,25 +300,20 @@ fn read_entries(
 {
     let mut i: usize = 0;
     let mut at = start;
-    let mut places = site.count;
+    let mut grown = site;
     loop {
         match shapes::entry_part(commands, text, i, at) {
             Part::Ended(behind) => {
-                return Traced::Next(behind, places);
+                return Traced::Next(behind, grown.count);
             }
             Part::Refused(refusal, offset) => {
                 return Traced::Refused(refusal, offset);
             }
             Part::Step(step, value) => {
-                let here = Site {
-                    place: site.place,
-                    count: places,
-                    levels: site.levels,
-                };
-                match read_part(commands, text, options, step, at, value, here, table) {
+                match read_part(commands, text, options, step, at, value, grown, table) {
                     Traced::Next(behind, more) => {
                         at = behind;
-                        places = more;
+                        grown.count = more;
                     }
                     Traced::Refused(refusal, offset) => {
                         return Traced::Refused(refusal, offset);
@@ -370,25 +340,20 @@ fn read_positions(
 {
     let mut i: u16 = 0;
     let mut at = start;
-    let mut places = site.count;
+    let mut grown = site;
     while i < positions {
         match shapes::value_part(commands, text, Step::Position(i), Due::Value, at) {
             Part::Ended(behind) => {
-                return Traced::Next(behind, places);
+                return Traced::Next(behind, grown.count);
             }
             Part::Refused(refusal, offset) => {
                 return Traced::Refused(refusal, offset);
             }
             Part::Step(step, value) => {
-                let here = Site {
-                    place: site.place,
-                    count: places,
-                    levels: site.levels,
-                };
-                match read_part(commands, text, options, step, at, value, here, table) {
+                match read_part(commands, text, options, step, at, value, grown, table) {
                     Traced::Next(behind, more) => {
                         at = behind;
-                        places = more;
+                        grown.count = more;
                     }
                     Traced::Refused(refusal, offset) => {
                         return Traced::Refused(refusal, offset);
@@ -398,7 +363,7 @@ fn read_positions(
         }
         i += 1;
     }
-    Traced::Next(at, places)
+    Traced::Next(at, grown.count)
 }
 
 // The value of a part that is no field, at the child that its step leads to.

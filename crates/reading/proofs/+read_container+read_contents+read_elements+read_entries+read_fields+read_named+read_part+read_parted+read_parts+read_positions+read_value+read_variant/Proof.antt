@@ -237,40 +237,41 @@ value-claims t = (past-marks-reads.Asked, past-marks-reads.Learnt, leaf-at-reads
 abbrev variant-claims : ℕ → read-variant-lts.Claims
 variant-claims t = (open-variant-reads.Asked, open-variant-reads.Learnt, lower-reads.Asked, lower-reads.Learnt, contents-below t, read-contents.Post)
 
--- ---- the loops: from here on the parts give what they give from the start on, the place is ready, and no place is lost
-abbrev Left : List ℕ → List ℕ → TracingOptions → ℕ → ℕ → ℕ → Site → List ℕ → ℕ → ℕ → ℕ → List ℕ → Type 0
-Left commands text options kind positions start site table₀ i at places table =
-    (partsFrom commands text (readers commands text (options .word) (site .levels)) kind positions (site .place) i at places table
+-- ---- the loops: from here on the parts give what they give from the start on, the place is ready, no place is lost, and
+-- the levels stay
+abbrev Left : List ℕ → List ℕ → TracingOptions → ℕ → ℕ → ℕ → Site → List ℕ → ℕ → ℕ → Site → List ℕ → Type 0
+Left commands text options kind positions start site table₀ i at grown table =
+    (partsFrom commands text (readers commands text (options .word) (grown .levels)) kind positions (grown .place) i at (grown .count) table
     ≡ partsBy commands text (readers commands text (options .word) (site .levels)) kind positions (site .place) start (site .count) table₀)
-    × Ready text table places (site .place) × (site .count ≤ places) × (length table ≡ length table₀)
+    × Ready text table (grown .count) (grown .place) × (site .count ≤ grown .count) × (length table ≡ length table₀) × (grown .levels ≡ site .levels)
 
 abbrev read-elements-Inv-loop : read-elements-lts.InvT-loop
-read-elements-Inv-loop commands text options start site table₀ at₀ places₀ table at places =
-    Left commands text options sequenceKind 0 start site table₀ 0 at places table
+read-elements-Inv-loop commands text options start table₀ at₀ grown₀ table at grown =
+    Left commands text options sequenceKind 0 start grown₀ table₀ 0 at grown table
 
 abbrev read-elements-μ-loop : read-elements-lts.MeasureT-loop
-read-elements-μ-loop commands text options start site table₀ at₀ places₀ table at places = length commands - at
+read-elements-μ-loop commands text options start table₀ at₀ grown₀ table at grown = length commands - at
 
 abbrev read-entries-Inv-loop : read-entries-lts.InvT-loop
-read-entries-Inv-loop commands text options start site table₀ i₀ at₀ places₀ table i at places =
-    Left commands text options mapKind 0 start site table₀ i at places table × (i ≤ at)
+read-entries-Inv-loop commands text options start table₀ i₀ at₀ grown₀ table i at grown =
+    Left commands text options mapKind 0 start grown₀ table₀ i at grown table × (i ≤ at)
 
 abbrev read-entries-μ-loop : read-entries-lts.MeasureT-loop
-read-entries-μ-loop commands text options start site table₀ i₀ at₀ places₀ table i at places = length commands - at
+read-entries-μ-loop commands text options start table₀ i₀ at₀ grown₀ table i at grown = length commands - at
 
 abbrev read-fields-Inv-loop : read-fields-lts.InvT-loop
-read-fields-Inv-loop commands text options kind start site table₀ at₀ places₀ table at places =
-    Left commands text options kind 0 start site table₀ 0 at places table
+read-fields-Inv-loop commands text options kind start table₀ at₀ grown₀ table at grown =
+    Left commands text options kind 0 start grown₀ table₀ 0 at grown table
 
 abbrev read-fields-μ-loop : read-fields-lts.MeasureT-loop
-read-fields-μ-loop commands text options kind start site table₀ at₀ places₀ table at places = length commands - at
+read-fields-μ-loop commands text options kind start table₀ at₀ grown₀ table at grown = length commands - at
 
 abbrev read-positions-Inv-loop : read-positions-lts.InvT-loop
-read-positions-Inv-loop commands text options positions start site table₀ i₀ at₀ places₀ table i at places =
-    Left commands text options tupleKind positions start site table₀ i at places table × (i ≤ positions)
+read-positions-Inv-loop commands text options positions start table₀ i₀ at₀ grown₀ table i at grown =
+    Left commands text options tupleKind positions start grown₀ table₀ i at grown table × (i ≤ positions)
 
 abbrev read-positions-μ-loop : read-positions-lts.MeasureT-loop
-read-positions-μ-loop commands text options positions start site table₀ i₀ at₀ places₀ table i at places = length commands - at
+read-positions-μ-loop commands text options positions start table₀ i₀ at₀ grown₀ table i at grown = length commands - at
 
 pub +read-container+read-contents+read-elements+read-entries+read-fields+read-named+read-part+read-parted+read-parts+read-positions+read-value+read-variant-spec :
     {M : Type 1} → statement M
@@ -350,7 +351,7 @@ pub +read-container+read-contents+read-elements+read-entries+read-fields+read-na
     let read = c .before .before .before .before .before .before .before .read-part .ensures in
     let next = c .before .before .before .behind2 .given .1 in
     let more = elements-more _ _ _ _ _ _ _ _ _ (inv .0) _ part _ _ step _ _ (read .0) _ _ next in
-    (elements-same _ _ _ _ _ _ _ _ _ _ (c .past-same .ensures) more, search (traced-ready, needs), le-trans (inv .2) (traced-grows _ _ _ _ (read .1) _ _ next), search needs))
+    (elements-same _ _ _ _ _ _ _ _ _ _ (c .past-same .ensures) more, search (traced-ready, needs), le-trans (inv .2) (traced-grows _ _ _ _ (read .1) _ _ next), search needs, search needs))
     (λ c. search needs)
     (λ c. search needs)
     (λ c. (search (parts-stopped, element-part, needs), search needs)))
@@ -394,7 +395,7 @@ pub +read-container+read-contents+read-elements+read-entries+read-fields+read-na
     let next = c .before .behind2 .given .1 in
     let more = parts-more _ _ _ _ _ _ _ _ _ _ _ _ (inv .0) _ part _ _ step _ _ (read .0) _ _ next in
     let counted = parts-counted _ _ _ _ _ _ _ _ _ _ _ _ (inv .0) _ part _ _ step _ _ (read .0) _ _ next _ (le-refl _) (search needs) in
-    ((more, search (traced-ready, needs), le-trans (inv .2) (traced-grows _ _ _ _ (read .1) _ _ next), search needs), counted)))
+    ((more, search (traced-ready, needs), le-trans (inv .2) (traced-grows _ _ _ _ (read .1) _ _ next), search needs, search needs), counted)))
     (λ t. read-fields-lts.spec (fields-claims t) (fields-at t)
     read-fields.Post
     read-fields-Inv-loop
@@ -434,7 +435,7 @@ pub +read-container+read-contents+read-elements+read-entries+read-fields+read-na
     let more = fields-more _ _ _ _ _ _ _ _ _ is _ (inv .0) _ _ (field .0) _ _ child _ name _ _ (read .0) _ _ next in
     let still = field-still _ _ _ _ (field .1) _ _ _ child (inv .1 .here) in
     let grows = field-grows _ _ _ _ (field .1) _ _ child in
-    (more, traced-ready _ _ _ _ (read .1) _ _ next _ still, le-trans (inv .2) (le-trans grows (traced-grows _ _ _ _ (read .1) _ _ next)), search needs))
+    (more, traced-ready _ _ _ _ (read .1) _ _ next _ still, le-trans (inv .2) (le-trans grows (traced-grows _ _ _ _ (read .1) _ _ next)), search needs, search needs))
     (λ c. search needs)
     (λ c. search needs)
     (λ c.
@@ -544,7 +545,7 @@ pub +read-container+read-contents+read-elements+read-entries+read-fields+read-na
     let read = c .before .before .before .before .before .read-part .ensures in
     let next = c .before .behind2 .given .1 in
     let more = parts-more _ _ _ _ _ _ _ _ _ _ _ _ (inv .0) _ part _ _ step _ _ (read .0) _ _ next in
-    ((more, search (traced-ready, needs), le-trans (inv .2) (traced-grows _ _ _ _ (read .1) _ _ next), search needs), search needs))
+    ((more, search (traced-ready, needs), le-trans (inv .2) (traced-grows _ _ _ _ (read .1) _ _ next), search needs, search needs), search needs))
     (λ c. search needs)
     (λ c. (parts-end _ _ _ _ _ _ _ _ _ _ _ _ (c .before .loop .inv .0 .0) _ (positions-end _ _ _ _ _ (search needs)) _ refl, search needs)))
     (λ t. read-value-lts.spec (value-claims t) (value-at t)
