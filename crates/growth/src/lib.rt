@@ -197,9 +197,7 @@ fn seek_positions(
             Made::Places(more) => {
                 places = more;
             }
-            Made::Refused(refusal) => {
-                return Made::Refused(refusal);
-            }
+            Made::Refused(refusal) => return Made::Refused(refusal),
         }
         i += 1;
     }

@@ -28,7 +28,8 @@ pub fn hold(text: &[u8], place: usize, step: Step, count: usize, table: &mut [u3
     }
 }
 
-// A container meets what the place is, is one more sample there, and makes its children.
+// A container meets what the place is, is one more sample there, and makes its children. Levels, place and count come as
+// numbers: as one struct they change what is inlined, and deep containers take 7 % more instructions.
 pub fn open_container(
     text: &[u8],
     options: TracingOptions,

@@ -101,17 +101,9 @@ fn read_parted(
     ensures { λ r. ⌜ Reads commands text options here site table parted r ⌝ }
 {
     if shapes::is_struct_at(commands, here) {
-        return read_container(
-            commands,
-            text,
-            options,
-            shapes::STRUCT,
-            0,
-            here,
-            here + 1,
-            site,
-            table,
-        );
+        let kind = shapes::STRUCT;
+        let at = here + 1;
+        return read_container(commands, text, options, kind, 0, here, at, site, table);
     }
     let read = commands::read_command(commands, text, here, Due::Value);
     let Read::Command(command, next) = read else {
@@ -204,7 +196,8 @@ fn read_parts(
     read_positions(commands, text, options, positions, start, site, table)
 }
 
-// The fields of a struct, or of a map in map mode, up to the end.
+// The fields of a struct, or of a map in map mode, up to the end. The site grows by the places that they add, here and in
+// the loops below.
 fn read_fields(
     commands: &[u8],
     text: &[u8],
@@ -222,12 +215,8 @@ fn read_fields(
     let mut grown = site;
     loop {
         match opening::open_field(commands, text, kind, at, grown.place, grown.count, table) {
-            Opened::Ended => {
-                return Traced::Next(at + 1, grown.count);
-            }
-            Opened::Refused(refusal) => {
-                return Traced::Refused(refusal, at);
-            }
+            Opened::Ended => return Traced::Next(at + 1, grown.count),
+            Opened::Refused(refusal) => return Traced::Refused(refusal, at),
             Opened::Child(child, more) => {
                 let name = commands::read_name(commands, at + 1);
                 let below = Site {
@@ -240,9 +229,7 @@ fn read_fields(
                         at = behind;
                         grown.count = still;
                     }
-                    Traced::Refused(refusal, offset) => {
-                        return Traced::Refused(refusal, offset);
-                    }
+                    Traced::Refused(refusal, offset) => return Traced::Refused(refusal, offset),
                 }
             }
         }
@@ -265,21 +252,15 @@ fn read_elements(
     let mut grown = site;
     loop {
         match shapes::value_part(commands, text, Step::Element, Due::ValueOrEnd, at) {
-            Part::Ended(behind) => {
-                return Traced::Next(behind, grown.count);
-            }
-            Part::Refused(refusal, offset) => {
-                return Traced::Refused(refusal, offset);
-            }
+            Part::Ended(behind) => return Traced::Next(behind, grown.count),
+            Part::Refused(refusal, offset) => return Traced::Refused(refusal, offset),
             Part::Step(step, value) => {
                 match read_part(commands, text, options, step, at, value, grown, table) {
                     Traced::Next(behind, more) => {
                         at = runs::past_same(commands, behind, grown.place, table);
                         grown.count = more;
                     }
-                    Traced::Refused(refusal, offset) => {
-                        return Traced::Refused(refusal, offset);
-                    }
+                    Traced::Refused(refusal, offset) => return Traced::Refused(refusal, offset),
                 }
             }
         }
@@ -303,21 +284,15 @@ fn read_entries(
     let mut grown = site;
     loop {
         match shapes::entry_part(commands, text, i, at) {
-            Part::Ended(behind) => {
-                return Traced::Next(behind, grown.count);
-            }
-            Part::Refused(refusal, offset) => {
-                return Traced::Refused(refusal, offset);
-            }
+            Part::Ended(behind) => return Traced::Next(behind, grown.count),
+            Part::Refused(refusal, offset) => return Traced::Refused(refusal, offset),
             Part::Step(step, value) => {
                 match read_part(commands, text, options, step, at, value, grown, table) {
                     Traced::Next(behind, more) => {
                         at = behind;
                         grown.count = more;
                     }
-                    Traced::Refused(refusal, offset) => {
-                        return Traced::Refused(refusal, offset);
-                    }
+                    Traced::Refused(refusal, offset) => return Traced::Refused(refusal, offset),
                 }
             }
         }
@@ -343,21 +318,15 @@ fn read_positions(
     let mut grown = site;
     while i < positions {
         match shapes::value_part(commands, text, Step::Position(i), Due::Value, at) {
-            Part::Ended(behind) => {
-                return Traced::Next(behind, grown.count);
-            }
-            Part::Refused(refusal, offset) => {
-                return Traced::Refused(refusal, offset);
-            }
+            Part::Ended(behind) => return Traced::Next(behind, grown.count),
+            Part::Refused(refusal, offset) => return Traced::Refused(refusal, offset),
             Part::Step(step, value) => {
                 match read_part(commands, text, options, step, at, value, grown, table) {
                     Traced::Next(behind, more) => {
                         at = behind;
                         grown.count = more;
                     }
-                    Traced::Refused(refusal, offset) => {
-                        return Traced::Refused(refusal, offset);
-                    }
+                    Traced::Refused(refusal, offset) => return Traced::Refused(refusal, offset),
                 }
             }
         }
@@ -451,27 +420,13 @@ fn read_contents(
     match contents {
         Contents::Unit => leaves::observe(options, true, shapes::UNKNOWN, here, at, site, table),
         Contents::Value => read_value(commands, text, options, at, site, table),
-        Contents::Positions(n) => read_container(
-            commands,
-            text,
-            options,
-            shapes::TUPLE,
-            n,
-            here,
-            at,
-            site,
-            table,
-        ),
-        Contents::Fields => read_container(
-            commands,
-            text,
-            options,
-            shapes::STRUCT,
-            0,
-            here,
-            at,
-            site,
-            table,
-        ),
+        Contents::Positions(n) => {
+            let kind = shapes::TUPLE;
+            read_container(commands, text, options, kind, n, here, at, site, table)
+        }
+        Contents::Fields => {
+            let kind = shapes::STRUCT;
+            read_container(commands, text, options, kind, 0, here, at, site, table)
+        }
     }
 }

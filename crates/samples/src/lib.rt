@@ -34,9 +34,7 @@ pub fn from_samples(
                 at = behind;
                 places = more;
             }
-            Traced::Refused(refusal, offset) => {
-                return Traced::Refused(refusal, offset);
-            }
+            Traced::Refused(refusal, offset) => return Traced::Refused(refusal, offset),
         }
     }
     Traced::Next(at, places)
