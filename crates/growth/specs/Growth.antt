@@ -1,9 +1,11 @@
 -- How places come to the table: a new last child, the child at a step found or made, samples counted, and the children of a container.
+use mathlib.Core.Path.{_≡_}
 use mathlib.Core.Bool.{not, _&&_}
 use mathlib.Core.List.{List, [], _∷_}
 use Prim.Native.Nat.{ℕ, zero, suc, _+_, _%_, _^_, _<_}
 use lib.Dec.{eqb, leb}
 use Rattle.logic.specs.Test.{if_then_else_}
+use Rattle.logic.specs.Slices.{Slice, atEntry, atExit}
 use Rattle.refusal.specs.declared.Refusal.the-variants as F
 use Rattle.text.specs.declared.Name.{Name}
 use Rattle.text.specs.Name.{bytesOf, eqName, tagOf}
@@ -24,11 +26,13 @@ use Rattle.search.specs.Search.{childAt}
 
 -- ---- a new last child: linked from the place where it is the first, else from the last before it
 unfoldable pub linked : ℕ → ℕ → List ℕ → List ℕ
-linked place child t = if eqb (word t place firstWord) 0 then withWord t place firstWord child else withWord t (word t place lastWord) nextWord child
+linked place child t =
+    if eqb (word t place firstWord) 0 then withWord t place firstWord child else withWord t (word t place lastWord) nextWord child
 
 -- its words that tell where it stands
 unfoldable pub described : ℕ → ℕ → Name → ℕ → List ℕ → List ℕ
-described place code name child t = withWord (withWord (withWord t child parentWord place) child stepWord code) child nameWord (packedName name)
+described place code name child t =
+    withWord (withWord (withWord t child parentWord place) child stepWord code) child nameWord (packedName name)
 
 unfoldable pub appended : ℕ → ℕ → Name → ℕ → List ℕ → List ℕ
 appended place code name child t = described place code name child (withWord (linked place child t) place lastWord child)
@@ -124,3 +128,11 @@ SoundEnsured text t (E.Refused refusal) = Unit {0}
 abbrev pub SoundMade : List ℕ → List ℕ → Made → Type 0
 SoundMade text t (D.Places n) = Sound text t n
 SoundMade text t (D.Refused refusal) = Unit {0}
+
+-- ---- what is promised of a function that ensures a child, or makes children: its answer and the table then are what the definition gives
+-- of the table before, and the table is sound
+abbrev pub EnsuredAs : Slice → Slice → Ensured → Ensuring → Type 0
+EnsuredAs text table r wanted = (ensuring r (atExit table) ≡ wanted) × SoundEnsured (atEntry text) (atExit table) r
+
+abbrev pub MadeAs : Slice → Slice → Made → Making → Type 0
+MadeAs text table r wanted = (making r (atExit table) ≡ wanted) × SoundMade (atEntry text) (atExit table) r

@@ -2,10 +2,11 @@
 ghost use mathlib.Core.Path.{_≡_};
 ghost use Prim.Native.Nat.{_<_};
 ghost use Rattle.words.specs.Word.{word, IsTable, IsRow};
-ghost use Rattle.shapes.specs.Steps.{fieldCode, codeOf, nameOf, unpackedName, Inside, Good};
-ghost use Rattle.places.specs.Layout.{Ready, lastWord, nameWord};
+ghost use Rattle.shapes.specs.Steps.{fieldCode, codeOf, nameOf, Good};
+ghost use Rattle.places.specs.Layout.{Ready, lastWord};
 ghost use Rattle.search.specs.Tree.{seek};
-ghost use Rattle.growth.specs.Growth.{linked, described, appended, Ensuring, confirmed, ensuredBy, ensured, touched, sampled, Making, madeOne, madeAll, positionsFrom, positionsMade, made, SoundEnsured, SoundMade, entered};
+ghost use Rattle.search.specs.Search.{Comparable};
+ghost use Rattle.growth.specs.Growth.{linked, described, appended, confirmed, ensuredBy, ensured, EnsuredAs, touched, sampled, madeOne, madeAll, positionsFrom, positionsMade, made, MadeAs, entered};
 ghost use mathlib.Core.Bool.{_&&_};
 ghost use lib.Dec.{eqb};
 ghost use Rattle.model.specs.Kinds.{tupleKind};
@@ -71,7 +72,7 @@ pub enum Ensured {
 
 // The child that was found, whose name must be the one given (a variant's number has one name).
 fn confirm(text: &[u8], name: Name, child: usize, count: usize, table: &[u32]) -> Ensured
-    requires { ⌜ IsRow child × IsTable (now table) × Inside (now text) name × Inside (now text) (unpackedName (word (now table) child nameWord)) ⌝ }
+    requires { ⌜ Comparable (now text) (now table) name child ⌝ }
     ensures { λ r. ⌜ r ≡ confirmed (now (text .entry)) name child count (now (table .entry)) ⌝ }
 {
     if shapes::unpacked(words::get(table, child, places::NAME)).equals(name, text) {
@@ -91,7 +92,7 @@ pub fn add(
     table: &mut [u32],
 ) -> Ensured
     requires { ⌜ Ready (now text) (now table) count place × Good (now text) name ⌝ }
-    ensures { λ r. ⌜ (Ensuring.ensuring r (now (table .exit)) ≡ ensuredBy (now (text .entry)) place code name count (now (table .entry)) 0) × SoundEnsured (now (text .entry)) (now (table .exit)) r ⌝ }
+    ensures { λ r. ⌜ EnsuredAs text table r (ensuredBy (now (text .entry)) place code name count (now (table .entry)) 0) ⌝ }
 {
     if places::PLACES <= count {
         return Ensured::Refused(Refusal::TooManyPlaces);
@@ -105,7 +106,7 @@ pub fn add(
 // The child of a place at a step that is no field: found, or made where there is room.
 pub fn ensure(text: &[u8], place: usize, step: Step, count: usize, table: &mut [u32]) -> Ensured
     requires { ⌜ Ready (now text) (now table) count place × Good (now text) (nameOf step) × (codeOf step ≡ fieldCode → ⊥) ⌝ }
-    ensures { λ r. ⌜ (Ensuring.ensuring r (now (table .exit)) ≡ ensured (now (text .entry)) place step count (now (table .entry))) × SoundEnsured (now (text .entry)) (now (table .exit)) r ⌝ }
+    ensures { λ r. ⌜ EnsuredAs text table r (ensured (now (text .entry)) place step count (now (table .entry))) ⌝ }
 {
     let code = step.code();
     let name = step.name();
@@ -159,7 +160,7 @@ pub enum Made {
 // One child that must be there.
 fn make_one(text: &[u8], place: usize, step: Step, count: usize, table: &mut [u32]) -> Made
     requires { ⌜ Ready (now text) (now table) count place × Good (now text) (nameOf step) × (codeOf step ≡ fieldCode → ⊥) ⌝ }
-    ensures { λ r. ⌜ (Making.making r (now (table .exit)) ≡ madeOne (now (text .entry)) place step count (now (table .entry))) × SoundMade (now (text .entry)) (now (table .exit)) r ⌝ }
+    ensures { λ r. ⌜ MadeAs text table r (madeOne (now (text .entry)) place step count (now (table .entry))) ⌝ }
 {
     match ensure(text, place, step, count, table) {
         Ensured::Child(_, more) => Made::Places(more),
@@ -170,7 +171,7 @@ fn make_one(text: &[u8], place: usize, step: Step, count: usize, table: &mut [u3
 // A map's key and value.
 fn make_pair(text: &[u8], place: usize, count: usize, table: &mut [u32]) -> Made
     requires { ⌜ Ready (now text) (now table) count place ⌝ }
-    ensures { λ r. ⌜ (Making.making r (now (table .exit)) ≡ madeAll (now (text .entry)) place (Key ∷ Value ∷ []) count (now (table .entry))) × SoundMade (now (text .entry)) (now (table .exit)) r ⌝ }
+    ensures { λ r. ⌜ MadeAs text table r (madeAll (now (text .entry)) place (Key ∷ Value ∷ []) count (now (table .entry))) ⌝ }
 {
     match make_one(text, place, Step::Key, count, table) {
         Made::Places(more) => make_one(text, place, Step::Value, more, table),
@@ -187,7 +188,7 @@ fn seek_positions(
     table: &mut [u32],
 ) -> Made
     requires { ⌜ Ready (now text) (now table) count place ⌝ }
-    ensures { λ r. ⌜ (Making.making r (now (table .exit)) ≡ madeAll (now (text .entry)) place (positionsFrom 0 positions) count (now (table .entry))) × SoundMade (now (text .entry)) (now (table .exit)) r ⌝ }
+    ensures { λ r. ⌜ MadeAs text table r (madeAll (now (text .entry)) place (positionsFrom 0 positions) count (now (table .entry))) ⌝ }
 {
     let mut i: u16 = 0;
     let mut places = count;
@@ -196,9 +197,7 @@ fn seek_positions(
             Made::Places(more) => {
                 places = more;
             }
-            Made::Refused(refusal) => {
-                return Made::Refused(refusal);
-            }
+            Made::Refused(refusal) => return Made::Refused(refusal),
         }
         i += 1;
     }
@@ -214,7 +213,7 @@ fn make_positions(
     table: &mut [u32],
 ) -> Made
     requires { ⌜ Ready (now text) (now table) count place ⌝ }
-    ensures { λ r. ⌜ (Making.making r (now (table .exit)) ≡ positionsMade (now (text .entry)) place positions count (now (table .entry))) × SoundMade (now (text .entry)) (now (table .exit)) r ⌝ }
+    ensures { λ r. ⌜ MadeAs text table r (positionsMade (now (text .entry)) place positions count (now (table .entry))) ⌝ }
 {
     if words::get(table, place, places::FIRST) != 0 {
         return seek_positions(text, place, positions, count, table);
@@ -252,7 +251,7 @@ pub fn make(
     table: &mut [u32],
 ) -> Made
     requires { ⌜ Ready (now text) (now table) count place ⌝ }
-    ensures { λ r. ⌜ (Making.making r (now (table .exit)) ≡ made (now (text .entry)) place kind positions before count (now (table .entry))) × SoundMade (now (text .entry)) (now (table .exit)) r ⌝ }
+    ensures { λ r. ⌜ MadeAs text table r (made (now (text .entry)) place kind positions before count (now (table .entry))) ⌝ }
 {
     if kind == shapes::SEQUENCE {
         return make_one(text, place, Step::Element, count, table);

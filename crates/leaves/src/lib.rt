@@ -2,11 +2,18 @@
 ghost use mathlib.Core.Path.{_≡_};
 ghost use Prim.Native.Nat.{_<_};
 ghost use Rattle.words.specs.Word.{word, IsTable, IsRow};
-ghost use Rattle.leaves.specs.Leaves.{Out, stored, observed, isKnown};
+ghost use Rattle.leaves.specs.Leaves.{Out, stored, observedAt, isKnown};
 ghost use Rattle.leaves.specs.Marks.{Chain, isMark, marked, pastMarks};
 use kinds::Met;
 use options::TracingOptions;
 use refusal::Refusal;
+
+// Where in the table a value is traced: its place, how many places there are, and how many levels are left for containers.
+pub struct Site {
+    pub place: usize,
+    pub count: usize,
+    pub levels: usize,
+}
 
 // The offset behind what was read and the count of places, or a refusal and its place.
 pub enum Traced {
@@ -81,24 +88,22 @@ pub fn observe(
     options: TracingOptions,
     null: bool,
     kind: u32,
-    levels: usize,
     here: usize,
     next: usize,
-    place: usize,
-    count: usize,
+    site: Site,
     table: &mut [u32],
 ) -> Traced
-    requires { ⌜ IsRow place × IsTable (now table) ⌝ }
-    ensures { λ r. ⌜ Out.out r (now (table .exit)) ≡ observed (options .word) null kind levels here next place count (now (table .entry)) ⌝ }
+    requires { ⌜ IsRow (site .place) × IsTable (now table) ⌝ }
+    ensures { λ r. ⌜ Out.out r (now (table .exit)) ≡ observedAt (options .word) null kind here next site (now (table .entry)) ⌝ }
 {
-    let before = words::get(table, place, places::KIND);
+    let before = words::get(table, site.place, places::KIND);
     if is_known(null, before, kind) {
-        return Traced::Next(next, count);
+        return Traced::Next(next, site.count);
     }
-    match kinds::meet(options, levels, before, kind) {
+    match kinds::meet(options, site.levels, before, kind) {
         Met::Kind(joint) => {
-            store(null, joint, place, table);
-            Traced::Next(next, count)
+            store(null, joint, site.place, table);
+            Traced::Next(next, site.count)
         }
         Met::Refused(refusal) => Traced::Refused(refusal, here),
     }

@@ -1,7 +1,9 @@
 -- What is opened before anything below it is read: containers, variants, fields.
+use mathlib.Core.Path.{_≡_}
 use mathlib.Core.List.{List}
 use Prim.Native.Nat.{ℕ, _≤_}
 use Rattle.logic.specs.Test.{if_then_else_}
+use Rattle.logic.specs.Slices.{Slice, atEntry, atExit}
 use Rattle.refusal.specs.declared.Refusal.the-variants as F
 use Rattle.text.specs.declared.Name.{Name}
 use Rattle.text.specs.Name.{bytesOf}
@@ -17,6 +19,7 @@ use Rattle.growth.specs.declared.Made.the-variants as L
 use Rattle.places.specs.Layout.{kindWord, Sound, Ready}
 use Rattle.growth.specs.Growth.{Ensuring, ensuring, ensured, Making, making, made, touched, sampled}
 use Rattle.kinds.specs.Meeting.{meeting}
+use Rattle.shapes.specs.Field.{fieldAt}
 use Rattle.shapes.specs.declared.Field.{Field}
 use Rattle.shapes.specs.declared.Field.the-variants as X
 use Rattle.opening.specs.declared.Opened.{Opened}
@@ -38,7 +41,9 @@ madeWhere t k (M.Refused refusal) = making (L.Refused refusal) t
 
 unfoldable pub containerMade : List ℕ → ℕ → ℕ → ℕ → ℕ → ℕ → ℕ → List ℕ → Making
 containerMade text options levels kind positions place n t =
-    madeWhere t (λ joint. made text place kind positions (word t place kindWord) n (sampled place joint t)) (meeting options levels (word t place kindWord) kind)
+    madeWhere t
+    (λ joint. made text place kind positions (word t place kindWord) n (sampled place joint t))
+    (meeting options levels (word t place kindWord) kind)
 
 -- a variant meets what the place is, and is one more sample there, which holds the variant's place
 abbrev pub heldWhere : List ℕ → (ℕ → Ensuring) → Met → Ensuring
@@ -47,7 +52,9 @@ heldWhere t k (M.Refused refusal) = ensuring (E.Refused refusal) t
 
 unfoldable pub variantHeld : List ℕ → ℕ → ℕ → ℕ → Name → ℕ → ℕ → List ℕ → Ensuring
 variantHeld text options levels number name place n t =
-    heldWhere t (λ joint. held text place (S.Variant number name) n (sampled place joint t)) (meeting options levels (word t place kindWord) unionKind)
+    heldWhere t
+    (λ joint. held text place (S.Variant number name) n (sampled place joint t))
+    (meeting options levels (word t place kindWord) unionKind)
 
 -- ---- a field, or the end, where one is due
 pub data Opening : Type 0 where
@@ -59,7 +66,8 @@ ofHeld (ensuring (E.Refused refusal) t) = opening (O.Refused refusal) t
 
 -- a name that is not UTF-8 is refused (5)
 unfoldable pub fieldHeld : List ℕ → ℕ → Name → ℕ → List ℕ → Opening
-fieldHeld text place name n t = if isUtf8 (bytesOf text name) then ofHeld (held text place (S.Field name) n t) else opening (O.Refused F.BadName) t
+fieldHeld text place name n t =
+    if isUtf8 (bytesOf text name) then ofHeld (held text place (S.Field name) n t) else opening (O.Refused F.BadName) t
 
 -- by what stands there
 abbrev pub fieldOpened : List ℕ → ℕ → ℕ → List ℕ → Field → Opening
@@ -67,8 +75,16 @@ fieldOpened text place n t (X.Named name) = fieldHeld text place name n t
 fieldOpened text place n t X.Ended = opening O.Ended t
 fieldOpened text place n t (X.Refused refusal) = opening (O.Refused refusal) t
 
+abbrev pub openedAt : List ℕ → List ℕ → ℕ → ℕ → ℕ → ℕ → List ℕ → Opening
+openedAt commands text kind at place n t = fieldOpened text place n t (fieldAt commands text kind at)
+
 -- the place of a field is ready for its value
 abbrev pub SoundOpened : List ℕ → List ℕ → ℕ → Opened → Type 0
 SoundOpened text t n (O.Child child m) = Ready text t m child × (n ≤ m)
 SoundOpened text t n O.Ended = Sound text t n
 SoundOpened text t n (O.Refused refusal) = Unit {0}
+
+-- what is promised of a function that opens a field: its answer and the table then are what the definition gives of the table before, and
+-- the table is sound
+abbrev pub OpenedAs : Slice → Slice → ℕ → Opened → Opening → Type 0
+OpenedAs text table n r wanted = (opening r (atExit table) ≡ wanted) × SoundOpened (atEntry text) (atExit table) n r

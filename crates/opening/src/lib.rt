@@ -2,10 +2,9 @@
 ghost use mathlib.Core.Path.{_≡_};
 ghost use Rattle.shapes.specs.Steps.{fieldCode, codeOf, nameOf, Inside, Good};
 ghost use Rattle.places.specs.Layout.{Ready};
-ghost use Rattle.growth.specs.Growth.{Ensuring, Making, SoundEnsured, SoundMade};
+ghost use Rattle.growth.specs.Growth.{EnsuredAs, MadeAs};
 ghost use Rattle.search.specs.Search.{findIn};
-ghost use Rattle.opening.specs.Opening.{held, containerMade, variantHeld, Opening, fieldHeld, fieldOpened, SoundOpened};
-ghost use Rattle.shapes.specs.Field.{fieldAt};
+ghost use Rattle.opening.specs.Opening.{held, containerMade, variantHeld, fieldHeld, openedAt, OpenedAs};
 use growth::Ensured;
 use growth::Made;
 use kinds::Met;
@@ -18,7 +17,7 @@ use text::Name;
 // The child at a step that is no field, which the present sample holds.
 pub fn hold(text: &[u8], place: usize, step: Step, count: usize, table: &mut [u32]) -> Ensured
     requires { ⌜ Ready (now text) (now table) count place × Good (now text) (nameOf step) × (codeOf step ≡ fieldCode → ⊥) ⌝ }
-    ensures { λ r. ⌜ (Ensuring.ensuring r (now (table .exit)) ≡ held (now (text .entry)) place step count (now (table .entry))) × SoundEnsured (now (text .entry)) (now (table .exit)) r ⌝ }
+    ensures { λ r. ⌜ EnsuredAs text table r (held (now (text .entry)) place step count (now (table .entry))) ⌝ }
 {
     match growth::ensure(text, place, step, count, table) {
         Ensured::Child(child, more) => {
@@ -29,7 +28,8 @@ pub fn hold(text: &[u8], place: usize, step: Step, count: usize, table: &mut [u3
     }
 }
 
-// A container meets what the place is, is one more sample there, and makes its children.
+// A container meets what the place is, is one more sample there, and makes its children. Levels, place and count come as
+// numbers: as one struct they change what is inlined, and deep containers take 7 % more instructions.
 pub fn open_container(
     text: &[u8],
     options: TracingOptions,
@@ -41,7 +41,8 @@ pub fn open_container(
     table: &mut [u32],
 ) -> Made
     requires { ⌜ Ready (now text) (now table) count place ⌝ }
-    ensures { λ r. ⌜ (Making.making r (now (table .exit)) ≡ containerMade (now (text .entry)) (options .word) levels kind positions place count (now (table .entry))) × SoundMade (now (text .entry)) (now (table .exit)) r ⌝ }
+    ensures { λ r. ⌜ MadeAs text table r
+        (containerMade (now (text .entry)) (options .word) levels kind positions place count (now (table .entry))) ⌝ }
 {
     let before = words::get(table, place, places::KIND);
     match kinds::meet(options, levels, before, kind) {
@@ -66,7 +67,8 @@ pub fn open_variant(
 ) -> Ensured
     requires { ⌜ Ready (now text) (now table) count place ⌝ }
     requires { ⌜ Good (now text) name ⌝ }
-    ensures { λ r. ⌜ (Ensuring.ensuring r (now (table .exit)) ≡ variantHeld (now (text .entry)) (options .word) levels number name place count (now (table .entry))) × SoundEnsured (now (text .entry)) (now (table .exit)) r ⌝ }
+    ensures { λ r. ⌜ EnsuredAs text table r
+        (variantHeld (now (text .entry)) (options .word) levels number name place count (now (table .entry))) ⌝ }
 {
     let before = words::get(table, place, places::KIND);
     match kinds::meet(options, levels, before, shapes::UNION) {
@@ -90,7 +92,7 @@ pub enum Opened {
 fn new_field(text: &[u8], place: usize, name: Name, count: usize, table: &mut [u32]) -> Opened
     requires { ⌜ Ready (now text) (now table) count place × Inside (now text) name ⌝ }
     requires { ⌜ findIn (now text) place fieldCode name (now table) ≡ 0 ⌝ }
-    ensures { λ r. ⌜ (Opening.opening r (now (table .exit)) ≡ fieldHeld (now (text .entry)) place name count (now (table .entry))) × SoundOpened (now (text .entry)) (now (table .exit)) count r ⌝ }
+    ensures { λ r. ⌜ OpenedAs text table count r (fieldHeld (now (text .entry)) place name count (now (table .entry))) ⌝ }
 {
     if !name.is_utf8(text) {
         return Opened::Refused(Refusal::BadName);
@@ -107,7 +109,7 @@ fn new_field(text: &[u8], place: usize, name: Name, count: usize, table: &mut [u
 // A field by its name, which the present sample holds. The names of fields that were seen are known to be UTF-8.
 fn hold_field(text: &[u8], place: usize, name: Name, count: usize, table: &mut [u32]) -> Opened
     requires { ⌜ Ready (now text) (now table) count place × Inside (now text) name ⌝ }
-    ensures { λ r. ⌜ (Opening.opening r (now (table .exit)) ≡ fieldHeld (now (text .entry)) place name count (now (table .entry))) × SoundOpened (now (text .entry)) (now (table .exit)) count r ⌝ }
+    ensures { λ r. ⌜ OpenedAs text table count r (fieldHeld (now (text .entry)) place name count (now (table .entry))) ⌝ }
 {
     let child = search::find_field(text, place, name, count, table);
     if child == 0 {
@@ -128,7 +130,8 @@ pub fn open_field(
     table: &mut [u32],
 ) -> Opened
     requires { ⌜ Ready (now text) (now table) count place ⌝ }
-    ensures { λ r. ⌜ (Opening.opening r (now (table .exit)) ≡ fieldOpened (now (text .entry)) place count (now (table .entry)) (fieldAt (now (commands .entry)) (now (text .entry)) kind at)) × SoundOpened (now (text .entry)) (now (table .exit)) count r ⌝ }
+    ensures { λ r. ⌜ OpenedAs text table count r
+        (openedAt (now (commands .entry)) (now (text .entry)) kind at place count (now (table .entry))) ⌝ }
 {
     match shapes::field_at(commands, text, kind, at) {
         Field::Named(name) => hold_field(text, place, name, count, table),

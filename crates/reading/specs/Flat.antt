@@ -67,7 +67,8 @@ onPart text inner place i at n t (P.Step step value) = afterPart (i + 1) (partRe
 onPart text inner place i at n t (P.Refused refusal offset) = done (out (T.Refused refusal offset) t)
 
 unfoldable pub partTurn : List ℕ → List ℕ → Readers → ℕ → ℕ → ℕ → State → Turn State Out
-partTurn commands text inner kind positions place (state i at n t) = onPart text inner place i at n t (partAt commands text kind positions i at)
+partTurn commands text inner kind positions place (state i at n t) =
+    onPart text inner place i at n t (partAt commands text kind positions i at)
 
 abbrev pub partStop : State → Out
 partStop (state i at n t) = out (T.Refused F.BadCommand at) t
@@ -91,23 +92,31 @@ variantBy text options levels inner number name contents here at place n t =
 
 -- ---- a value
 abbrev pub atShape : List ℕ → List ℕ → ℕ → ℕ → Readers → ℕ → ℕ → ℕ → ℕ → List ℕ → Shape → Out
-atShape commands text options levels inner here behind place n t (H.Leaf null kind) = observed options null kind levels here behind place n t
-atShape commands text options levels inner here behind place n t (H.Parts kind positions) = containerBy commands text options levels inner kind positions here behind place n t
-atShape commands text options levels inner here behind place n t (H.Variant number name contents) = variantBy text options levels inner number name contents here behind place n t
+atShape commands text options levels inner here behind place n t (H.Leaf null kind) =
+    observed options null kind levels here behind place n t
+atShape commands text options levels inner here behind place n t (H.Parts kind positions) =
+    containerBy commands text options levels inner kind positions here behind place n t
+atShape commands text options levels inner here behind place n t (H.Variant number name contents) =
+    variantBy text options levels inner number name contents here behind place n t
 atShape commands text options levels inner here behind place n t H.NoValue = out (T.Refused F.BadCommand here) t
 
 abbrev pub atRead : List ℕ → List ℕ → ℕ → ℕ → Readers → ℕ → ℕ → ℕ → List ℕ → Read → Out
-atRead commands text options levels inner here place n t (R.Command command behind) = atShape commands text options levels inner here behind place n t (shapeAt options text command)
+atRead commands text options levels inner here place n t (R.Command command behind) =
+    atShape commands text options levels inner here behind place n t (shapeAt options text command)
 atRead commands text options levels inner here place n t (R.Refused refusal offset) = out (T.Refused refusal offset) t
 
 abbrev pub afterChain : List ℕ → List ℕ → ℕ → ℕ → Readers → ℕ → ℕ → Chain → Out
-afterChain commands text options levels inner place n (chain here t) = atRead commands text options levels inner here place n t (readCommand commands text here D.Value)
+afterChain commands text options levels inner place n (chain here t) =
+    atRead commands text options levels inner here place n t (readCommand commands text here D.Value)
 
 unfoldable pub valueBy : List ℕ → List ℕ → ℕ → ℕ → Readers → Contents → ℕ → Reader
 valueBy commands text options levels inner N.Unit here at place n t = observed options true null levels here at place n t
-valueBy commands text options levels inner N.Value here at place n t = afterChain commands text options levels inner place n (pastMarks commands at place t)
-valueBy commands text options levels inner (N.Positions positions) here at place n t = containerBy commands text options levels inner tupleKind positions here at place n t
-valueBy commands text options levels inner N.Fields here at place n t = containerBy commands text options levels inner structKind 0 here at place n t
+valueBy commands text options levels inner N.Value here at place n t =
+    afterChain commands text options levels inner place n (pastMarks commands at place t)
+valueBy commands text options levels inner (N.Positions positions) here at place n t =
+    containerBy commands text options levels inner tupleKind positions here at place n t
+valueBy commands text options levels inner N.Fields here at place n t =
+    containerBy commands text options levels inner structKind 0 here at place n t
 
 -- with no level left a container is refused before anything below it is read
 abbrev pub none-left : Readers
@@ -128,4 +137,5 @@ valueAt commands text options levels at place n t = readers commands text option
 
 -- past its marks
 unfoldable pub parted : List ℕ → List ℕ → ℕ → ℕ → ℕ → ℕ → ℕ → List ℕ → Out
-parted commands text options levels here place n t = atRead commands text options levels (innerOf commands text options levels) here place n t (readCommand commands text here D.Value)
+parted commands text options levels here place n t =
+    atRead commands text options levels (innerOf commands text options levels) here place n t (readCommand commands text here D.Value)

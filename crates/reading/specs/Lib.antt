@@ -1,4 +1,5 @@
 pub mod Flat
+pub mod Readings
 pub mod Onward
 pub mod Ways
 pub mod Loops

@@ -2,18 +2,18 @@
 // call on itself, with the levels left falling from 20: a level for each step down, and one for each dot of its name.
 ghost use mathlib.Core.Path.{_≡_};
 ghost use mathlib.Core.Bool.{true};
-ghost use Prim.Native.Nat.{_-_, _<_};
-ghost use Rattle.words.specs.Word.{word};
+ghost use Prim.Native.Nat.{_-_};
 ghost use Rattle.model.specs.Kinds.{sequenceKind, mapKind, tupleKind, isStruct};
 ghost use Rattle.shapes.specs.Steps.{Unnamed, Inside, Good};
-ghost use Rattle.places.specs.Layout.{Ready, Sound};
-ghost use Rattle.reading.specs.Flat.{dotsIn, partRead, partsBy, containerBy, variantBy, readers, innerOf, valueAt, parted};
-ghost use Rattle.leaves.specs.Leaves.{Out, SoundTraced};
 ghost use Rattle.shapes.specs.Shapes.{isParted};
+ghost use Rattle.places.specs.Layout.{Ready};
+ghost use Rattle.reading.specs.Flat.{dotsIn, valueAt, parted};
+ghost use Rattle.reading.specs.Readings.{named, container, variant, inside, parts, part, Reads};
 use commands::Due;
 use commands::Read;
 use growth::Ensured;
 use growth::Made;
+use leaves::Site;
 use leaves::Traced;
 use opening::Opened;
 use options::TracingOptions;
@@ -40,28 +40,18 @@ pub fn read_value(
     text: &[u8],
     options: TracingOptions,
     at: usize,
-    levels: usize,
-    place: usize,
-    count: usize,
+    site: Site,
     table: &mut [u32],
 ) -> Traced
-    requires { ⌜ Ready (now text) (now table) count place ⌝ }
-    ensures { λ r. ⌜ (Out.out r (now (table .exit)) ≡ valueAt (now (commands .entry)) (now (text .entry)) (options .word) levels at place count (now (table .entry))) × SoundTraced (now (text .entry)) (now (table .exit)) count r ⌝ }
+    requires { ⌜ Ready (now text) (now table) (site .count) (site .place) ⌝ }
+    ensures { λ r. ⌜ Reads commands text options at site table valueAt r ⌝ }
 {
-    let here = leaves::past_marks(commands, at, place, table);
+    let here = leaves::past_marks(commands, at, site.place, table);
     match shapes::leaf_at(commands, text, options, here) {
-        Leaf::Value(null, kind, next) => leaves::observe(
-            options,
-            null,
-            kind,
-            levels,
-            here,
-            next,
-            place,
-            count,
-            table,
-        ),
-        Leaf::Other => read_parted(commands, text, options, here, levels, place, count, table),
+        Leaf::Value(null, kind, next) => {
+            leaves::observe(options, null, kind, here, next, site, table)
+        }
+        Leaf::Other => read_parted(commands, text, options, here, site, table),
     }
 }
 
@@ -73,31 +63,26 @@ fn read_named(
     options: TracingOptions,
     name: Name,
     at: usize,
-    levels: usize,
-    place: usize,
-    count: usize,
+    site: Site,
     table: &mut [u32],
 ) -> Traced
-    requires { ⌜ Ready (now text) (now table) count place ⌝ }
+    requires { ⌜ Ready (now text) (now table) (site .count) (site .place) ⌝ }
     requires { ⌜ Inside (now text) name ⌝ }
-    ensures { λ r. ⌜ (Out.out r (now (table .exit)) ≡ valueAt (now (commands .entry)) (now (text .entry)) (options .word) (levels - dotsIn (now (text .entry)) name) at place count (now (table .entry))) × SoundTraced (now (text .entry)) (now (table .exit)) count r ⌝ }
+    ensures { λ r. ⌜ Reads commands text options at site table (named name) r ⌝ }
 {
-    let here = leaves::past_marks(commands, at, place, table);
+    let here = leaves::past_marks(commands, at, site.place, table);
     match shapes::leaf_at(commands, text, options, here) {
-        Leaf::Value(null, kind, next) => leaves::observe(
-            options,
-            null,
-            kind,
-            levels,
-            here,
-            next,
-            place,
-            count,
-            table,
-        ),
+        Leaf::Value(null, kind, next) => {
+            leaves::observe(options, null, kind, here, next, site, table)
+        }
         Leaf::Other => {
-            let below = lower(levels, name, text);
-            read_parted(commands, text, options, here, below, place, count, table)
+            let levels = lower(site.levels, name, text);
+            let below = Site {
+                place: site.place,
+                count: site.count,
+                levels,
+            };
+            read_parted(commands, text, options, here, below, table)
         }
     }
 }
@@ -109,58 +94,26 @@ fn read_parted(
     text: &[u8],
     options: TracingOptions,
     here: usize,
-    levels: usize,
-    place: usize,
-    count: usize,
+    site: Site,
     table: &mut [u32],
 ) -> Traced
-    requires { ⌜ Ready (now text) (now table) count place ⌝ }
-    ensures { λ r. ⌜ (Out.out r (now (table .exit)) ≡ parted (now (commands .entry)) (now (text .entry)) (options .word) levels here place count (now (table .entry))) × SoundTraced (now (text .entry)) (now (table .exit)) count r ⌝ }
+    requires { ⌜ Ready (now text) (now table) (site .count) (site .place) ⌝ }
+    ensures { λ r. ⌜ Reads commands text options here site table parted r ⌝ }
 {
     if shapes::is_struct_at(commands, here) {
-        return read_container(
-            commands,
-            text,
-            options,
-            shapes::STRUCT,
-            0,
-            here,
-            here + 1,
-            levels,
-            place,
-            count,
-            table,
-        );
+        let kind = shapes::STRUCT;
+        let at = here + 1;
+        return read_container(commands, text, options, kind, 0, here, at, site, table);
     }
     let read = commands::read_command(commands, text, here, Due::Value);
     let Read::Command(command, next) = read else {
         return Traced::Refused(read.refusal(), read.place());
     };
     match shapes::shape_of(command, text, options) {
-        Shape::Leaf(null, kind) => leaves::observe(
-            options,
-            null,
-            kind,
-            levels,
-            here,
-            next,
-            place,
-            count,
-            table,
-        ),
-        Shape::Parts(kind, n) => read_container(
-            commands,
-            text,
-            options,
-            kind,
-            n,
-            here,
-            next,
-            levels,
-            place,
-            count,
-            table,
-        ),
+        Shape::Leaf(null, kind) => leaves::observe(options, null, kind, here, next, site, table),
+        Shape::Parts(kind, n) => {
+            read_container(commands, text, options, kind, n, here, next, site, table)
+        }
         Shape::Variant(number, name, contents) => read_variant(
             commands,
             text,
@@ -170,9 +123,7 @@ fn read_parted(
             contents,
             here,
             next,
-            levels,
-            place,
-            count,
+            site,
             table,
         ),
         Shape::NoValue => Traced::Refused(Refusal::BadCommand, here),
@@ -188,28 +139,32 @@ fn read_container(
     positions: u16,
     here: usize,
     at: usize,
-    levels: usize,
-    place: usize,
-    count: usize,
+    site: Site,
     table: &mut [u32],
 ) -> Traced
-    requires { ⌜ Ready (now text) (now table) count place ⌝ }
+    requires { ⌜ Ready (now text) (now table) (site .count) (site .place) ⌝ }
     requires { ⌜ isParted kind ≡ true ⌝ }
-    ensures { λ r. ⌜ (Out.out r (now (table .exit)) ≡ containerBy (now (commands .entry)) (now (text .entry)) (options .word) levels (innerOf (now (commands .entry)) (now (text .entry)) (options .word) levels) kind positions here at place count (now (table .entry))) × SoundTraced (now (text .entry)) (now (table .exit)) count r ⌝ }
+    ensures { λ r. ⌜ Reads commands text options at site table (container kind positions here) r ⌝ }
 {
-    match opening::open_container(text, options, kind, positions, levels, place, count, table) {
-        Made::Places(more) => read_parts(
-            commands,
-            text,
-            options,
-            kind,
-            positions,
-            at,
-            levels - 1,
-            place,
-            more,
-            table,
-        ),
+    match opening::open_container(
+        text,
+        options,
+        kind,
+        positions,
+        site.levels,
+        site.place,
+        site.count,
+        table,
+    ) {
+        Made::Places(more) => {
+            let levels = site.levels - 1;
+            let below = Site {
+                place: site.place,
+                count: more,
+                levels,
+            };
+            read_parts(commands, text, options, kind, positions, at, below, table)
+        }
         Made::Refused(refusal) => Traced::Refused(refusal, here),
     }
 }
@@ -222,92 +177,61 @@ fn read_parts(
     kind: u32,
     positions: u16,
     start: usize,
-    levels: usize,
-    place: usize,
-    count: usize,
+    site: Site,
     table: &mut [u32],
 ) -> Traced
-    requires { ⌜ Ready (now text) (now table) count place ⌝ }
+    requires { ⌜ Ready (now text) (now table) (site .count) (site .place) ⌝ }
     requires { ⌜ isParted kind ≡ true ⌝ }
-    ensures { λ r. ⌜ (Out.out r (now (table .exit)) ≡ partsBy (now (commands .entry)) (now (text .entry)) (readers (now (commands .entry)) (now (text .entry)) (options .word) levels) kind positions place start count (now (table .entry))) × SoundTraced (now (text .entry)) (now (table .exit)) count r ⌝ }
+    ensures { λ r. ⌜ Reads commands text options start site table (parts kind positions) r ⌝ }
 {
     if kinds::is_struct(kind) {
-        return read_fields(
-            commands,
-            text,
-            options,
-            kind,
-            start,
-            levels,
-            place,
-            count,
-            table,
-        );
+        return read_fields(commands, text, options, kind, start, site, table);
     }
     if kind == shapes::SEQUENCE {
-        return read_elements(commands, text, options, start, levels, place, count, table);
+        return read_elements(commands, text, options, start, site, table);
     }
     if kind == shapes::MAP {
-        return read_entries(commands, text, options, start, levels, place, count, table);
+        return read_entries(commands, text, options, start, site, table);
     }
-    read_positions(
-        commands,
-        text,
-        options,
-        positions,
-        start,
-        levels,
-        place,
-        count,
-        table,
-    )
+    read_positions(commands, text, options, positions, start, site, table)
 }
 
-// The fields of a struct, or of a map in map mode, up to the end.
+// The fields of a struct, or of a map in map mode, up to the end. The site grows by the places that they add, here and in
+// the loops below.
 fn read_fields(
     commands: &[u8],
     text: &[u8],
     options: TracingOptions,
     kind: u32,
     start: usize,
-    levels: usize,
-    place: usize,
-    count: usize,
+    site: Site,
     table: &mut [u32],
 ) -> Traced
-    requires { ⌜ Ready (now text) (now table) count place ⌝ }
+    requires { ⌜ Ready (now text) (now table) (site .count) (site .place) ⌝ }
     requires { ⌜ isStruct kind ≡ true ⌝ }
-    ensures { λ r. ⌜ (Out.out r (now (table .exit)) ≡ partsBy (now (commands .entry)) (now (text .entry)) (readers (now (commands .entry)) (now (text .entry)) (options .word) levels) kind 0 place start count (now (table .entry))) × SoundTraced (now (text .entry)) (now (table .exit)) count r ⌝ }
+    ensures { λ r. ⌜ Reads commands text options start site table (parts kind 0) r ⌝ }
 {
     let mut at = start;
-    let mut places = count;
+    let mut grown = site;
     loop {
-        match opening::open_field(commands, text, kind, at, place, places, table) {
-            Opened::Ended => {
-                return Traced::Next(at + 1, places);
-            }
-            Opened::Refused(refusal) => {
-                return Traced::Refused(refusal, at);
-            }
-            Opened::Child(child, more) => match read_named(
-                commands,
-                text,
-                options,
-                commands::read_name(commands, at + 1),
-                at + 5,
-                levels,
-                child,
-                more,
-                table,
-            ) {
-                Traced::Next(behind, still) => {
-                    at = behind;
-                    places = still;
+        match opening::open_field(commands, text, kind, at, grown.place, grown.count, table) {
+            Opened::Ended => return Traced::Next(at + 1, grown.count),
+            Opened::Refused(refusal) => return Traced::Refused(refusal, at),
+            Opened::Child(child, more) => {
+                let name = commands::read_name(commands, at + 1);
+                let below = Site {
+                    place: child,
+                    count: more,
+                    levels: grown.levels,
+                };
+                match read_named(commands, text, options, name, at + 5, below, table) {
+                    Traced::Next(behind, still) => {
+                        at = behind;
+                        grown.count = still;
+                    }
+                    Traced::Refused(refusal, offset) => return Traced::Refused(refusal, offset),
                 }
-                Traced::Refused(refusal, offset) => {
-                    return Traced::Refused(refusal, offset);
-                }
-            },
+            }
         }
     }
 }
@@ -318,44 +242,27 @@ fn read_elements(
     text: &[u8],
     options: TracingOptions,
     start: usize,
-    levels: usize,
-    place: usize,
-    count: usize,
+    site: Site,
     table: &mut [u32],
 ) -> Traced
-    requires { ⌜ Ready (now text) (now table) count place ⌝ }
-    ensures { λ r. ⌜ (Out.out r (now (table .exit)) ≡ partsBy (now (commands .entry)) (now (text .entry)) (readers (now (commands .entry)) (now (text .entry)) (options .word) levels) sequenceKind 0 place start count (now (table .entry))) × SoundTraced (now (text .entry)) (now (table .exit)) count r ⌝ }
+    requires { ⌜ Ready (now text) (now table) (site .count) (site .place) ⌝ }
+    ensures { λ r. ⌜ Reads commands text options start site table (parts sequenceKind 0) r ⌝ }
 {
     let mut at = start;
-    let mut places = count;
+    let mut grown = site;
     loop {
         match shapes::value_part(commands, text, Step::Element, Due::ValueOrEnd, at) {
-            Part::Ended(behind) => {
-                return Traced::Next(behind, places);
-            }
-            Part::Refused(refusal, offset) => {
-                return Traced::Refused(refusal, offset);
-            }
-            Part::Step(step, value) => match read_part(
-                commands,
-                text,
-                options,
-                step,
-                at,
-                value,
-                levels,
-                place,
-                places,
-                table,
-            ) {
-                Traced::Next(behind, more) => {
-                    at = runs::past_same(commands, behind, place, table);
-                    places = more;
+            Part::Ended(behind) => return Traced::Next(behind, grown.count),
+            Part::Refused(refusal, offset) => return Traced::Refused(refusal, offset),
+            Part::Step(step, value) => {
+                match read_part(commands, text, options, step, at, value, grown, table) {
+                    Traced::Next(behind, more) => {
+                        at = runs::past_same(commands, behind, grown.place, table);
+                        grown.count = more;
+                    }
+                    Traced::Refused(refusal, offset) => return Traced::Refused(refusal, offset),
                 }
-                Traced::Refused(refusal, offset) => {
-                    return Traced::Refused(refusal, offset);
-                }
-            },
+            }
         }
     }
 }
@@ -366,45 +273,28 @@ fn read_entries(
     text: &[u8],
     options: TracingOptions,
     start: usize,
-    levels: usize,
-    place: usize,
-    count: usize,
+    site: Site,
     table: &mut [u32],
 ) -> Traced
-    requires { ⌜ Ready (now text) (now table) count place ⌝ }
-    ensures { λ r. ⌜ (Out.out r (now (table .exit)) ≡ partsBy (now (commands .entry)) (now (text .entry)) (readers (now (commands .entry)) (now (text .entry)) (options .word) levels) mapKind 0 place start count (now (table .entry))) × SoundTraced (now (text .entry)) (now (table .exit)) count r ⌝ }
+    requires { ⌜ Ready (now text) (now table) (site .count) (site .place) ⌝ }
+    ensures { λ r. ⌜ Reads commands text options start site table (parts mapKind 0) r ⌝ }
 {
     let mut i: usize = 0;
     let mut at = start;
-    let mut places = count;
+    let mut grown = site;
     loop {
         match shapes::entry_part(commands, text, i, at) {
-            Part::Ended(behind) => {
-                return Traced::Next(behind, places);
-            }
-            Part::Refused(refusal, offset) => {
-                return Traced::Refused(refusal, offset);
-            }
-            Part::Step(step, value) => match read_part(
-                commands,
-                text,
-                options,
-                step,
-                at,
-                value,
-                levels,
-                place,
-                places,
-                table,
-            ) {
-                Traced::Next(behind, more) => {
-                    at = behind;
-                    places = more;
+            Part::Ended(behind) => return Traced::Next(behind, grown.count),
+            Part::Refused(refusal, offset) => return Traced::Refused(refusal, offset),
+            Part::Step(step, value) => {
+                match read_part(commands, text, options, step, at, value, grown, table) {
+                    Traced::Next(behind, more) => {
+                        at = behind;
+                        grown.count = more;
+                    }
+                    Traced::Refused(refusal, offset) => return Traced::Refused(refusal, offset),
                 }
-                Traced::Refused(refusal, offset) => {
-                    return Traced::Refused(refusal, offset);
-                }
-            },
+            }
         }
         i += 1;
     }
@@ -417,49 +307,32 @@ fn read_positions(
     options: TracingOptions,
     positions: u16,
     start: usize,
-    levels: usize,
-    place: usize,
-    count: usize,
+    site: Site,
     table: &mut [u32],
 ) -> Traced
-    requires { ⌜ Ready (now text) (now table) count place ⌝ }
-    ensures { λ r. ⌜ (Out.out r (now (table .exit)) ≡ partsBy (now (commands .entry)) (now (text .entry)) (readers (now (commands .entry)) (now (text .entry)) (options .word) levels) tupleKind positions place start count (now (table .entry))) × SoundTraced (now (text .entry)) (now (table .exit)) count r ⌝ }
+    requires { ⌜ Ready (now text) (now table) (site .count) (site .place) ⌝ }
+    ensures { λ r. ⌜ Reads commands text options start site table (parts tupleKind positions) r ⌝ }
 {
     let mut i: u16 = 0;
     let mut at = start;
-    let mut places = count;
+    let mut grown = site;
     while i < positions {
         match shapes::value_part(commands, text, Step::Position(i), Due::Value, at) {
-            Part::Ended(behind) => {
-                return Traced::Next(behind, places);
-            }
-            Part::Refused(refusal, offset) => {
-                return Traced::Refused(refusal, offset);
-            }
-            Part::Step(step, value) => match read_part(
-                commands,
-                text,
-                options,
-                step,
-                at,
-                value,
-                levels,
-                place,
-                places,
-                table,
-            ) {
-                Traced::Next(behind, more) => {
-                    at = behind;
-                    places = more;
+            Part::Ended(behind) => return Traced::Next(behind, grown.count),
+            Part::Refused(refusal, offset) => return Traced::Refused(refusal, offset),
+            Part::Step(step, value) => {
+                match read_part(commands, text, options, step, at, value, grown, table) {
+                    Traced::Next(behind, more) => {
+                        at = behind;
+                        grown.count = more;
+                    }
+                    Traced::Refused(refusal, offset) => return Traced::Refused(refusal, offset),
                 }
-                Traced::Refused(refusal, offset) => {
-                    return Traced::Refused(refusal, offset);
-                }
-            },
+            }
         }
         i += 1;
     }
-    Traced::Next(at, places)
+    Traced::Next(at, grown.count)
 }
 
 // The value of a part that is no field, at the child that its step leads to.
@@ -470,26 +343,22 @@ fn read_part(
     step: Step,
     here: usize,
     at: usize,
-    levels: usize,
-    place: usize,
-    count: usize,
+    site: Site,
     table: &mut [u32],
 ) -> Traced
-    requires { ⌜ Ready (now text) (now table) count place ⌝ }
+    requires { ⌜ Ready (now text) (now table) (site .count) (site .place) ⌝ }
     requires { ⌜ Unnamed step ⌝ }
-    ensures { λ r. ⌜ (Out.out r (now (table .exit)) ≡ partRead (now (text .entry)) (readers (now (commands .entry)) (now (text .entry)) (options .word) levels) step here at place count (now (table .entry))) × SoundTraced (now (text .entry)) (now (table .exit)) count r ⌝ }
+    ensures { λ r. ⌜ Reads commands text options at site table (part step here) r ⌝ }
 {
-    match opening::hold(text, place, step, count, table) {
-        Ensured::Child(child, more) => read_value(
-            commands,
-            text,
-            options,
-            at,
-            levels,
-            child,
-            more,
-            table,
-        ),
+    match opening::hold(text, site.place, step, site.count, table) {
+        Ensured::Child(child, more) => {
+            let below = Site {
+                place: child,
+                count: more,
+                levels: site.levels,
+            };
+            read_value(commands, text, options, at, below, table)
+        }
         Ensured::Refused(refusal) => Traced::Refused(refusal, here),
     }
 }
@@ -504,30 +373,31 @@ fn read_variant(
     contents: Contents,
     here: usize,
     at: usize,
-    levels: usize,
-    place: usize,
-    count: usize,
+    site: Site,
     table: &mut [u32],
 ) -> Traced
-    requires { ⌜ Ready (now text) (now table) count place ⌝ }
+    requires { ⌜ Ready (now text) (now table) (site .count) (site .place) ⌝ }
     requires { ⌜ Good (now text) name ⌝ }
-    ensures { λ r. ⌜ (Out.out r (now (table .exit)) ≡ variantBy (now (text .entry)) (options .word) levels (innerOf (now (commands .entry)) (now (text .entry)) (options .word) levels) number name contents here at place count (now (table .entry))) × SoundTraced (now (text .entry)) (now (table .exit)) count r ⌝ }
+    ensures { λ r. ⌜ Reads commands text options at site table (variant number name contents here) r ⌝ }
 {
-    match opening::open_variant(text, options, number, name, levels, place, count, table) {
+    match opening::open_variant(
+        text,
+        options,
+        number,
+        name,
+        site.levels,
+        site.place,
+        site.count,
+        table,
+    ) {
         Ensured::Child(child, more) => {
-            let below = lower(levels - 1, name, text);
-            read_contents(
-                commands,
-                text,
-                options,
-                contents,
-                here,
-                at,
-                below,
-                child,
-                more,
-                table,
-            )
+            let levels = lower(site.levels - 1, name, text);
+            let below = Site {
+                place: child,
+                count: more,
+                levels,
+            };
+            read_contents(commands, text, options, contents, here, at, below, table)
         }
         Ensured::Refused(refusal) => Traced::Refused(refusal, here),
     }
@@ -541,52 +411,22 @@ fn read_contents(
     contents: Contents,
     here: usize,
     at: usize,
-    levels: usize,
-    place: usize,
-    count: usize,
+    site: Site,
     table: &mut [u32],
 ) -> Traced
-    requires { ⌜ Ready (now text) (now table) count place ⌝ }
-    ensures { λ r. ⌜ (Out.out r (now (table .exit)) ≡ readers (now (commands .entry)) (now (text .entry)) (options .word) levels 0 contents here at place count (now (table .entry))) × SoundTraced (now (text .entry)) (now (table .exit)) count r ⌝ }
+    requires { ⌜ Ready (now text) (now table) (site .count) (site .place) ⌝ }
+    ensures { λ r. ⌜ Reads commands text options at site table (inside contents here) r ⌝ }
 {
     match contents {
-        Contents::Unit => leaves::observe(
-            options,
-            true,
-            shapes::UNKNOWN,
-            levels,
-            here,
-            at,
-            place,
-            count,
-            table,
-        ),
-        Contents::Value => read_value(commands, text, options, at, levels, place, count, table),
-        Contents::Positions(n) => read_container(
-            commands,
-            text,
-            options,
-            shapes::TUPLE,
-            n,
-            here,
-            at,
-            levels,
-            place,
-            count,
-            table,
-        ),
-        Contents::Fields => read_container(
-            commands,
-            text,
-            options,
-            shapes::STRUCT,
-            0,
-            here,
-            at,
-            levels,
-            place,
-            count,
-            table,
-        ),
+        Contents::Unit => leaves::observe(options, true, shapes::UNKNOWN, here, at, site, table),
+        Contents::Value => read_value(commands, text, options, at, site, table),
+        Contents::Positions(n) => {
+            let kind = shapes::TUPLE;
+            read_container(commands, text, options, kind, n, here, at, site, table)
+        }
+        Contents::Fields => {
+            let kind = shapes::STRUCT;
+            read_container(commands, text, options, kind, 0, here, at, site, table)
+        }
     }
 }

@@ -15,7 +15,10 @@ use Rattle.shapes.specs.Leaf.{charByte}
 -- the child is an element that the place's present sample holds
 unfoldable pub isHeld : ℕ → ℕ → List ℕ → Bool
 isHeld place child t =
-    not (eqb child 0) && eqb (word t child stepWord) (codeOf S.Element) && eqb (word t child nameWord) (packedName noName) && eqb (word t child markWord) (word t place samplesWord)
+    not (eqb child 0)
+    && eqb (word t child stepWord) (codeOf S.Element)
+    && eqb (word t child nameWord) (packedName noName)
+    && eqb (word t child markWord) (word t place samplesWord)
 
 -- a type whose code is its command's byte, and not Null
 unfoldable pub isOwnByte : ℕ → Bool
@@ -34,4 +37,5 @@ unfoldable pub pastHeld : List ℕ → ℕ → ℕ → ℕ
 pastHeld commands kind at = if isOwnByte kind then behindRun commands kind at else at
 
 unfoldable pub pastSame : List ℕ → ℕ → ℕ → List ℕ → ℕ
-pastSame commands at place t = if isHeld place (word t place firstWord) t then pastHeld commands (word t (word t place firstWord) kindWord) at else at
+pastSame commands at place t =
+    if isHeld place (word t place firstWord) t then pastHeld commands (word t (word t place firstWord) kindWord) at else at

@@ -1,8 +1,9 @@
 // Reads a batch, each record a value at the root (from_samples/mod.rs).
 ghost use mathlib.Core.Path.{_≡_};
 ghost use Rattle.places.specs.Layout.{Sound};
-ghost use Rattle.leaves.specs.Leaves.{Out, SoundTraced};
+ghost use Rattle.leaves.specs.Leaves.{TracedAs};
 ghost use Rattle.samples.specs.Samples.{fromSamples};
+use leaves::Site;
 use leaves::Traced;
 use options::TracingOptions;
 
@@ -17,28 +18,23 @@ pub fn from_samples(
     table: &mut [u32],
 ) -> Traced
     requires { ⌜ Sound (now text) (now table) 1 ⌝ }
-    ensures { λ r. ⌜ (Out.out r (now (table .exit)) ≡ fromSamples (now (commands .entry)) (now (text .entry)) (options .word) (now (table .entry))) × SoundTraced (now (text .entry)) (now (table .exit)) 1 r ⌝ }
+    ensures { λ r. ⌜ TracedAs text table 1 r
+        (fromSamples (now (commands .entry)) (now (text .entry)) (options .word) (now (table .entry))) ⌝ }
 {
     let mut at: usize = 0;
     let mut places: usize = 1;
     while at < commands.len() {
-        match reading::read_value(
-            commands,
-            text,
-            options,
-            at,
-            LEVELS,
-            places::ROOT_PLACE,
-            places,
-            table,
-        ) {
+        let root = Site {
+            place: places::ROOT_PLACE,
+            count: places,
+            levels: LEVELS,
+        };
+        match reading::read_value(commands, text, options, at, root, table) {
             Traced::Next(behind, more) => {
                 at = behind;
                 places = more;
             }
-            Traced::Refused(refusal, offset) => {
-                return Traced::Refused(refusal, offset);
-            }
+            Traced::Refused(refusal, offset) => return Traced::Refused(refusal, offset),
         }
     }
     Traced::Next(at, places)

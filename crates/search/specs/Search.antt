@@ -8,12 +8,17 @@ use Rattle.logic.specs.Test.{if_then_else_}
 use Rattle.logic.specs.Turns.{Turn, again, done, turns}
 use Rattle.text.specs.declared.Name.{Name}
 use Rattle.text.specs.Name.{bytesOf, eqName, tagOf}
-use Rattle.words.specs.Word.{word}
+use Rattle.words.specs.Word.{word, IsTable, IsRow}
 use Rattle.shapes.specs.declared.Step.{Step}
 use Rattle.shapes.specs.declared.Step.the-variants as S
-use Rattle.shapes.specs.Steps.{fieldCode, codeOf, noName, unpackedName}
+use Rattle.shapes.specs.Steps.{fieldCode, codeOf, noName, unpackedName, Inside}
 use Rattle.places.specs.Layout.{firstWord, blockWord, nextWord, stepWord, nameWord, Sound}
 use Rattle.search.specs.Tree.{seek}
+
+-- what is asked where the name of a child is compared: the child is a row of the table, and both names lie in the text
+abbrev pub Comparable : List ℕ → List ℕ → Name → ℕ → Type 0
+Comparable text t name child =
+    IsRow child × IsTable t × Inside text name × Inside text (unpackedName (word t child nameWord))
 
 -- ---- the child at a step, in first-seen order; 0 for none
 unfoldable pub isAt : List ℕ → ℕ → Name → ℕ → List ℕ → Bool
@@ -39,7 +44,9 @@ findIn text place code name t = findFrom text code name t (word t place firstWor
 pub record Past (tag child here : ℕ) (t : List ℕ) : Type 0 where
   pub rises : child ≤ here
   pub below : (text : List ℕ) (n : ℕ) → Sound text t n → child < n → here < n
-  pub same : (text : List ℕ) (n : ℕ) (name : Name) → Sound text t n → child < n → (child ≡ 0 → ⊥) → tag ≡ tagOf (bytesOf text name) → findFrom text fieldCode name t here ≡ findFrom text fieldCode name t child
+  pub same :
+      (text : List ℕ) (n : ℕ) (name : Name) → Sound text t n → child < n → (child ≡ 0 → ⊥) → tag ≡ tagOf (bytesOf text name) →
+      findFrom text fieldCode name t here ≡ findFrom text fieldCode name t child
 
 -- a position in the place's block stands by its number, any other numbered child is found in the search tree, the others from sibling to sibling
 unfoldable pub inBlock : ℕ → ℕ → ℕ → List ℕ → Bool
@@ -50,5 +57,6 @@ childAt text place S.Element n t = findIn text place (codeOf S.Element) noName t
 childAt text place S.Key n t = findIn text place (codeOf S.Key) noName t
 childAt text place S.Value n t = findIn text place (codeOf S.Value) noName t
 childAt text place (S.Field name) n t = findIn text place fieldCode name t
-childAt text place (S.Position i) n t = if inBlock place i n t then word t place firstWord + i else seek place (codeOf (S.Position i)) n t .child
+childAt text place (S.Position i) n t =
+    if inBlock place i n t then word t place firstWord + i else seek place (codeOf (S.Position i)) n t .child
 childAt text place (S.Variant number name) n t = seek place (codeOf (S.Variant number name)) n t .child

@@ -5,10 +5,10 @@ ghost use Prim.Native.Nat.{ℕ, _<_, _≤_};
 ghost use Rattle.model.specs.Tracing.{placeLimit};
 ghost use Rattle.words.specs.Word.{placeWords, word, IsTable, IsRow};
 ghost use Rattle.text.specs.Name.{bytesOf, tagOf};
-ghost use Rattle.shapes.specs.Steps.{fieldCode, codeOf, noName, unpackedName, Inside};
-ghost use Rattle.places.specs.Layout.{Tagged, Ready, firstWord, nextWord, nameWord};
+ghost use Rattle.shapes.specs.Steps.{fieldCode, codeOf, noName, Inside};
+ghost use Rattle.places.specs.Layout.{Tagged, Ready, firstWord, nextWord};
 ghost use Rattle.search.specs.Tree.{isNumbered, sideWord, follow, seek};
-ghost use Rattle.search.specs.Search.{isAt, Past, findIn, inBlock, childAt};
+ghost use Rattle.search.specs.Search.{Comparable, isAt, Past, findIn, inBlock, childAt};
 ghost use mathlib.Core.Bool.{_&&_};
 use shapes::Step;
 use text::Name;
@@ -35,7 +35,8 @@ fn past_others(tag: u32, child: usize, table: &[u32]) -> usize
 
 // Whether the child is the field with that name. The tags of the names are compared first: most differ there.
 fn is_field(text: &[u8], name: Name, tag: u32, child: usize, table: &[u32]) -> bool
-    requires { ⌜ IsRow child × IsTable (now table) × Inside (now text) name × Inside (now text) (unpackedName (word (now table) child nameWord)) × (tag ≡ tagOf (bytesOf (now text) name)) × Tagged (now text) (now table) child ⌝ }
+    requires { ⌜ Comparable (now text) (now table) name child ⌝ }
+    requires { ⌜ (tag ≡ tagOf (bytesOf (now text) name)) × Tagged (now text) (now table) child ⌝ }
     ensures { λ r. ⌜ r ≡ isAt (now (text .entry)) fieldCode name child (now (table .entry)) ⌝ }
 {
     if words::get(table, child, places::TAG) != tag {
