@@ -33,6 +33,7 @@ unfoldable pub observed : ℕ → Bool → ℕ → ℕ → ℕ → ℕ → ℕ �
 observed options null kind levels here behind place n t =
     onMet here t (λ joint. out (T.Next behind n) (stored null joint place t)) (meeting options levels (word t place kindWord) kind)
 
+-- the same at a site
 abbrev pub observedAt : ℕ → Bool → ℕ → ℕ → ℕ → Site → List ℕ → Out
 observedAt options null kind here behind site t = observed options null kind (site .levels) here behind (site .place) (site .count) t
 

@@ -75,6 +75,7 @@ fieldOpened text place n t (X.Named name) = fieldHeld text place name n t
 fieldOpened text place n t X.Ended = opening O.Ended t
 fieldOpened text place n t (X.Refused refusal) = opening (O.Refused refusal) t
 
+-- at an offset
 abbrev pub openedAt : List ℕ → List ℕ → ℕ → ℕ → ℕ → ℕ → List ℕ → Opening
 openedAt commands text kind at place n t = fieldOpened text place n t (fieldAt commands text kind at)
 

@@ -11,7 +11,7 @@ use Rattle.leaves.specs.declared.Traced.{Traced}
 use Rattle.leaves.specs.Leaves.{TracedAs}
 use Rattle.reading.specs.Flat.{Reader, dotsIn, partRead, partsBy, containerBy, variantBy, readers, innerOf, valueAt}
 
--- by the commands, the texts, the options and the levels left
+-- a reading is a reader, given the commands, the texts, the options and the levels left
 abbrev pub Reading : Type 0
 Reading = List ℕ → List ℕ → ℕ → ℕ → Reader
 
@@ -39,7 +39,7 @@ parts kind positions commands text options levels at place =
 abbrev pub part : Step → ℕ → Reading
 part step here commands text options levels = partRead text (readers commands text options levels) step here
 
--- what is promised of a function that reads from an offset on at a site
+-- what is promised of a function that reads from an offset on, at a site: that it traces as the reading says
 abbrev pub Reads : Slice → Slice → TracingOptions → ℕ → Site → Slice → Reading → Traced → Type 0
 Reads commands text options at site table reading r =
     TracedAs text table (site .count) r
