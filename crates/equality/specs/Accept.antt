@@ -11,8 +11,7 @@ use Rattle.logic.specs.Test.{if_then_else_, cases}
 use Rattle.options.specs.Word.{unknownBit}
 use Rattle.model.specs.Result.{Result, accepted, refused}
 use Rattle.model.specs.Emission.{Fields, recordsIn, namesIn, countIn}
-use Rattle.words.specs.Word.{tableWords}
-use Rattle.model.specs.Answer.{Batch, Buffers, inputLimit, recordBytes, schemaOf, withSchema, isShort, answerOf, answer}
+use Rattle.model.specs.Answer.{tableWords, Batch, Buffers, inputLimit, recordBytes, schemaOf, withSchema, isShort, answerOf, answer}
 use Rattle.model.specs.Demand3.{Accepted, Holds}
 use Rattle.equality.specs.Base.{or-left-false, or-right-false}
 use Rattle.equality.specs.Encode.{length-records}

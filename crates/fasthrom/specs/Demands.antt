@@ -12,19 +12,18 @@ use native.Mathlib.Omega.{arith}
 use lib.ListN.{length}
 use Rattle.logic.specs.All.{All}
 use Rattle.refusal.specs.Number.{tooManyPlaces}
-use Rattle.words.specs.Word.{tableWords}
 use Rattle.model.specs.Result.{Result, accepted, _>>=_}
 use Rattle.model.specs.Tracing.{Tree, fresh, placeLimit}
 use Rattle.model.specs.Unbounded.{seeAll, size}
 use Rattle.model.specs.Emission.{Fields, toSchema}
-use Rattle.model.specs.Answer.{Batch, Buffers, Answer, WellFormed, schemaOf, isShort, cleared, withSchema, answerOf, answer}
+use Rattle.model.specs.Answer.{tableWords, Batch, Buffers, Answer, WellFormed, schemaOf, isShort, cleared, withSchema, answerOf, answer}
 use Rattle.model.specs.Census.{SameCensus}
 use Rattle.model.specs.Demand3.{Plain, Accepted, SameSchema, StructRecords, NoPlaceBoth, IsRecord, NoShorter, SameButOrder, batchOf, recordsOf}
 use Rattle.fasthrom.specs.declared.Answer as R
-use Rattle.fasthrom.specs.Call.{said, Called}
+use Rattle.fasthrom.specs.Called.{said, Called}
 use Rattle.equality.specs.Answers.{Ending, barred, turned, whole, answer-ends}
-use Rattle.fasthrom.specs.Bounded.{read-through, as-unbounded, too-many, past-reading}
-use Rattle.fasthrom.specs.Pairs.{Took, alike, again}
+use Rattle.call.specs.laws.Bounded.{read-through, as-unbounded, too-many, past-reading}
+use Rattle.call.specs.laws.Demand3.{Took, alike, again}
 
 -- One call: what was handed in and lent, the numbers answered and what was left in the buffers, tied by the function's contract.
 pub record Call : Type 0 where

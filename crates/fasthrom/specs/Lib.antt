@@ -1,5 +1,2 @@
-pub mod Call
-pub mod Laws
-pub mod Bounded
-pub mod Pairs
+pub mod Called
 pub mod Demands

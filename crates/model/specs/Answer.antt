@@ -8,11 +8,14 @@ use lib.ListN.{length, drop, replicate}
 use Rattle.logic.specs.Test.{if_then_else_}
 use Rattle.options.specs.Word.{unknownBit}
 use Rattle.refusal.specs.Number.{unknownOption, shortTable, longInput, shortBuffer}
-use Rattle.words.specs.Word.{tableWords}
 use Rattle.model.specs.Result.{Result, accepted, refused, _>>=_}
 use Rattle.model.specs.Reading.{values, allWhole}
 use Rattle.model.specs.Tracing.{trace, Counted}
 use Rattle.model.specs.Emission.{Fields, toSchema, recordsIn, namesIn, columnsIn, countIn}
+
+-- words of 32 bits that the work table has at least
+abbrev pub tableWords : ℕ
+tableWords = 16384
 
 -- commands and text have at most so many bytes
 abbrev pub inputLimit : ℕ

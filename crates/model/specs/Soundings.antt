@@ -7,7 +7,6 @@ use lib.ListN.{take, replicate}
 use Rattle.logic.specs.Test.{if_then_else_}
 use Rattle.datatype.specs.Codes.{uint8, uint64, int64, float32, float64, largeUtf8, timestampUtc, union}
 use Rattle.refusal.specs.Number.{noJoint, tooManySlots}
-use Rattle.words.specs.Word.{tableWords}
 use Rattle.text.specs.Name.{eqName, dots}
 use Rattle.text.specs.Utf8 as U
 use Rattle.chrono.specs.Grammar as G
@@ -18,7 +17,7 @@ use Rattle.model.specs.Kinds.{same}
 use Rattle.model.specs.Reading as R
 use Rattle.model.specs.Tracing as T
 use Rattle.model.specs.Emission as E
-use Rattle.model.specs.Answer.{Answer, Batch, Buffers, schemaOf, cleared, answerOf, answer}
+use Rattle.model.specs.Answer.{tableWords, Answer, Batch, Buffers, schemaOf, cleared, answerOf, answer}
 
 -- the Rust's default options, and those named
 abbrev default : ℕ

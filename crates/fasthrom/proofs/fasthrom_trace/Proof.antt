@@ -7,9 +7,10 @@ use Rattle.refusal.specs.declared.Refusal.{Refusal}
 use Rattle.refusal.specs.Number.{numberOf}
 use Rattle.model.specs.Answer.{Batch, Buffers, answer}
 use Rattle.equality.specs.Answers.{answer-small}
-use Rattle.fasthrom.specs.declared.Outcome.{Outcome}
-use Rattle.fasthrom.specs.declared.Outcome.the-variants as O
-use Rattle.fasthrom.specs.Call.{answerBy, Called}
+use Rattle.call.specs.declared.Outcome.{Outcome}
+use Rattle.call.specs.declared.Outcome.the-variants as O
+use Rattle.call.specs.Call.{answerBy}
+use Rattle.fasthrom.specs.Called.{Called}
 use Rattle.fasthrom.proofs.fasthrom_trace.Statement.{statement}
 use Rattle.fasthrom.proofs.fasthrom_trace.Tie as tie
 

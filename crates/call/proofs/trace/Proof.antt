@@ -16,12 +16,12 @@ use Rattle.words.specs.Word.{tableWords, IsTable}
 use Rattle.model.specs.Answer as M
 use Rattle.model.specs.Answer.{inputLimit, schemaOf, answerOf, answer}
 use Rattle.model.specs.Demand3.{batch}
-use Rattle.fasthrom.specs.declared.Outcome.{Outcome}
-use Rattle.fasthrom.specs.declared.Outcome.the-variants as O
-use Rattle.fasthrom.specs.Call.{lent, answerBy}
-use Rattle.fasthrom.specs.Laws.{lent-is-answer}
-use Rattle.fasthrom.proofs.trace.Statement.{statement}
-use Rattle.fasthrom.proofs.trace.Tie as tie
+use Rattle.call.specs.declared.Outcome.{Outcome}
+use Rattle.call.specs.declared.Outcome.the-variants as O
+use Rattle.call.specs.Call.{lent, answerBy}
+use Rattle.call.specs.laws.Call.{lent-is-answer}
+use Rattle.call.proofs.trace.Statement.{statement}
+use Rattle.call.proofs.trace.Tie as tie
 
 -- the part that is lent
 part : (t : List ℕ) → tableWords ≤ length t → IsTable (take tableWords t)

@@ -15,11 +15,11 @@ use Rattle.order.specs.Flat.{sortedPlaces}
 use Rattle.schema.specs.declared.Emitted.{Emitted}
 use Rattle.schema.specs.declared.Emitted.the-variants as E
 use Rattle.schema.specs.Emit.{answered, toSchemaAt}
-use Rattle.fasthrom.specs.declared.Outcome.the-variants as O
-use Rattle.fasthrom.specs.Call.{given, emittedFrom}
-use Rattle.fasthrom.specs.Laws.{linked-more}
-use Rattle.fasthrom.proofs.trace_and_emit.Statement.{statement}
-use Rattle.fasthrom.proofs.trace_and_emit.Tie as tie
+use Rattle.call.specs.declared.Outcome.the-variants as O
+use Rattle.call.specs.Call.{given, emittedFrom}
+use Rattle.call.specs.laws.Call.{linked-more}
+use Rattle.call.proofs.trace_and_emit.Statement.{statement}
+use Rattle.call.proofs.trace_and_emit.Tie as tie
 
 module _ (text u : List ℕ) (r : Traced) (behind n : ℕ) (next : r ≡ T.Next behind n) (after : SoundTraced text u 1 r) where
   linked-after : Linked text u placeLimit

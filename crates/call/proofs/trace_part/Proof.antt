@@ -11,11 +11,11 @@ use Rattle.samples.specs.Samples.{fromSamples}
 use Rattle.refine.specs.Commands.{Bytes}
 use Rattle.model.specs.Answer.{inputLimit, schemaOf, answerOf}
 use Rattle.model.specs.Demand3.{batch}
-use Rattle.fasthrom.specs.declared.Outcome.{Outcome}
-use Rattle.fasthrom.specs.Call.{lent, answerBy, given, emittedFrom}
-use Rattle.fasthrom.specs.Laws.{given-is-answer}
-use Rattle.fasthrom.proofs.trace_part.Statement.{statement}
-use Rattle.fasthrom.proofs.trace_part.Tie as tie
+use Rattle.call.specs.declared.Outcome.{Outcome}
+use Rattle.call.specs.Call.{lent, answerBy, given, emittedFrom}
+use Rattle.call.specs.laws.Call.{given-is-answer}
+use Rattle.call.proofs.trace_part.Statement.{statement}
+use Rattle.call.proofs.trace_part.Tie as tie
 
 sound-at-first : (text u : List ℕ) → u ≡ zeros → Sound text u 1
 sound-at-first text u e = rw e (sound-zeros text)

@@ -30,9 +30,9 @@ use Rattle.order.specs.Flat.{sortedPlaces}
 use Rattle.emission.specs.Refinement.{Emits, schema-is-model}
 use Rattle.refusal.specs.declared.Refusal.{Refusal}
 use Rattle.refusal.specs.declared.Refusal.the-variants as F
-use Rattle.fasthrom.specs.declared.Outcome.{Outcome}
-use Rattle.fasthrom.specs.declared.Outcome.the-variants as O
-use Rattle.fasthrom.specs.Call.{lent, answerBy, Given, given, asGiven, emittedFrom}
+use Rattle.call.specs.declared.Outcome.{Outcome}
+use Rattle.call.specs.declared.Outcome.the-variants as O
+use Rattle.call.specs.Call.{lent, answerBy, Given, given, asGiven, emittedFrom}
 
 -- bytes are below 256, where each element is
 pub bytes-known : (xs : List ℕ) → ((i : ℕ) → getD xs i 0 < 256) → Bytes xs

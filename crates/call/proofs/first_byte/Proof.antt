@@ -6,9 +6,9 @@ use native.Mathlib.Omega.{arith}
 use Prim.Native.Nat.{ℕ, _<_}
 use lib.ListN.{length, getD}
 use Rattle.refine.specs.Commands.{Bytes}
-use Rattle.fasthrom.specs.Laws.{bytes-known}
-use Rattle.fasthrom.proofs.first_byte.Statement.{statement}
-use Rattle.fasthrom.proofs.first_byte.Tie as tie
+use Rattle.call.specs.laws.Call.{bytes-known}
+use Rattle.call.proofs.first_byte.Statement.{statement}
+use Rattle.call.proofs.first_byte.Tie as tie
 
 none : (xs : List ℕ) → length xs ≡ 0 → (0 ≡ getD xs 0 0) × Bytes xs
 none [] e = (refl, tt)

@@ -9,12 +9,11 @@ use lib.ListN.{length}
 use borrow.Author.Tests.{le-ltb, ltb-true, ltb-false, eqb-false}
 use Rattle.logic.specs.Test.{if_then_else_, cases, neither}
 use Rattle.refusal.specs.Number.{tooManyPlaces, badCommand, badName, badKey}
-use Rattle.words.specs.Word.{tableWords}
 use Rattle.model.specs.Result.{Result, accepted, refused, _>>=_}
 use Rattle.model.specs.Tracing.{Tree, fresh, placeLimit, Counted, trace}
 use Rattle.model.specs.Unbounded.{seeAll, size}
 use Rattle.model.specs.Emission.{Fields, toSchema}
-use Rattle.model.specs.Answer.{Batch, Buffers, Answer, WellFormed, inputLimit, schemaOf, isShort, answerOf, answer}
+use Rattle.model.specs.Answer.{tableWords, Batch, Buffers, Answer, WellFormed, inputLimit, schemaOf, isShort, answerOf, answer}
 use Rattle.model.specs.Demand3.{recordsOf}
 use Rattle.equality.specs.Reads.{choice}
 use Rattle.equality.specs.Refusals.{Between, schemaOf-between, schema-between}

@@ -1,0 +1,3 @@
+pub mod Call
+pub mod Bounded
+pub mod Demand3
