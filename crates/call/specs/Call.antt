@@ -11,7 +11,7 @@ use Rattle.model.specs.Demand3.{batch}
 use Rattle.leaves.specs.declared.Traced.the-variants as T
 use Rattle.leaves.specs.Leaves.{Out, out}
 use Rattle.samples.specs.Samples.{fromSamples}
-use Rattle.order.specs.Flat.{sortedPlaces}
+use Rattle.order.specs.Sort.{sortedPlaces}
 use Rattle.schema.specs.declared.Emitted.the-variants as E
 use Rattle.schema.specs.Emit.{Answered, answered, toSchemaAt}
 use Rattle.call.specs.declared.Outcome.{Outcome}

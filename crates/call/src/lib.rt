@@ -6,7 +6,7 @@ ghost use Prim.Native.Nat.{_≤_};
 ghost use lib.Dec.{ltb};
 ghost use lib.ListN.{length, getD};
 ghost use Rattle.words.specs.Word.{IsTable};
-ghost use Rattle.refine.specs.Commands.{Bytes};
+ghost use Rattle.commands.specs.Bytes.{Bytes};
 ghost use Rattle.places.specs.Layout.{Sound};
 ghost use Rattle.model.specs.Answer.{inputLimit};
 ghost use Rattle.call.specs.Call.{handedIn, lentIn, leftIn, Answers, AnswersRead, TracesAndEmits};

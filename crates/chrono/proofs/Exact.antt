@@ -10,7 +10,8 @@ use lib.Dec.{ltb, eqb, eqb·suc-zero}
 use lib.ListN.{length, getD, drop, drop-of-length-le}
 use lib.Seq.{drop-cons, drop-drop}
 use borrow.Author.Tests.{ltb-true, ltb-false, eqb-true}
-use Rattle.logic.specs.Test.{if_then_else_, cases}
+use Rattle.logic.specs.Test.{if_then_else_}
+use Rattle.logic.specs.laws.Test.{cases}
 use Rattle.chrono.specs.declared.Matched.{Matched}
 use Rattle.chrono.specs.declared.Matched.the-variants.{Rest, No}
 use Rattle.chrono.specs.Grammar.{Grammar, nothing, one, many, _then_, _or_, byte, word, optional, leads, leadsMany, isEmpty, fits}

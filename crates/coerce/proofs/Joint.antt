@@ -5,7 +5,8 @@ use mathlib.Core.Option.{Option, some}
 use Prim.Native.Nat.{ℕ}
 use lib.Dec.{eqb}
 use borrow.Author.Tests.{eq-eqb, ne-eqb}
-use Rattle.logic.specs.Test.{if_then_else_, cases}
+use Rattle.logic.specs.Test.{if_then_else_}
+use Rattle.logic.specs.laws.Test.{cases}
 use Rattle.datatype.specs.Codes.{null}
 use Rattle.coerce.specs.Joint.{isNumber, isString, jointOfNumbers, jointWithString, jointOfTimestamps, jointOfUnequal, joint}
 

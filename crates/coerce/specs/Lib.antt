@@ -1,4 +1,3 @@
 pub mod Joint
 pub mod Census
-pub mod Checked
-pub mod Laws
+pub mod laws

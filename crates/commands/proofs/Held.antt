@@ -49,8 +49,10 @@ module _ (α : NamedLft) (h : Reader) where
     pub apart : ent 𝓤 (sem 𝓤 H A Own) (sep 𝓤 (sem 𝓤 H A Parts) (sem 𝓤 H A Own))
     apart =
         qed W (‵ Own ∷ []) ∵ use1 W (‵ Own ⊛ ‵ Own) (LL.copy (T.the-type α) (T′.the-copy α) 𝓤 H A W .twice h (T′.lowered h ∷ [])) $ split ! $
-        use1 W (given (T′.lowered h ∷ [] ≡ T′.lowered h ∷ []) (‵ (all-own (T.the-type α .parts) (T′.the-laws α) (h .commands, (h .at, tt))))) (own-open 𝓤 H A W (T.the-type α) (T′.the-laws α) (h .commands, (h .at, tt)) (T′.lowered h)) $ learn ! (λ _. done !)
+        use1 W (given (T′.lowered h ∷ [] ≡ T′.lowered h ∷ []) (‵ (all-own (T.the-type α .parts) (T′.the-laws α) (h .commands, (h .at, tt)))))
+        (own-open 𝓤 H A W (T.the-type α) (T′.the-laws α) (h .commands, (h .at, tt)) (T′.lowered h)) $ learn ! (λ _. done !)
 
 pub moved : (α : NamedLft) (h : Reader) (n : ℕ) → h .at + n < 2 ^ 64 → {M : Type 1} (𝓤 : URA M) (H : Heap 𝓤) (A : Atoms 𝓤) → Given 𝓤 H A → ent 𝓤 (sem 𝓤 H A (Own α h)) (sem 𝓤 H A (Own α (behind h n)))
 moved α h n fits 𝓤 H A W =
-    qed W (‵ (Own α h) ∷ []) ∵ owned ! usize (Is usize) (uint-makes 𝓤 H A W w64) (h .at + n) _ (refl, fits) $ move ! (1 ∷ 0 ∷ []) $ by ! (own-put 𝓤 H A W (T.the-type α) (T′.the-laws α) 1 (h .commands, (h .at, tt)) (h .at + n) (T′.lowered h))
+    qed W (‵ (Own α h) ∷ []) ∵ owned ! usize (Is usize) (uint-makes 𝓤 H A W w64) (h .at + n) _ (refl, fits) $ move ! (1 ∷ 0 ∷ []) $ by !
+    (own-put 𝓤 H A W (T.the-type α) (T′.the-laws α) 1 (h .commands, (h .at, tt)) (h .at + n) (T′.lowered h))

@@ -141,7 +141,8 @@ module _ (κ : Lft) (q : Share) (s : RefT (List ℕ)) (n : ℕ) where
   module _ {M : Type 1} {𝓤 : URA M} {H : Heap 𝓤} {A : Atoms 𝓤} {K : Type 0} {W : Given 𝓤 H A} {Γ : List (Item 𝓤)} {G : Goal 𝓤 H} where
     pub is-made : K → Soaks G → (u : Val) → Step K W (‵ (T.the-row (α κ) .own made (u ∷ [])) ∷ ‵ (flft κ q) ∷ Γ) G (raw (New 𝓤 H A .post (to-new 𝓤 H A) u) ∷ Γ) G
     is-made t z u = step (λ k.
-        use1 W (later (some (λ (r : Reader). ((‵ (flft κ q) ⊛ ‵ ftrue) ⊛ ‵ (T.the-row (α κ) .own r (u ∷ []))) ⊛ raw (ensured 𝓤 H A new-ended (new-clauses 𝓤) (κ, tt) (s, (n, tt)) tt r)))) (id⊢ 𝓤 _) $ await t z $ pick t (λ r.
+        use1 W (later (some (λ (r : Reader). ((‵ (flft κ q) ⊛ ‵ ftrue) ⊛ ‵ (T.the-row (α κ) .own r (u ∷ []))) ⊛ raw
+        (ensured 𝓤 H A new-ended (new-clauses 𝓤) (κ, tt) (s, (n, tt)) tt r)))) (id⊢ 𝓤 _) $ await t z $ pick t (λ r.
         split t $ move t (1 ∷ []) $ use1 W (raw (fact 𝓤 ((r .commands ≡ s) × (r .at ≡ n)))) (new-said 𝓤 H A r) $ heard t ((r .commands ≡ s) × (r .at ≡ n)) (λ e. split t $
         rewrite t 1 (λ (h : Reader). ‵ (T.the-row (α κ) .own h (u ∷ []))) (λ i. record { commands = e .0 i; at = e .1 i }) refl $ split t $ move t (1 ∷ []) $ drop t $ move t (1 ∷ []) $ k)))
 
@@ -161,7 +162,8 @@ module _ (w : What) (κ : Lft) (q : Share) (l : ℕ) (h : Reader) where
     abbrev pub to-read : ℕ → GName → Reads w 𝓤 H A .Ghost
     to-read a γ = (((a ∷ κ, (κ, tt)), (PosShare·left q, (PosShare·right q, tt)), (meet-⊑-right (a ∷ []) κ, tt), (to κ q l 0 γ h, tt), (vptr l 0 ∷ [], tt)), tt)
 
-    asks : Given 𝓤 H A → w .enough (now (h .commands)) (h .at) → (a : ℕ) (γ : GName) → ent 𝓤 (⋆ 𝓤 H A (‵ (Lent κ q l 0 a γ h) ∷ ‵ (ShortToken κ q l 0 a) ∷ ‵ (LongToken κ q l 0) ∷ [])) (Reads w 𝓤 H A .pre (to-read a γ))
+    asks : Given 𝓤 H A → w .enough (now (h .commands)) (h .at) → (a : ℕ) (γ : GName) →
+        ent 𝓤 (⋆ 𝓤 H A (‵ (Lent κ q l 0 a γ h) ∷ ‵ (ShortToken κ q l 0 a) ∷ ‵ (LongToken κ q l 0) ∷ [])) (Reads w 𝓤 H A .pre (to-read a γ))
     asks W enough a γ =
         qed W (‵ (Lent κ q l 0 a γ h) ∷ ‵ (ShortToken κ q l 0 a) ∷ ‵ (LongToken κ q l 0) ∷ []) ∵ says ! enough $
         nothing ! $ move ! (3 ∷ 0 ∷ []) $ join ! $ move ! (2 ∷ 0 ∷ []) $ join ! $ frame ! $ nothing ! $ move ! (1 ∷ 0 ∷ []) $ done !
@@ -176,8 +178,11 @@ module _ (w : What) (κ : Lft) (q : Share) (l : ℕ) (h : Reader) where
         → ((r : ℕ) → r ≡ found → Seq K W (‵ (U .own r (v ∷ [])) ∷ ‵ (Cell κ q l 0 h′) ∷ ‵ (Own (α κ) h′) ∷ ‵ (flft κ q) ∷ Γ) G)
         → Seq K W (raw (Reads w 𝓤 H A .post (to-read 𝓤 H A a γ) v) ∷ ‵ (Lender κ q l 0 a γ) ∷ Γ) G
     left t z a γ v k =
-        use1 W (later (some (λ (r : ℕ). ((‵ (ShortToken κ q l 0 a) ⊛ ‵ (LongToken κ q l 0) ⊛ ‵ ftrue) ⊛ ‵ (U .own r (v ∷ []))) ⊛ raw (ensured 𝓤 H A (ended w) (clauses w 𝓤) (a ∷ κ, (κ, tt)) (to κ q l 0 γ h, tt) tt r)))) (id⊢ 𝓤 _) $ await t z $ pick t (λ r.
-        split t $ move t (1 ∷ []) $ use1 W (some (λ (zs : Reader × Unit {0}). ‵ (lasts (ended w) (a ∷ κ, (κ, tt)) (to κ q l 0 γ h, tt) zs) ⊛ raw (fact 𝓤 ((r ≡ found) × (zs .0 ≡ h′))))) (id⊢ 𝓤 _) $ pick t (λ zs.
+        use1 W (later (some (λ (r : ℕ). ((‵ (ShortToken κ q l 0 a) ⊛ ‵ (LongToken κ q l 0) ⊛ ‵ ftrue) ⊛ ‵ (U .own r (v ∷ []))) ⊛ raw
+        (ensured 𝓤 H A (ended w) (clauses w 𝓤) (a ∷ κ, (κ, tt)) (to κ q l 0 γ h, tt) tt r)))) (id⊢ 𝓤 _) $ await t z $ pick t (λ r.
+        split t $ move t (1 ∷ []) $ use1 W
+        (some (λ (zs : Reader × Unit {0}). ‵ (lasts (ended w) (a ∷ κ, (κ, tt)) (to κ q l 0 γ h, tt) zs) ⊛ raw
+        (fact 𝓤 ((r ≡ found) × (zs .0 ≡ h′))))) (id⊢ 𝓤 _) $ pick t (λ zs.
         split t $ move t (1 ∷ []) $ heard t ((r ≡ found) × (zs .0 ≡ h′)) (λ e. fsplit t $ rewrite t 0 (λ (x : Reader). ‵ (Last κ q l 0 γ x)) (e .1) refl $
         -- [the last reader; true; the tokens and the result; the lender's part]
         move t (2 ∷ []) $ split t $ split t $ move t (1 ∷ []) $ split t $ move t (2 ∷ 0 ∷ 6 ∷ 4 ∷ []) $ regains κ q l 0 t z h′ $

@@ -81,7 +81,9 @@ module _ (k : What) (callee : Name) where
   abbrev U : RattleType
   U = UInt (k .width)
 
-  module _ {M : Type 1} (𝓤 : URA M) (H : Heap 𝓤) (A : Atoms 𝓤) (W : Given 𝓤 H A) (κ κ′ : Lft) (q q′ : Share) (bounds : AllOutlive 2 (ended k .signature .outlives) (κ, (κ′, tt))) (b o : ℕ) (γ : GName) (h : Reader) (enough : k .enough (now (h .commands)) (h .at)) where
+  module _ {M : Type 1} (𝓤 : URA M) (H : Heap 𝓤) (A : Atoms 𝓤) (W : Given 𝓤 H A) (κ κ′ : Lft) (q q′ : Share)
+      (bounds : AllOutlive 2 (ended k .signature .outlives) (κ, (κ′, tt))) (b o : ℕ) (γ : GName) (h : Reader)
+      (enough : k .enough (now (h .commands)) (h .at)) where
     abbrev α : NamedLft
     α = record { mir = named 1; lft = κ′ }
 
@@ -117,7 +119,9 @@ module _ (k : What) (callee : Name) where
     next-fits : Is R h (T′.lowered h ∷ []) → h .at + k .bytes < 2 ^ 64
     next-fits is = omega (arith, k .inside (now (h .commands)) (h .at) enough, length-fits α h is)
 
-    exits : (r : ℕ) (w : Val) → r ≡ found → ent 𝓤 (⋆ 𝓤 H A (‵ (fobs γ (R .coded .code h′)) ∷ ‵ (fbor κ (Body (mem R) b o γ)) ∷ ‵ (flft κ q) ∷ ‵ (U .own r (w ∷ [])) ∷ (‵ (flft κ′ q′) ⊛ ‵ ftrue) ∷ [])) (Post w)
+    exits : (r : ℕ) (w : Val) → r ≡ found →
+        ent 𝓤 (⋆ 𝓤 H A (‵ (fobs γ (R .coded .code h′)) ∷ ‵ (fbor κ (Body (mem R) b o γ)) ∷ ‵ (flft κ q) ∷ ‵ (U .own r (w ∷ [])) ∷
+        (‵ (flft κ′ q′) ⊛ ‵ ftrue) ∷ [])) (Post w)
     exits r w e =
         qed W (‵ (fobs γ (R .coded .code h′)) ∷ ‵ (fbor κ (Body (mem R) b o γ)) ∷ ‵ (flft κ q) ∷ ‵ (U .own r (w ∷ [])) ∷ (‵ (flft κ′ q′) ⊛ ‵ ftrue) ∷ []) ∵
         suffices ! _ (ends-at 𝓤 H A (ended k) stayed (clauses k 𝓤) W (((κ, (κ′, tt)), (q, (q′, tt)), bounds, x, at), tt) w r (h′, tt) (tt, tt)) $ says ! (e, refl) $
@@ -134,29 +138,36 @@ module _ (k : What) (callee : Name) where
           use1 W (‵ (fat fullShare (T′.mir erased) b o (T′.lowered h))) (W .laws .raw-at fullShare (T′.mir erased) b o (T′.lowered h)) $
           move ! (1 ∷ []) $ peeks ! R (Is R) (shows 𝓤 H A R) h (T′.lowered h ∷ []) (λ was. move ! (1 ∷ 0 ∷ []) $
           -- [the struct's cell; what a Reader owns; the open borrow; obs; auth; 'a's token; true; _5; …; _4; …; _3; …; _2; …; _1; …; room for _0; …]
-          assigns ! (of-opd ! (load ! (from ! (hop ! (look ! 15 refl) (fld ! refl (stop !)))) (look-in ! 0 (sub ! 1 refl (whole !))))) (from ! (stop !)) (init ! 13 refl (tt, record { fits = at-fits α h was })) $
-          assigns ! (of-opd ! (load ! (from ! (hop ! (look ! 15 refl) (fld ! refl (stop !)))) (look-in ! 0 (sub ! 0 refl (whole !))))) (from ! (stop !)) (init ! 9 refl (tt, (tt, (record { fits = length-fits α h was }, tt)))) $
+          assigns ! (of-opd ! (load ! (from ! (hop ! (look ! 15 refl) (fld ! refl (stop !)))) (look-in ! 0 (sub ! 1 refl (whole !)))))
+          (from ! (stop !)) (init ! 13 refl (tt, record { fits = at-fits α h was })) $
+          assigns ! (of-opd ! (load ! (from ! (hop ! (look ! 15 refl) (fld ! refl (stop !)))) (look-in ! 0 (sub ! 0 refl (whole !)))))
+          (from ! (stop !)) (init ! 9 refl (tt, (tt, (record { fits = length-fits α h was }, tt)))) $
           -- the callee
           move ! (1 ∷ []) $ use1 W (‵ (Parts α h) ⊛ ‵ (Own α h)) (apart α h 𝓤 H A W) $ split ! $ move ! (6 ∷ 0 ∷ []) $ use2 W (raw (At k 𝓤 H A .pre to)) asked $
           calls-at ! fm (At k 𝓤 H A) known to (and-then ! (load ! (from ! (stop !)) (look ! 9 refl)) (and-then ! (load ! (from ! (stop !)) (look ! 13 refl)) (no-more !))) (λ w.
-          use1 W (later (some (λ (r : ℕ). ((‵ (flft κ′ q′) ⊛ ‵ ftrue) ⊛ ‵ (U .own r (w ∷ []))) ⊛ raw (ensured 𝓤 H A (at-ended k) (at-clauses k 𝓤) (κ′, tt) (h .commands, (h .at, tt)) tt r)))) (id⊢ 𝓤 _) $ await ! tt $ pick ! (λ r.
+          use1 W (later (some (λ (r : ℕ). ((‵ (flft κ′ q′) ⊛ ‵ ftrue) ⊛ ‵ (U .own r (w ∷ []))) ⊛ raw
+          (ensured 𝓤 H A (at-ended k) (at-clauses k 𝓤) (κ′, tt) (h .commands, (h .at, tt)) tt r)))) (id⊢ 𝓤 _) $ await ! tt $ pick ! (λ r.
           split ! $ move ! (1 ∷ []) $ use1 W (raw (fact 𝓤 (r ≡ found))) (said r) $ heard ! (r ≡ found) (λ e. split ! $ move ! (1 ∷ []) $ peeks ! U (Is U) (shows 𝓤 H A U) r (w ∷ []) (λ is.
           -- [what the result owns; 'a's token; what a Reader owns; the struct's cell; the open borrow; obs; auth; true; _5; …; _4; …; room for _3; …; _2; …; _1; …; room for _0; …]
           land ! (from ! (stop !)) (init ! 12 refl (uint-lawful 𝓤 H A W (k .width) .typed r _ is .0)) $
           assigns ! (bin ! (load ! (from ! (stop !)) (look ! 14 refl)) (lit ! (k .small)) (record { fits = next-fits was })) (from ! (stop !)) (init ! 8 refl (tt, record { fits = next-fits was })) $
-          assigns ! (of-opd ! (load ! (from ! (stop !)) (look ! 8 refl))) (from ! (hop ! (look ! 16 refl) (fld ! refl (stop !)))) (store-in ! 3 (sub ! 1 refl (whole !)) (tt, record { fits = next-fits was })) $
+          assigns ! (of-opd ! (load ! (from ! (stop !)) (look ! 8 refl))) (from ! (hop ! (look ! 16 refl) (fld ! refl (stop !))))
+          (store-in ! 3 (sub ! 1 refl (whole !)) (tt, record { fits = next-fits was })) $
           assigns ! (of-opd ! (load ! (from ! (stop !)) (look ! 12 refl))) (from ! (stop !)) (init ! 18 refl (uint-lawful 𝓤 H A W (k .width) .typed r _ is .0)) $
           -- the borrow is closed at the new struct
-          move ! (2 ∷ []) $ use1 W (‵ (Own α h′)) (moved α h (k .bytes) (next-fits was) 𝓤 H A W) $ move ! (3 ∷ []) $ use1 W (‵ (cellAt fullShare (R .mir) (T′.lowered h′ ∷ []) b o)) (W .laws .at-raw fullShare (T′.mir erased) b o (T′.lowered h′)) $
+          move ! (2 ∷ []) $ use1 W (‵ (Own α h′)) (moved α h (k .bytes) (next-fits was) 𝓤 H A W) $ move ! (3 ∷ []) $ use1 W
+          (‵ (cellAt fullShare (R .mir) (T′.lowered h′ ∷ []) b o)) (W .laws .at-raw fullShare (T′.mir erased) b o (T′.lowered h′)) $
           move ! (0 ∷ 1 ∷ 4 ∷ 5 ∷ 6 ∷ []) $ closes ! tt R h′ (T′.lowered h′ ∷ []) b o $
           -- [obs; the borrow; its token; what the result owns; 'a's token; true; _5; …; _4; …; _3; …; _2; …; _1; …; _0; …]
           returns ! (look ! 16 refl) $ forget ! 6 refl $ forget ! 8 refl $ forget ! 10 refl $ forget ! 12 refl $ forget ! 14 refl $ forget ! 16 refl $
-          move ! (16 ∷ 17 ∷ []) $ free1 ! $ move ! (14 ∷ 15 ∷ []) $ free1 ! $ move ! (12 ∷ 13 ∷ []) $ free1 ! $ move ! (10 ∷ 11 ∷ []) $ free1 ! $ move ! (8 ∷ 9 ∷ []) $ free1 ! $ move ! (6 ∷ 7 ∷ []) $ free1 ! $ free0 ! $
+          move ! (16 ∷ 17 ∷ []) $ free1 ! $ move ! (14 ∷ 15 ∷ []) $ free1 ! $ move ! (12 ∷ 13 ∷ []) $ free1 ! $ move !
+          (10 ∷ 11 ∷ []) $ free1 ! $ move ! (8 ∷ 9 ∷ []) $ free1 ! $ move ! (6 ∷ 7 ∷ []) $ free1 ! $ free0 ! $
           keep ! (0 ∷ 1 ∷ 2 ∷ 3 ∷ 4 ∷ []) $ by ! (exits r w e)))))))))))))
 
   module _ {M : Type 1} (𝓤 : URA M) (H : Heap 𝓤) (A : Atoms 𝓤) (W : Given 𝓤 H A) where
     walks : (C : Calls 𝓤 H) (Λ : Loops 𝓤 H) → FmC 𝓤 H (W .laws) C → Triple 𝓤 (C callee) (At k 𝓤 H A) → Walks 𝓤 H A (ended k) stayed (WpFn 𝓤 H C Λ (function k callee)) (clauses k 𝓤)
-    walks C Λ fm known = walked 𝓤 H A (ended k) stayed (clauses k 𝓤) (WpFn 𝓤 H C Λ (function k callee)) (λ κs. (ptr-vals, tt)) (λ κs. (mut-tells (named 0) (κs .0) (T.the-row (namedLft 2 1 tt κs)), tt))
+    walks C Λ fm known = walked 𝓤 H A (ended k) stayed (clauses k 𝓤) (WpFn 𝓤 H C Λ (function k callee)) (λ κs. (ptr-vals, tt))
+        (λ κs. (mut-tells (named 0) (κs .0) (T.the-row (namedLft 2 1 tt κs)), tt))
         (λ κs qs bounds a g are. needs 𝓤 (k .enough (a .0 .now .commands .now) (a .0 .now .at)) _
         (λ enough. walk 𝓤 H A W (κs .0) (κs .1 .0) (qs .0) (qs .1 .0) bounds (a .0 .ptr .0) (a .0 .ptr .1) (a .0 .name) (a .0 .now) enough C Λ fm known))
 

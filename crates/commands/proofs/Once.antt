@@ -89,7 +89,9 @@ module _ (k : What) (new read : Name) where
         nothing ! $ move ! (2 ∷ 0 ∷ []) $ join ! $ frame ! $ nothing ! $ owned ! usize (Is usize) (uint-makes 𝓤 H A W w64) n _ (refl, fits) $ fjoin ! $ move ! (2 ∷ 0 ∷ []) $ fjoin ! $ frame ! $ done !
 
     module _ (C : Calls 𝓤 H) (Λ : Loops 𝓤 H) (fm : FmC 𝓤 H (W .laws) C) (known-new : Triple 𝓤 (C new) (New 𝓤 H A)) (known-read : Triple 𝓤 (C read) (Reads k 𝓤 H A)) where
-      walk : Is (ShrSlice (named 0) κ u8) s (at .0) → ent 𝓤 (onEntry 𝓤 H A (at-ended k .signature) (κ, tt) (q, tt) (s, (n, tt)) at) (WpFn 𝓤 H C Λ (function k new read) (only (at .0) ∷ vint w64 n ∷ []) Post)
+      walk : Is (ShrSlice (named 0) κ u8) s (at .0) →
+          ent 𝓤 (onEntry 𝓤 H A (at-ended k .signature) (κ, tt) (q, tt) (s, (n, tt)) at)
+          (WpFn 𝓤 H C Λ (function k new read) (only (at .0) ∷ vint w64 n ∷ []) Post)
       walk p =
           qed W (raw (onEntry 𝓤 H A (at-ended k .signature) (κ, tt) (q, tt) (s, (n, tt)) at) ∷ []) ∵ enter ! C Λ (function k new read) (only (at .0) ∷ vint w64 n ∷ []) _ $
           alloc1 ! (λ l₀. alloc1 ! (λ l₁. alloc1 ! (λ l₂. alloc1 ! (λ l₃. alloc1 ! (λ l₄. alloc1 ! (λ l₅. alloc0 ! $ params1 ! $
@@ -111,11 +113,13 @@ module _ (k : What) (new read : Name) where
           -- [the result; _3; what the reader owns; the token; what the slice owns; _5; …; _4; …; …; _2; …; _1; …; room for _0; …]
           land ! (from ! (stop !)) (init ! 14 refl (uint-lawful 𝓤 H A W (k .width) .typed r _ is′ .0)) $
           returns ! (look ! 14 refl) $ forget ! 1 refl $ forget ! 5 refl $ forget ! 7 refl $ forget ! 10 refl $ forget ! 12 refl $ forget ! 14 refl $
-          move ! (14 ∷ 15 ∷ []) $ free1 ! $ move ! (12 ∷ 13 ∷ []) $ free1 ! $ move ! (10 ∷ 11 ∷ []) $ free1 ! $ move ! (1 ∷ 9 ∷ []) $ free1 ! $ move ! (6 ∷ 7 ∷ []) $ free1 ! $ move ! (4 ∷ 5 ∷ []) $ free1 ! $ free0 ! $
+          move ! (14 ∷ 15 ∷ []) $ free1 ! $ move ! (12 ∷ 13 ∷ []) $ free1 ! $ move ! (10 ∷ 11 ∷ []) $ free1 ! $ move ! (1 ∷ 9 ∷ []) $ free1 ! $ move !
+          (6 ∷ 7 ∷ []) $ free1 ! $ move ! (4 ∷ 5 ∷ []) $ free1 ! $ free0 ! $
           keep ! (0 ∷ 2 ∷ 3 ∷ []) $ by ! (exits r v e)))))))))))))
 
   module _ {M : Type 1} (𝓤 : URA M) (H : Heap 𝓤) (A : Atoms 𝓤) (W : Given 𝓤 H A) where
-    walks : (C : Calls 𝓤 H) (Λ : Loops 𝓤 H) → FmC 𝓤 H (W .laws) C → Triple 𝓤 (C new) (New 𝓤 H A) → Triple 𝓤 (C read) (Reads k 𝓤 H A) → Walks 𝓤 H A (at-ended k) stayed (WpFn 𝓤 H C Λ (function k new read)) (at-clauses k 𝓤)
+    walks : (C : Calls 𝓤 H) (Λ : Loops 𝓤 H) → FmC 𝓤 H (W .laws) C → Triple 𝓤 (C new) (New 𝓤 H A) → Triple 𝓤 (C read) (Reads k 𝓤 H A) →
+        Walks 𝓤 H A (at-ended k) stayed (WpFn 𝓤 H C Λ (function k new read)) (at-clauses k 𝓤)
     walks C Λ fm known-new known-read = walked 𝓤 H A (at-ended k) stayed (at-clauses k 𝓤) (WpFn 𝓤 H C Λ (function k new read))
         (λ κs. (slice-vals, (uint-vals w64, tt))) (λ κs. (shr-slice-tells (named 0) (κs .0) u8, (uint-tells w64, tt)))
         (λ κs qs bounds a g are. needs 𝓤 (k .enough (a .0 .now) (a .1 .0)) _ (λ enough. walk 𝓤 H A W (κs .0) (qs .0) (a .0) (a .1 .0) (are .1 .0 .1) enough C Λ fm known-new known-read (are .0)))

@@ -70,7 +70,16 @@ module _ (k : What) where
   At 𝓤 H A = tripleOf 𝓤 H A (at-ended .signature) (closing 𝓤 H A at-ended (at-clauses 𝓤))
 
   abbrev pub ended : Ended
-  ended = record { signature = record { lifetimes = 2; outlives = record { long = 1; long-ok = tt; short = 0; short-ok = tt } ∷ []; params = RefMutOf (0 ∷ []) tt ReaderS (λ _. tt) ∷ []; result = plain (λ _. UInt (k .width)) }; kept = (yes, tt) }
+  ended = record {
+    signature = record {
+      lifetimes = 2;
+      outlives = record { long = 1; long-ok = tt; short = 0; short-ok = tt } ∷ [];
+      params = RefMutOf (0 ∷ []) tt ReaderS
+          (λ _. tt) ∷ [];
+      result = plain (λ _. UInt (k .width));
+    };
+    kept = (yes, tt);
+  }
 
   abbrev pub clauses : {M : Type 1} (𝓤 : URA M) → Clauses 𝓤 ended
   clauses 𝓤 κs a = record {

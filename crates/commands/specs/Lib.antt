@@ -1,4 +1,5 @@
 pub mod Commands
 pub mod Counted
-pub mod Laws
 pub mod Reader
+pub mod laws
+pub mod Bytes

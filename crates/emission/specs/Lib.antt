@@ -1,15 +1,2 @@
-pub mod Chain
-pub mod Arranged
-pub mod Fit
-pub mod Cover
-pub mod FirstSums
-pub mod FirstPlaces
-pub mod Order
-pub mod FirstChildren
-pub mod First
-pub mod SecondWords
-pub mod SecondPut
-pub mod Second
-pub mod SecondNeat
-pub mod SecondRoot
 pub mod Refinement
+pub mod laws

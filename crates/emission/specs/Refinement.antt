@@ -13,7 +13,7 @@ use lib.Dec.{eqb}
 use Rattle.logic.specs.Test.{if_then_else_}
 use Rattle.datatype.specs.Codes.{null, struct}
 use Rattle.refusal.specs.Number.{nullableRoot, nullRoot, rootNotStruct}
-use Rattle.equality.specs.Base.{not-refused}
+use Rattle.equality.specs.laws.Base.{not-refused}
 use Rattle.model.specs.Result.{Result, accepted, refused}
 use Rattle.model.specs.Reading.{values}
 use Rattle.model.specs.Tracing.{trace, placeLimit, Counted, counted}
@@ -22,27 +22,27 @@ use Rattle.model.specs.Answer.{inputLimit, schemaOf}
 use Rattle.leaves.specs.declared.Traced.the-variants as T
 use Rattle.samples.specs.Samples.{fromSamples}
 use Rattle.leaves.specs.Leaves.{out}
-use Rattle.refine.specs.Spots.{Spot, spot, Spots, no-spots, child, num}
-use Rattle.refine.specs.Commands.{Bytes}
-use Rattle.refine.specs.Numbers.{Good}
-use Rattle.refine.specs.Rep.{Rep, Fits}
-use Rattle.refine.specs.Erase.{erase, erased, walk-is-model}
-use Rattle.refine.specs.Whole.{Ends, ends, flat-is-walk}
+use Rattle.refine.specs.laws.numbered.Tree.{Spot, spot, Spots, no-spots, child, num}
+use Rattle.commands.specs.Bytes.{Bytes}
+use Rattle.refine.specs.laws.numbered.Numbers.{Good}
+use Rattle.refine.specs.laws.words.Places.{Rep, Fits}
+use Rattle.refine.specs.laws.numbered.Erased.{erase, erased, walk-is-model}
+use Rattle.refine.specs.laws.words.Batch.{Ends, ends, flat-is-walk}
 use Rattle.walk.specs.declared.Walked.{Walked}
 use Rattle.walk.specs.declared.Walked.the-variants as W
 use Rattle.walk.specs.Walk.{walked}
 use Rattle.schema.specs.Emit.{Answered, levelLimit, finished, onWalked, toSchemaAt}
-use Rattle.order.specs.Flat.{sortedPlaces}
-use Rattle.emission.specs.Arranged.{Orders, FitS}
-use Rattle.emission.specs.Order.{orders, says-ordered}
-use Rattle.emission.specs.Cover.{cover}
-use Rattle.emission.specs.Fit.{fit}
-use Rattle.emission.specs.FirstPlaces.{manyS}
-use Rattle.emission.specs.FirstChildren.{fieldsOfField}
-use Rattle.emission.specs.First.{Sane, SaneIn, WalkSays, first-walk}
-use Rattle.emission.specs.SecondWords.{Neat, NeatIn}
-use Rattle.emission.specs.SecondNeat.{neat}
-use Rattle.emission.specs.SecondRoot.{Finishes, finishes}
+use Rattle.order.specs.Sort.{sortedPlaces}
+use Rattle.emission.specs.laws.order.Arranged.{Orders, FitS}
+use Rattle.emission.specs.laws.order.Links.{orders, says-ordered}
+use Rattle.emission.specs.laws.tree.Cover.{cover}
+use Rattle.emission.specs.laws.tree.Fit.{fit}
+use Rattle.emission.specs.laws.firstwalk.Places.{manyS}
+use Rattle.emission.specs.laws.firstwalk.Children.{fieldsOfField}
+use Rattle.emission.specs.laws.firstwalk.Walk.{Sane, SaneIn, WalkSays, first-walk}
+use Rattle.emission.specs.laws.secondwalk.Words.{Neat, NeatIn}
+use Rattle.emission.specs.laws.secondwalk.Neat.{neat}
+use Rattle.emission.specs.laws.secondwalk.Root.{Finishes, finishes}
 
 -- an answer is what the model's emission says, with the model's counts
 abbrev pub Emits : List ℕ → List ℕ → Result Fields → Answered → Type 0

@@ -13,8 +13,8 @@ use Rattle.logic.specs.All.{All}
 use Rattle.model.specs.Answer.{Buffers, answer}
 use Rattle.model.specs.Census.{SameCensus}
 use Rattle.model.specs.Demand3.{Plain, Accepted, SameSchema, StructRecords, NoPlaceBoth, IsRecord, NoShorter, SameButOrder, batch, batchOf, recordsOf}
-use Rattle.equality.specs.Equal.{equal-exactly}
-use Rattle.equality.specs.Ordered.{ordered-again}
+use Rattle.equality.specs.laws.census.Equal.{equal-exactly}
+use Rattle.equality.specs.laws.reordering.Batches.{ordered-again}
 
 pub record Demand3 : Type 0 where
   -- schemas are equal exactly when censuses are

@@ -21,7 +21,7 @@ use Rattle.model.specs.Census.{SameCensus}
 use Rattle.model.specs.Demand3.{Plain, Accepted, SameSchema, StructRecords, NoPlaceBoth, IsRecord, NoShorter, SameButOrder, batchOf, recordsOf}
 use Rattle.fasthrom.specs.declared.Answer as R
 use Rattle.fasthrom.specs.Called.{said, Called}
-use Rattle.equality.specs.Answers.{Ending, barred, turned, whole, answer-ends}
+use Rattle.equality.specs.laws.emission.Answers.{Ending, barred, turned, whole, answer-ends}
 use Rattle.call.specs.laws.Bounded.{read-through, as-unbounded, too-many, past-reading}
 use Rattle.call.specs.laws.Demand3.{Took, alike, again}
 

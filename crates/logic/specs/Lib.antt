@@ -1,10 +1,7 @@
-pub mod Arms
 pub mod Test
 pub mod Buffer
-pub mod Flag
-pub mod Table
 pub mod Maybe
 pub mod All
 pub mod Turns
-pub mod Within
 pub mod Slices
+pub mod laws

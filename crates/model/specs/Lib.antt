@@ -8,4 +8,4 @@ pub mod Answer
 pub mod Census
 pub mod Demand3
 pub mod Soundings
-pub mod Examples
+pub mod laws

@@ -1,2 +1,2 @@
-pub mod Flat
 pub mod laws
+pub mod Sort

@@ -1,8 +1,3 @@
-pub mod Flat
-pub mod Readings
-pub mod Onward
-pub mod Ways
-pub mod Loops
-pub mod Plain
-pub mod Same
-pub mod Table
+pub mod Reading
+pub mod Promises
+pub mod laws

@@ -7,8 +7,8 @@ ghost use Rattle.model.specs.Kinds.{sequenceKind, mapKind, tupleKind, isStruct}
 ghost use Rattle.shapes.specs.Steps.{Unnamed, Inside, Good};
 ghost use Rattle.shapes.specs.Shapes.{isParted};
 ghost use Rattle.places.specs.Layout.{Ready};
-ghost use Rattle.reading.specs.Flat.{dotsIn, valueAt, parted};
-ghost use Rattle.reading.specs.Readings.{named, container, variant, inside, parts, part, Reads};
+ghost use Rattle.reading.specs.Reading.{dotsIn, valueAt, parted};
+ghost use Rattle.reading.specs.Promises.{named, container, variant, inside, parts, part, Reads};
 use commands::Due;
 use commands::Read;
 use growth::Ensured;

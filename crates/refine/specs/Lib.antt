@@ -1,16 +1,3 @@
-pub mod Spots
 pub mod Tree
-pub mod Steps
-pub mod Numbers
-pub mod Numbered
-pub mod Rep
-pub mod Child
-pub mod Entered
-pub mod Part
-pub mod Commands
-pub mod Sim
-pub mod Whole
-pub mod Bounds
-pub mod Erase
-pub mod Main
 pub mod Refinement
+pub mod laws

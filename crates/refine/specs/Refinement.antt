@@ -9,9 +9,9 @@ use Rattle.model.specs.Reading.{values}
 use Rattle.model.specs.Tracing.{trace}
 use Rattle.samples.specs.Samples.{fromSamples}
 use Rattle.refine.specs.Tree.{outcome}
-use Rattle.refine.specs.Commands.{Bytes}
-use Rattle.refine.specs.Main.{flat-outcome}
-use Rattle.refine.specs.Erase.{walk-is-model}
+use Rattle.commands.specs.Bytes.{Bytes}
+use Rattle.refine.specs.laws.Outcome.{flat-outcome}
+use Rattle.refine.specs.laws.numbered.Erased.{walk-is-model}
 
 pub traced-is-model : (options : ℕ) (commands text : List ℕ) → Bytes commands → length commands ≤ inputLimit →
     outcome text (fromSamples commands text options zeros) ≡ trace options (values options commands text)

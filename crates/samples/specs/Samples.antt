@@ -9,7 +9,7 @@ use Rattle.logic.specs.Turns.{Turn, done, turns}
 use Rattle.places.specs.Layout.{rootPlace}
 use Rattle.leaves.specs.declared.Traced.the-variants as T
 use Rattle.leaves.specs.Leaves.{Out, out}
-use Rattle.reading.specs.Flat.{State, afterPart, state, valueAt}
+use Rattle.reading.specs.Reading.{State, afterPart, state, valueAt}
 
 abbrev pub levelLimit : ℕ
 levelLimit = 20

@@ -6,7 +6,8 @@ use mathlib.Core.List.{List}
 use Prim.Native.Nat.{ℕ, zero, suc, _-_, _%_, _<_, _≤_}
 use native.Mathlib.Omega.{arith}
 use lib.Dec.{eqb}
-use Rattle.logic.specs.Test.{if_then_else_, neither}
+use Rattle.logic.specs.Test.{if_then_else_}
+use Rattle.logic.specs.laws.Test.{neither}
 use Rattle.words.specs.Word.{word}
 use Rattle.model.specs.Kinds.{isContainer}
 use Rattle.places.specs.Layout.{kindWord, nullWord}
@@ -58,7 +59,8 @@ module _ (options : ℕ) (t : List ℕ) (place : ℕ) (is : Bool) where
       (λ g h. neither (not (isContainer (word t place kindWord))) true g (λ x y. absurd (true≢false y)))
   some-level (suc m) e f = omega arith
 
-  module _ (text : List ℕ) (lacking nullable : Bool) (number : ℕ) (own w : Writing) (n : nullable ≡ (lacking || eqb (word t place nullWord) 1)) (o : own ≡ fieldAt options text t place nullable number w) where
+  module _ (text : List ℕ) (lacking nullable : Bool) (number : ℕ) (own w : Writing) (n : nullable ≡ (lacking || eqb (word t place nullWord) 1))
+      (o : own ≡ fieldAt options text t place nullable number w) where
     pub leaf : (levels : ℕ) → is ≡ isLeaf options t (eqb levels 0) place → is ≡ true → own ≡ emittedAt options text t levels place lacking number w
     unfolding emittedAt emittedBy if_then_else_
     leaf zero e p = rw (sym e ∙ p, ← n) o

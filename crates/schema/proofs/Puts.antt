@@ -6,7 +6,8 @@ use Prim.Native.Nat.{ℕ, _+_, _-_, _<_, _≤_}
 use native.Mathlib.Omega.{arith}
 use lib.ListN.{length}
 use Rattle.logic.specs.Test.{if_then_else_}
-use Rattle.logic.specs.Buffer.{written, length-written}
+use Rattle.logic.specs.Buffer.{written}
+use Rattle.logic.specs.laws.Buffer.{length-written}
 use Rattle.schema.specs.Put.{put, putBytes}
 
 -- `n` is how many bytes there are

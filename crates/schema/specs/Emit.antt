@@ -15,7 +15,7 @@ use Rattle.model.specs.Emission.{typeOf, strategyOf}
 use Rattle.model.specs.Tracing.{placeLimit}
 use Rattle.places.specs.Layout.{kindWord, nullWord, rootPlace}
 use Rattle.places.specs.Reading.{variantAt, childName, childLimit, nextChild}
-use Rattle.order.specs.Flat.{sortedPlaces}
+use Rattle.order.specs.Sort.{sortedPlaces}
 use Rattle.walk.specs.declared.Walked.{Walked}
 use Rattle.walk.specs.declared.Walked.the-variants as W
 use Rattle.walk.specs.Walk.{sumOf, gapsAt, walked}

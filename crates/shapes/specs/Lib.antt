@@ -1,6 +1,5 @@
 pub mod Steps
 pub mod Shapes
-pub mod Laws
-pub mod Told
 pub mod Leaf
 pub mod Field
+pub mod laws

@@ -6,7 +6,7 @@ use mathlib.Core.List.{List, []}
 use mathlib.Core.Option.{some}
 use lib.ListN.{length, getD, drop}
 use Rattle.text.specs.Utf8.{Range, table, dueIn, reads, isUtf8}
-use Rattle.text.specs.Utf8Laws.{due-at, reads-first}
+use Rattle.text.specs.laws.Utf8.{due-at, reads-first}
 use Rattle.text.proofs.Steps.{drop-at}
 
 module _ (bytes : List ℕ) (i : ℕ) (inv : isUtf8 (drop i bytes) ≡ isUtf8 bytes) (h : i < length bytes) where

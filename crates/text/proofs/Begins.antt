@@ -5,7 +5,7 @@ use mathlib.Core.Bool.{Bool, false}
 use mathlib.Core.List.{List, _∷_}
 use lib.ListN.{length, getD, drop, drop-of-length-le}
 use Rattle.text.specs.Utf8.{Range, _to_}
-use Rattle.text.specs.Utf8Laws.{within-true, within-below, within-above}
+use Rattle.text.specs.laws.Utf8.{within-true, within-below, within-above}
 use Rattle.text.specs.Due.{begins}
 use Rattle.text.proofs.Steps.{drop-at}
 

@@ -7,7 +7,7 @@ use native.Mathlib.Numerals.{add-one}
 use mathlib.Core.List.{List, _∷_}
 use lib.ListN.{length, getD, drop}
 use lib.Seq.{drop-cons}
-use Rattle.logic.specs.Test.{both}
+use Rattle.logic.specs.laws.Test.{both}
 
 pub drop-at : (l : List ℕ) (i : ℕ) → i < length l → drop i l ≡ getD l i 0 ∷ drop (i + 1) l
 drop-at l i h = rw (add-one, drop-cons l i 0)

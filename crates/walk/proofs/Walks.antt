@@ -43,7 +43,8 @@ module _ (text t : List ℕ) (inner : ℕ → Walked) (kind place records names 
     refused zero answer refusal w h i a e = absurd (omega arith)
     refused (suc m) answer refusal w h i a e = rw (ne-eqb child 0 n, childrenFrom, sym b ∙ i, sym a ∙ e) at w
 
-    pub next : (left : ℕ) (answer : Walked) (r k c further following : ℕ) (more moreNames moreBelow : ℕ) → childrenFrom text t inner kind place left records names below slot child ≡ whole → 0 < left → is ≡ false →
+    pub next : (left : ℕ) (answer : Walked) (r k c further following : ℕ) (more moreNames moreBelow : ℕ) →
+        childrenFrom text t inner kind place left records names below slot child ≡ whole → 0 < left → is ≡ false →
         answer ≡ inner child → answer ≡ W.Below r k c →
         more ≡ recordsWith kind t slot child records r → moreNames ≡ namesWith text t child names k → moreBelow ≡ columnsWith kind t slot child below r c →
         further ≡ slotBehind t child → following ≡ nextChild t false kind place child →
@@ -95,7 +96,8 @@ module _ (options : ℕ) (text t : List ℕ) (place kind : ℕ) (k : kind ≡ wo
         as-strings zero n p = absurd (n refl)
         as-strings (suc m) n p = rw (← k, ne-eqb kind null u, le-leb sequenceKind kind h, eq-eqb kind unionKind x, sym d ∙ f, sym s ∙ p)
 
-        pub dataless-union : (levels : ℕ) (allowed : Bool) → (levels ≡ 0 → ⊥) → strings ≡ false → allowed ≡ allowNullFields options → not allowed ≡ true → W.Refused F.DatalessUnion ≡ walked options text t levels place
+        pub dataless-union : (levels : ℕ) (allowed : Bool) → (levels ≡ 0 → ⊥) → strings ≡ false → allowed ≡ allowNullFields options →
+            not allowed ≡ true → W.Refused F.DatalessUnion ≡ walked options text t levels place
         unfolding walked walkedBy if_then_else_
         dataless-union zero allowed n p a q = absurd (n refl)
         dataless-union (suc m) allowed n p a q = rw (← k, ne-eqb kind null u, le-leb sequenceKind kind h, eq-eqb kind unionKind x, sym d ∙ f, sym s ∙ p, sym a ∙ not-true allowed q)

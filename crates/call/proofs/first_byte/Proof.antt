@@ -5,7 +5,7 @@ use mathlib.Core.List.{List, [], _∷_}
 use native.Mathlib.Omega.{arith}
 use Prim.Native.Nat.{ℕ, _<_}
 use lib.ListN.{length, getD}
-use Rattle.refine.specs.Commands.{Bytes}
+use Rattle.commands.specs.Bytes.{Bytes}
 use Rattle.call.specs.laws.Call.{bytes-known}
 use Rattle.call.proofs.first_byte.Statement.{statement}
 use Rattle.call.proofs.first_byte.Tie as tie
@@ -18,4 +18,5 @@ one : (xs : List ℕ) (r : ℕ) → r ≡ getD xs 0 0 → ((i : ℕ) → getD xs
 one xs r e h = (e, bytes-known xs h)
 
 pub first-byte-spec : {M : Type 1} → statement M
-first-byte-spec = tie.close (tie.spec (λ c. none (c .before .args .commands .now) (c .if1 .taken)) (λ c. search needs) (λ c. one (c .before .before .args .commands .now) _ refl (λ i. omega (arith, c .shared-slice-known .given i))))
+first-byte-spec = tie.close (tie.spec (λ c. none (c .before .args .commands .now) (c .if1 .taken)) (λ c. search needs)
+    (λ c. one (c .before .before .args .commands .now) _ refl (λ i. omega (arith, c .shared-slice-known .given i))))

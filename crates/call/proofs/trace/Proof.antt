@@ -9,7 +9,8 @@ use lib.Dec.{ltb}
 use lib.ListN.{length, take, drop}
 use lib.Seq.{length-take-le}
 use borrow.Author.Tests.{ltb-false}
-use Rattle.logic.specs.Test.{if_then_else_, neither}
+use Rattle.logic.specs.Test.{if_then_else_}
+use Rattle.logic.specs.laws.Test.{neither}
 use Rattle.options.specs.Word.{unknownBit}
 use Rattle.refusal.specs.declared.Refusal.the-variants as F
 use Rattle.words.specs.Word.{tableWords, IsTable}

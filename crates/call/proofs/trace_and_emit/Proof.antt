@@ -11,7 +11,7 @@ use Rattle.leaves.specs.declared.Traced.the-variants as T
 use Rattle.samples.specs.Samples.{fromSamples}
 use Rattle.leaves.specs.Leaves.{out, SoundTraced}
 use Rattle.places.specs.Layout.{Linked}
-use Rattle.order.specs.Flat.{sortedPlaces}
+use Rattle.order.specs.Sort.{sortedPlaces}
 use Rattle.schema.specs.declared.Emitted.{Emitted}
 use Rattle.schema.specs.declared.Emitted.the-variants as E
 use Rattle.schema.specs.Emit.{answered, toSchemaAt}
@@ -29,14 +29,19 @@ module _ (text u : List ℕ) (r : Traced) (behind n : ℕ) (next : r ≡ T.Next 
   few-after = let s : SoundTraced text u 1 (T.Next behind n) = rw next at after in s .0 .linked .most
 
 module _ (options : ℕ) (commands text t u fields names : List ℕ) (r : Traced) (traced : out r u ≡ fromSamples commands text options t) where
-  refused : (refusal : Refusal) (place : ℕ) → r ≡ T.Refused refusal place → given (O.Refused refusal place) u fields names ≡ emittedFrom options commands text fields names (fromSamples commands text options t)
+  refused : (refusal : Refusal) (place : ℕ) → r ≡ T.Refused refusal place →
+      given (O.Refused refusal place) u fields names ≡ emittedFrom options commands text fields names (fromSamples commands text options t)
   refused refusal place e = rw (← traced, e) refl
 
-  module _ (behind n : ℕ) (next : r ≡ T.Next behind n) (ordered records written : List ℕ) (a : Emitted) (emitted : answered a records written ≡ toSchemaAt options text (sortedPlaces text u n) fields names) (in-order : ordered ≡ sortedPlaces text u n) where
+  module _ (behind n : ℕ) (next : r ≡ T.Next behind n) (ordered records written : List ℕ) (a : Emitted)
+      (emitted : answered a records written ≡ toSchemaAt options text (sortedPlaces text u n) fields names)
+      (in-order : ordered ≡ sortedPlaces text u n) where
     schema : (x y z : ℕ) → a ≡ E.Schema x y z → given (O.Schema x y z) ordered records written ≡ emittedFrom options commands text fields names (fromSamples commands text options t)
     schema x y z e = rw (← traced, next, in-order, ← emitted, e) refl
 
-    turned-down : (refusal : Refusal) → a ≡ E.Refused refusal → given (O.Refused refusal (length commands)) ordered records written ≡ emittedFrom options commands text fields names (fromSamples commands text options t)
+    turned-down : (refusal : Refusal) → a ≡ E.Refused refusal →
+        given (O.Refused refusal (length commands)) ordered records written ≡ emittedFrom options commands text fields names
+        (fromSamples commands text options t)
     turned-down refusal e = rw (← traced, next, in-order, ← emitted, e) refl
 
 pub trace-and-emit-spec : {M : Type 1} → statement M

@@ -8,7 +8,7 @@ use Rattle.words.specs.Word.{IsTable, zeros}
 use Rattle.places.specs.Layout.{Sound}
 use Rattle.places.specs.laws.Layout.{sound-zeros}
 use Rattle.samples.specs.Samples.{fromSamples}
-use Rattle.refine.specs.Commands.{Bytes}
+use Rattle.commands.specs.Bytes.{Bytes}
 use Rattle.model.specs.Answer.{inputLimit, schemaOf, answerOf}
 use Rattle.model.specs.Demand3.{batch}
 use Rattle.call.specs.declared.Outcome.{Outcome}
@@ -24,7 +24,8 @@ ended : (options : ℕ) (commands text t fields names u v records written : List
     given o v records written ≡ emittedFrom options commands text fields names (fromSamples commands text options u) → u ≡ zeros → z ≡ zeros →
     Bytes commands → length commands ≤ inputLimit → IsTable t →
     answerBy o (lent z records written) ≡ answerOf (batch options commands text) (lent t fields names) (schemaOf (batch options commands text))
-ended options commands text t fields names u v records written o z g e f bytes short whole = rw f (given-is-answer options commands text t fields names bytes short whole o v records written (rw e at g))
+ended options commands text t fields names u v records written o z g e f bytes short whole =
+    rw f (given-is-answer options commands text t fields names bytes short whole o v records written (rw e at g))
 
 pub trace-part-spec : {M : Type 1} → statement M
 trace-part-spec =

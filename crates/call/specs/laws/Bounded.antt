@@ -7,7 +7,8 @@ use native.Mathlib.Omega.{arith}
 use lib.Dec.{eqb, ltb}
 use lib.ListN.{length}
 use borrow.Author.Tests.{le-ltb, ltb-true, ltb-false, eqb-false}
-use Rattle.logic.specs.Test.{if_then_else_, cases, neither}
+use Rattle.logic.specs.Test.{if_then_else_}
+use Rattle.logic.specs.laws.Test.{cases, neither}
 use Rattle.refusal.specs.Number.{tooManyPlaces, badCommand, badName, badKey}
 use Rattle.model.specs.Result.{Result, accepted, refused, _>>=_}
 use Rattle.model.specs.Tracing.{Tree, fresh, placeLimit, Counted, trace}
@@ -15,11 +16,11 @@ use Rattle.model.specs.Unbounded.{seeAll, size}
 use Rattle.model.specs.Emission.{Fields, toSchema}
 use Rattle.model.specs.Answer.{tableWords, Batch, Buffers, Answer, WellFormed, inputLimit, schemaOf, isShort, answerOf, answer}
 use Rattle.model.specs.Demand3.{recordsOf}
-use Rattle.equality.specs.Reads.{choice}
-use Rattle.equality.specs.Refusals.{Between, schemaOf-between, schema-between}
-use Rattle.equality.specs.Wellformed.{ofReading, Past, schemaOf-past}
-use Rattle.equality.specs.Count.{traced, trace-fits}
-use Rattle.equality.specs.Bound.{trace-refused}
+use Rattle.equality.specs.laws.Base.{choice}
+use Rattle.equality.specs.laws.tracing.Refusals.{Between, schemaOf-between, schema-between}
+use Rattle.equality.specs.laws.reading.WellFormed.{ofReading, Past, schemaOf-past}
+use Rattle.equality.specs.laws.tracing.Count.{traced, trace-fits}
+use Rattle.equality.specs.laws.tracing.Bound.{trace-refused}
 
 -- none of 1 to 3 applies
 pub read-through : (b : Batch) (lent : Buffers) → WellFormed b → tableWords ≤ length (lent .table) → answer b lent ≡ answerOf b lent (schemaOf b)

@@ -21,12 +21,12 @@ use Rattle.places.specs.Layout.{Linked, Sound}
 use Rattle.leaves.specs.declared.Traced.the-variants as T
 use Rattle.samples.specs.Samples.{fromSamples}
 use Rattle.leaves.specs.Leaves.{Out, out}
-use Rattle.refine.specs.Commands.{Bytes}
+use Rattle.commands.specs.Bytes.{Bytes}
 use Rattle.refine.specs.Tree.{outcome, treeOf}
 use Rattle.refine.specs.Refinement.{traced-is-model}
 use Rattle.schema.specs.declared.Emitted.the-variants as E
 use Rattle.schema.specs.Emit.{Answered, answered, toSchemaAt}
-use Rattle.order.specs.Flat.{sortedPlaces}
+use Rattle.order.specs.Sort.{sortedPlaces}
 use Rattle.emission.specs.Refinement.{Emits, schema-is-model}
 use Rattle.refusal.specs.declared.Refusal.{Refusal}
 use Rattle.refusal.specs.declared.Refusal.the-variants as F
@@ -165,7 +165,8 @@ module _ (t : List ℕ) (long : tableWords ≤ length t) where
   widened-of b fields names (refused refusal place) = rw (cleared-part tableWords t) refl
   widened-of b fields names (accepted schema) = go (isShort schema (lent t fields names))
     where
-      go : (short : Bool) → widened (if short then turnedDown shortBuffer (length (b .commands)) (zeroed (lent (take tableWords t) fields names)) else withSchema schema (lent (take tableWords t) fields names))
+      go : (short : Bool) → widened (if short then turnedDown shortBuffer (length (b .commands))
+          (zeroed (lent (take tableWords t) fields names)) else withSchema schema (lent (take tableWords t) fields names))
           ≡ (if short then turnedDown shortBuffer (length (b .commands)) (zeroed (lent t fields names)) else withSchema schema (lent t fields names))
       go true = rw (cleared-part tableWords t) refl
       go false = rw (cleared-part tableWords t) refl

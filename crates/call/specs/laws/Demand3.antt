@@ -21,7 +21,8 @@ module _ (options : ℕ) (plain : Plain options) (b c : Batch) (lent other : Buf
       rw (x-is, y-is, u, v)
       (demand-3 .equal options plain (b .commands) (b .text) lent (h′ .0) (h′ .1) (h′ .2) (c .commands) (c .text) other (k′ .0) (k′ .1) (k′ .2))
 
-  pub again : (text : List ℕ) (records others : List (List ℕ)) → All (IsRecord options text) records → List·Permᴰ records others → b ≡ batchOf options text records → c ≡ batchOf options text others → Took b x → NoShorter lent other →
+  pub again : (text : List ℕ) (records others : List (List ℕ)) → All (IsRecord options text) records → List·Permᴰ records others →
+      b ≡ batchOf options text records → c ≡ batchOf options text others → Took b x → NoShorter lent other →
       Accepted y × SameButOrder x y
   again text records others are perm u v h long =
       let h′ : Took (batchOf options text records) (answer (batchOf options text records) lent) = rw (x-is, u) at h in

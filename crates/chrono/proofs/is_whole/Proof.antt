@@ -7,7 +7,7 @@ use lib.ListN.{length, drop, drop-of-length-le}
 use lib.Seq.{drop-cons}
 use borrow.Author.Needs.{needs}
 use borrow.Author.Tests.{leb-true, leb-false}
-use Rattle.logic.specs.Test.{cases}
+use Rattle.logic.specs.laws.Test.{cases}
 use Rattle.chrono.specs.declared.Matched.{Matched}
 use Rattle.chrono.specs.declared.Matched.the-variants.{Rest}
 use Rattle.chrono.specs.Grammar.{isEmpty}

@@ -5,7 +5,7 @@ use mathlib.Core.List.{List, [], _∷_}
 use Prim.Native.Nat.{ℕ}
 use borrow.Author.Needs.{needs}
 use borrow.Author.Tests.{not-true, not-false}
-use Rattle.logic.specs.Test.{if-passed, if-failed}
+use Rattle.logic.specs.laws.Test.{if-passed, if-failed}
 use Rattle.options.specs.Word.{guessDates, stringType}
 use Rattle.chrono.specs.Grammar.{Grammar, fits}
 use Rattle.chrono.specs.Text.{dateTexts, firstFit, textType}
@@ -24,7 +24,8 @@ fit : (flag : Bool) (g : Grammar) (t : ℕ) (rest : List (Grammar × ℕ)) (s : 
 unfolding firstFit
 fit flag g t rest s string e f = sym (if-passed _ (sym e ∙ f))
 
-unfit : (flag : Bool) (g : Grammar) (t x : ℕ) (rest : List (Grammar × ℕ)) (s : List ℕ) (string : ℕ) → flag ≡ fits g s → flag ≡ false → x ≡ firstFit rest s string → x ≡ firstFit ((g, t) ∷ rest) s string
+unfit : (flag : Bool) (g : Grammar) (t x : ℕ) (rest : List (Grammar × ℕ)) (s : List ℕ) (string : ℕ) → flag ≡ fits g s → flag ≡ false →
+    x ≡ firstFit rest s string → x ≡ firstFit ((g, t) ∷ rest) s string
 unfolding firstFit
 unfit flag g t x rest s string e f p = p ∙ sym (if-failed _ (sym e ∙ f))
 

@@ -1,6 +1,6 @@
 -- `are_numeric`: one type after the other.
 use borrow.Author.Needs.{needs}
-use Rattle.logic.specs.Flag.{flagged, and-passed, and-failed}
+use Rattle.logic.specs.laws.Flag.{flagged, and-passed, and-failed}
 use Rattle.coerce.proofs.are_numeric.Statement.{statement}
 use Rattle.coerce.proofs.are_numeric.Tie as tie
 

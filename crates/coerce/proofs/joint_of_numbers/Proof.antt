@@ -4,7 +4,7 @@ use mathlib.Core.Path.{_≡_, ap, _∙_}
 use mathlib.Core.Bool.{Bool, true, false}
 use mathlib.Core.Option.{Option, none, some}
 use Prim.Native.Nat.{ℕ}
-use Rattle.logic.specs.Test.{chosen, other}
+use Rattle.logic.specs.laws.Test.{chosen, other}
 use Rattle.options.specs.Word.{coerceNumbers}
 use Rattle.coerce.specs.Joint.{numberJoint, jointOfNumbers}
 use Rattle.coerce.proofs.joint_of_numbers.Statement.{statement}

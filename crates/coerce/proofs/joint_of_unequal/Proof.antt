@@ -1,6 +1,6 @@
 -- `joint_of_unequal` goes by the families of the two types.
 use borrow.Author.Needs.{needs}
-use Rattle.logic.specs.Flag.{flagged}
+use Rattle.logic.specs.laws.Flag.{flagged}
 use Rattle.coerce.proofs.Joint.{of-numbers, with-first, with-second, of-others}
 use Rattle.coerce.proofs.joint_of_unequal.Statement.{statement}
 use Rattle.coerce.proofs.joint_of_unequal.Tie as tie

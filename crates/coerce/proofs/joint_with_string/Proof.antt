@@ -1,6 +1,6 @@
 -- `joint_with_string` goes by `yields_to_string`.
 use borrow.Author.Needs.{needs}
-use Rattle.logic.specs.Test.{chosen, other}
+use Rattle.logic.specs.laws.Test.{chosen, other}
 use Rattle.coerce.specs.Joint.{jointWithString}
 use Rattle.coerce.proofs.joint_with_string.Statement.{statement}
 use Rattle.coerce.proofs.joint_with_string.Tie as tie

@@ -8,8 +8,9 @@ use Prim.Native.Nat.{ℕ, _+_, _-_, _≤_}
 use native.Mathlib.Omega.{arith}
 use lib.Dec.{eqb, leb}
 use lib.ListN.{getD}
-use Rattle.logic.specs.Test.{if_then_else_, both}
-use Rattle.logic.specs.Table.{every, everyRow, row-at}
+use Rattle.logic.specs.Test.{if_then_else_}
+use Rattle.logic.specs.laws.Test.{both}
+use Rattle.logic.specs.laws.Table.{every, everyRow, row-at}
 use Rattle.datatype.specs.declared.DataType.{DataType}
 use Rattle.datatype.specs.declared.DataType.the-variants.{Null, Int8 as I8, Int16 as I16, Int32 as I32, Int64 as I64, UInt8 as U8, UInt16 as U16, UInt32 as U32, UInt64 as U64, Float32 as F32, Float64 as F64}
 use Rattle.datatype.specs.Codes.{codeOf, int8, float64}

@@ -1,6 +1,6 @@
 -- `yields_to_string`: a timestamp, or what the options allow.
 use borrow.Author.Needs.{needs}
-use Rattle.logic.specs.Flag.{flagged, and-passed, and-failed, or-passed, or-failed}
+use Rattle.logic.specs.laws.Flag.{flagged, and-passed, and-failed, or-passed, or-failed}
 use Rattle.coerce.proofs.yields_to_string.Statement.{statement}
 use Rattle.coerce.proofs.yields_to_string.Tie as tie
 

@@ -5,7 +5,7 @@ use mathlib.Core.Path.{_≡_}
 use mathlib.Core.List.{List}
 use Prim.Native.Nat.{ℕ, _+_, _*_, _≤_, _<_}
 use lib.Dec.{T, leb, leb→le}
-use Rattle.logic.specs.Arms.{NoneBelow, none-below}
+use Rattle.logic.specs.laws.Arms.{NoneBelow, none-below}
 use Rattle.text.specs.declared.Name.{Name}
 use Rattle.commands.specs.declared.Command.{Command}
 use Rattle.commands.specs.declared.Command.the-variants as C
@@ -32,11 +32,14 @@ is-named : (f : Name → Command) (byte k : ℕ) (commands : List ℕ) (at : ℕ
 unfolding made
 is-named f byte k commands at name e p q = rw (e, p, q)
 
-is-variant : (f : ℕ → Name → Command) (byte k : ℕ) (commands : List ℕ) (at n : ℕ) (name : Name) → byte ≡ k → formOf k ≡ variant f → n ≡ operandAt commands at → name ≡ nameAt commands (at + 2) → f n name ≡ made (formOf byte) commands at
+is-variant : (f : ℕ → Name → Command) (byte k : ℕ) (commands : List ℕ) (at n : ℕ) (name : Name) → byte ≡ k → formOf k ≡ variant f →
+    n ≡ operandAt commands at → name ≡ nameAt commands (at + 2) → f n name ≡ made (formOf byte) commands at
 unfolding made
 is-variant f byte k commands at n name e p q r = rw (e, p, q, r)
 
-is-counted-variant : (f : ℕ → Name → ℕ → Command) (byte k : ℕ) (commands : List ℕ) (at n : ℕ) (name : Name) (m : ℕ) → byte ≡ k → formOf k ≡ countedVariant f → n ≡ operandAt commands at → name ≡ nameAt commands (at + 2) → m ≡ operandAt commands (at + 6) → f n name m ≡ made (formOf byte) commands at
+is-counted-variant : (f : ℕ → Name → ℕ → Command) (byte k : ℕ) (commands : List ℕ) (at n : ℕ) (name : Name) (m : ℕ) → byte ≡ k →
+    formOf k ≡ countedVariant f → n ≡ operandAt commands at → name ≡ nameAt commands (at + 2) → m ≡ operandAt commands (at + 6) →
+    f n name m ≡ made (formOf byte) commands at
 unfolding made
 is-counted-variant f byte k commands at n name m e p q r t = rw (e, p, q, r, t)
 

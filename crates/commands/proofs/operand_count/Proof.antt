@@ -5,8 +5,8 @@ use mathlib.Core.Path.{_≡_, refl, sym}
 use mathlib.Core.Bool.{Bool, true, _||_}
 use Prim.Native.Nat.{ℕ, _<_}
 use lib.Dec.{eqb}
-use Rattle.logic.specs.Test.{told}
-use Rattle.logic.specs.Table.{allBelow, below-at}
+use Rattle.logic.specs.laws.Test.{told}
+use Rattle.logic.specs.laws.Table.{allBelow, below-at}
 use Rattle.commands.specs.Commands.{formOf, operands}
 use Rattle.commands.proofs.operand_count.Statement.{statement}
 use Rattle.commands.proofs.operand_count.Tie as tie
@@ -30,7 +30,17 @@ rest c =
     let at-byte : known byte ≡ true = below-at 28 known all-known byte small in
     let none = c .match .rest in
     sym (eqb-true (operands (formOf byte)) 0
-    (rw (ne-eqb byte 0x0D (none .0 .0 .0 .0 .0 .0 .1), ne-eqb byte 0x13 (none .0 .0 .0 .0 .0 .1), ne-eqb byte 0x16 (none .0 .0 .0 .0 .1), ne-eqb byte 0x18 (none .0 .0 .0 .1), ne-eqb byte 0x19 (none .0 .0 .1), ne-eqb byte 0x1A (none .0 .1), ne-eqb byte 0x1B (none .1)) at at-byte))
+    (rw (
+      ne-eqb byte 0x0D (none .0 .0 .0 .0 .0 .0 .1),
+      ne-eqb byte 0x13 (none .0 .0 .0 .0 .0 .1),
+      ne-eqb byte 0x16
+          (none .0 .0 .0 .0 .1),
+      ne-eqb byte 0x18 (none .0 .0 .0 .1),
+      ne-eqb byte 0x19 (none .0 .0 .1),
+      ne-eqb byte 0x1A (none .0 .1),
+      ne-eqb byte 0x1B
+          (none .1),
+    ) at at-byte))
 
 pub operand-count-spec : {M : Type 1} → statement M
 operand-count-spec =

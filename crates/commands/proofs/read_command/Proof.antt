@@ -14,7 +14,8 @@ use Rattle.commands.specs.declared.Command.{Command}
 use Rattle.commands.specs.declared.Due.{Due}
 use Rattle.commands.specs.declared.Read.the-variants as R
 use Rattle.commands.specs.Commands.{formOf, operands, width, made, nameIn, stands, badCommand, badName, badKey, readCommand}
-use Rattle.commands.specs.Counted.{nameAmong, among-is}
+use Rattle.commands.specs.Counted.{nameAmong}
+use Rattle.commands.specs.laws.Counted.{among-is}
 use Rattle.commands.proofs.read_command.Statement.{statement}
 use Rattle.commands.proofs.read_command.Tie as tie
 
@@ -27,14 +28,17 @@ module _ (commands text : List ℕ) (at : ℕ) (due : Due) (byte : ℕ) (is : by
   unfolding readCommand badCommand if_then_else_
   unknown h = rw (← is, lt-leb _ _ left, le-leb _ _ h)
 
-module _ (commands text : List ℕ) (at : ℕ) (due : Due) (byte : ℕ) (is : byte ≡ getD commands at 0) (count : ℕ) (left : at < length commands) (known : byte < 28) (counts : count ≡ operands (formOf byte)) where
+module _ (commands text : List ℕ) (at : ℕ) (due : Due) (byte : ℕ) (is : byte ≡ getD commands at 0) (count : ℕ) (left : at < length commands)
+    (known : byte < 28) (counts : count ≡ operands (formOf byte)) where
   cut-off : length commands - at < 1 + 2 * count → R.Refused F.BadCommand at ≡ readCommand commands text at due
   unfolding readCommand badCommand if_then_else_
   cut-off h =
       let short : length commands < at + width (formOf byte) = omega arith in
       rw (← is, lt-leb _ _ left, lt-leb _ _ known, lt-ltb _ _ short)
 
-module _ (commands text : List ℕ) (at : ℕ) (due : Due) (byte : ℕ) (is : byte ≡ getD commands at 0) (count : ℕ) (admitted : Bool) (left : at < length commands) (known : byte < 28) (counts : count ≡ operands (formOf byte)) (whole : 1 + 2 * count ≤ length commands - at) (stood : admitted ≡ stands due byte) where
+module _ (commands text : List ℕ) (at : ℕ) (due : Due) (byte : ℕ) (is : byte ≡ getD commands at 0) (count : ℕ) (admitted : Bool)
+    (left : at < length commands) (known : byte < 28) (counts : count ≡ operands (formOf byte)) (whole : 1 + 2 * count ≤ length commands - at)
+    (stood : admitted ≡ stands due byte) where
   by-standing : badCommand commands at due ≡ not admitted
   unfolding badCommand
   by-standing =
@@ -48,7 +52,9 @@ module _ (commands text : List ℕ) (at : ℕ) (due : Due) (byte : ℕ) (is : by
   placed : not admitted ≡ false → badCommand commands at due ≡ false
   placed h = by-standing ∙ h
 
-module _ (commands text : List ℕ) (at : ℕ) (due : Due) {byte : ℕ} (is : byte ≡ getD commands at 0) {count : ℕ} {bad : Bool} (stands-there : badCommand commands at due ≡ false) (counts : count ≡ operands (formOf byte)) (named : bad ≡ badName text (nameAmong count commands (at + 1))) where
+module _ (commands text : List ℕ) (at : ℕ) (due : Due) {byte : ℕ} (is : byte ≡ getD commands at 0) {count : ℕ} {bad : Bool}
+    (stands-there : badCommand commands at due ≡ false) (counts : count ≡ operands (formOf byte))
+    (named : bad ≡ badName text (nameAmong count commands (at + 1))) where
   by-name : badName text (nameIn (formOf (getD commands at 0)) commands (at + 1)) ≡ bad
   by-name = rw (← is, named, counts, among-is)
 
@@ -89,10 +95,15 @@ read-command-spec =
     (λ c. search (misplaced, needs))
     (λ c. search needs)
     (λ c κs. search needs)
-    (λ c. let d = c .before .before in misnamed _ _ _ _ (d .before .before .before .before .before .read-byte .ensures) (standing d) (d .before .before .before .operand-count .ensures) (c .before .has-bad-name .ensures) (c .if5 .taken))
+    (λ c. let d = c .before .before in misnamed _ _ _ _ (d .before .before .before .before .before .read-byte .ensures) (standing d)
+    (d .before .before .before .operand-count .ensures) (c .before .has-bad-name .ensures) (c .if5 .taken))
     (λ c κs. search needs)
-    (λ c. let d = c .before .before .before .before in no-key _ _ _ _ (d .before .before .before .before .before .read-byte .ensures) (standing d) (d .before .before .before .operand-count .ensures) (c .before .before .before .has-bad-name .ensures) (c .before .before .if5 .left) (c .before .is-bad-key .ensures) (c .if6 .taken))
+    (λ c. let d = c .before .before .before .before in no-key _ _ _ _ (d .before .before .before .before .before .read-byte .ensures) (standing d)
+    (d .before .before .before .operand-count .ensures) (c .before .before .before .has-bad-name .ensures) (c .before .before .if5 .left)
+    (c .before .is-bad-key .ensures) (c .if6 .taken))
     (λ c. search needs)
     (λ c κs. search needs)
     (λ c. search needs)
-    (λ c. let d = c .before .before .before .before .before in read _ _ _ _ (d .before .before .before .before .before .read-byte .ensures) (standing d) (d .before .before .before .operand-count .ensures) (c .before .before .before .before .has-bad-name .ensures) (c .before .before .before .if5 .left) (c .before .before .is-bad-key .ensures) (c .before .if6 .left) (c .command-of .ensures)))
+    (λ c. let d = c .before .before .before .before .before in read _ _ _ _ (d .before .before .before .before .before .read-byte .ensures)
+    (standing d) (d .before .before .before .operand-count .ensures) (c .before .before .before .before .has-bad-name .ensures)
+    (c .before .before .before .if5 .left) (c .before .before .is-bad-key .ensures) (c .before .if6 .left) (c .command-of .ensures)))

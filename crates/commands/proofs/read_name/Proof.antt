@@ -61,7 +61,8 @@ use Rattle.commands.proofs.read_name.Code as code
 abbrev stayed : Stays (read-name.ended .signature .params) (read-name.ended .kept)
 stayed = (stay-none-slice (0 ∷ []) tt (plain (λ _. u8)) yes, (stay-none (λ _. usize) yes, tt))
 
-module _ {M : Type 1} (𝓤 : URA M) (H : Heap 𝓤) (A : Atoms 𝓤) (W : Given 𝓤 H A) (mem : Memory → SProp 𝓤) (run : Routine → Fun 𝓤) (κ : Lft) (q : Share) (s : RefT (List ℕ)) (n : ℕ) (fits : n < 2 ^ 64) (within : n + 4 ≤ length (now s)) where
+module _ {M : Type 1} (𝓤 : URA M) (H : Heap 𝓤) (A : Atoms 𝓤) (W : Given 𝓤 H A) (mem : Memory → SProp 𝓤) (run : Routine → Fun 𝓤) (κ : Lft) (q : Share)
+    (s : RefT (List ℕ)) (n : ℕ) (fits : n < 2 ^ 64) (within : n + 4 ≤ length (now s)) where
   abbrev R : RattleType
   R = T.the-row (α κ)
 
@@ -94,9 +95,11 @@ module _ {M : Type 1} (𝓤 : URA M) (H : Heap 𝓤) (A : Atoms 𝓤) (W : Given
   exits : (i j : ℕ) → i < 2 ^ 16 → j < 2 ^ 16 → i ≡ operandAt (now s) n → j ≡ operandAt (now s) (n + 2) → ent 𝓤 (⋆ 𝓤 H A (‵ (flft κ q) ∷ ‵ (OwnS κ q s n) ∷ [])) (Post (N′.lowered (name i j)))
   exits i j i-fits j-fits e f =
       qed W (‵ (flft κ q) ∷ ‵ (OwnS κ q s n) ∷ []) ∵
-      suffices ! _ (ends-at 𝓤 H A read-name.ended stayed (read-name.clauses 𝓤 H A mem run) W (((κ, tt), (q, tt), tt, (s, (n, tt)), at), tt) (N′.lowered (name i j)) (name i j) (tt, (tt, tt)) (tt, (tt, tt))) $ says ! (λ z. name (e z) (f z)) $
+      suffices ! _ (ends-at 𝓤 H A read-name.ended stayed (read-name.clauses 𝓤 H A mem run) W (((κ, tt), (q, tt), tt, (s, (n, tt)), at), tt)
+      (N′.lowered (name i j)) (name i j) (tt, (tt, tt)) (tt, (tt, tt))) $ says ! (λ z. name (e z) (f z)) $
       nothing ! $ move ! (1 ∷ 0 ∷ []) $ join ! $ frame ! $ nothing ! $ owned ! usize (Is usize) (uint-makes 𝓤 H A W w64) n _ (refl, fits) $ fjoin ! $ move ! (1 ∷ 0 ∷ []) $ fjoin ! $ frame ! $
-      nothing ! $ owned ! u16 (Is u16) (uint-makes 𝓤 H A W w16) j _ (refl, j-fits) $ fjoin ! $ owned ! u16 (Is u16) (uint-makes 𝓤 H A W w16) i _ (refl, i-fits) $ fjoin ! $ by ! (own-shut 𝓤 H A W N.the-type N′.the-laws (i, (j, tt)))
+      nothing ! $ owned ! u16 (Is u16) (uint-makes 𝓤 H A W w16) j _ (refl, j-fits) $ fjoin ! $ owned ! u16 (Is u16) (uint-makes 𝓤 H A W w16) i _
+      (refl, i-fits) $ fjoin ! $ by ! (own-shut 𝓤 H A W N.the-type N′.the-laws (i, (j, tt)))
 
   module _ (C : Calls 𝓤 H) (Λ : Loops 𝓤 H) (fm : FmC 𝓤 H (W .laws) C) (known-new : Triple 𝓤 (C #new) (New 𝓤 H A)) (known-operand : Triple 𝓤 (C #operand) (Reads anOperand 𝓤 H A)) where
     walk : Is (ShrSlice (named 0) κ u8) s (at .0) → ent 𝓤 (onEntry 𝓤 H A read-name.signature (κ, tt) (q, tt) (s, (n, tt)) at) (WpFn 𝓤 H C Λ code.function (only (at .0) ∷ vint w64 n ∷ []) Post)
@@ -127,21 +130,31 @@ module _ {M : Type 1} (𝓤 : URA M) (H : Heap 𝓤) (A : Atoms 𝓤) (W : Given
         left anOperand κ q l₃ h₁ ! tt a′ γ′ v′ (λ j f. peeks ! u16 (Is u16) (shows 𝓤 H A u16) j (v′ ∷ []) (λ is-j.
         land ! (from ! (stop !)) (init ! 11 refl (uint-lawful 𝓤 H A W w16 .typed j _ is-j .0)) $ rewrite ! 11 (λ (z : Val). ‵ (fat fullShare (tyInt w16) l₅ 0 z)) (ap only (is-j .0)) refl $ drop ! $
         -- [_3; what the reader owns; the token; what the slice owns; _8; …; _7; …; _6; …; _5; …; _4; …; …; _2; …; _1; …; room for _0; …]
-        assigns ! (agg ! (and-then ! (load ! (from ! (stop !)) (look ! 12 refl)) (and-then ! (load ! (from ! (stop !)) (look ! 10 refl)) (no-more !)))) (from ! (stop !)) (init ! 19 refl (tt, (record { fits = is-i .1 }, (record { fits = is-j .1 }, tt)))) $
-        returns ! (look ! 19 refl) $ forget ! 0 refl $ forget ! 4 refl $ forget ! 6 refl $ forget ! 8 refl $ forget ! 10 refl $ forget ! 12 refl $ forget ! 15 refl $ forget ! 17 refl $ forget ! 19 refl $
-        move ! (19 ∷ 20 ∷ []) $ free1 ! $ move ! (17 ∷ 18 ∷ []) $ free1 ! $ move ! (15 ∷ 16 ∷ []) $ free1 ! $ move ! (0 ∷ 14 ∷ []) $ free1 ! $ move ! (11 ∷ 12 ∷ []) $ free1 ! $ move ! (9 ∷ 10 ∷ []) $ free1 ! $ move ! (7 ∷ 8 ∷ []) $ free1 ! $ move ! (5 ∷ 6 ∷ []) $ free1 ! $ move ! (3 ∷ 4 ∷ []) $ free1 ! $ free0 ! $
+        assigns ! (agg ! (and-then ! (load ! (from ! (stop !)) (look ! 12 refl))
+        (and-then ! (load ! (from ! (stop !)) (look ! 10 refl)) (no-more !)))) (from ! (stop !))
+        (init ! 19 refl (tt, (record { fits = is-i .1 }, (record { fits = is-j .1 }, tt)))) $
+        returns ! (look ! 19 refl) $ forget ! 0 refl $ forget ! 4 refl $ forget ! 6 refl $ forget ! 8 refl $ forget ! 10 refl $ forget ! 12 refl $
+        forget ! 15 refl $ forget ! 17 refl $ forget ! 19 refl $
+        move ! (19 ∷ 20 ∷ []) $ free1 ! $ move ! (17 ∷ 18 ∷ []) $ free1 ! $ move ! (15 ∷ 16 ∷ []) $ free1 ! $ move ! (0 ∷ 14 ∷ []) $ free1 ! $ move !
+        (11 ∷ 12 ∷ []) $ free1 ! $ move ! (9 ∷ 10 ∷ []) $ free1 ! $ move ! (7 ∷ 8 ∷ []) $ free1 ! $ move ! (5 ∷ 6 ∷ []) $ free1 ! $ move !
+        (3 ∷ 4 ∷ []) $ free1 ! $ free0 ! $
         keep ! (1 ∷ 2 ∷ []) $ by ! (exits i j (is-i .1) (is-j .1) e f))))))))))))))))))))
 
 module _ {M : Type 1} (𝓤 : URA M) (H : Heap 𝓤) (A : Atoms 𝓤) (W : Given 𝓤 H A) (mem : Memory → SProp 𝓤) (run : Routine → Fun 𝓤) where
-  read-name-walks : (C : Calls 𝓤 H) (Λ : Loops 𝓤 H) → FmC 𝓤 H (W .laws) C → Triple 𝓤 (C #new) (New 𝓤 H A) → Triple 𝓤 (C #operand) (Reads anOperand 𝓤 H A) → Walks 𝓤 H A read-name.ended stayed (WpFn 𝓤 H C Λ code.function) (read-name.clauses 𝓤 H A mem run)
+  read-name-walks : (C : Calls 𝓤 H) (Λ : Loops 𝓤 H) → FmC 𝓤 H (W .laws) C → Triple 𝓤 (C #new) (New 𝓤 H A) →
+      Triple 𝓤 (C #operand) (Reads anOperand 𝓤 H A) →
+      Walks 𝓤 H A read-name.ended stayed (WpFn 𝓤 H C Λ code.function) (read-name.clauses 𝓤 H A mem run)
   read-name-walks C Λ fm known-new known-operand = walked 𝓤 H A read-name.ended stayed (read-name.clauses 𝓤 H A mem run) (WpFn 𝓤 H C Λ code.function)
       (λ κs. (slice-vals, (uint-vals w64, tt))) (λ κs. (shr-slice-tells (named 0) (κs .0) u8, (uint-tells w64, tt)))
-      (λ κs qs bounds a g are. needs 𝓤 (a .1 .0 + 4 ≤ length (a .0 .now)) _ (λ within. walk 𝓤 H A W mem run (κs .0) (qs .0) (a .0) (a .1 .0) (are .1 .0 .1) within C Λ fm known-new known-operand (are .0)))
+      (λ κs qs bounds a g are. needs 𝓤 (a .1 .0 + 4 ≤ length (a .0 .now)) _
+      (λ within. walk 𝓤 H A W mem run (κs .0) (qs .0) (a .0) (a .1 .0) (are .1 .0 .1) within C Λ fm known-new known-operand (are .0)))
 
 read-name-meets : {M : Type 1} (𝓤 : URA M) (H : Heap 𝓤) (A : Atoms 𝓤) → Given 𝓤 H A → (mem : Memory → SProp 𝓤) (run : Routine → Fun 𝓤) (𝓣 : Tables 𝓤 H)
     → Triple 𝓤 (𝓣 .C #new) (New 𝓤 H A) → Triple 𝓤 (𝓣 .C #operand) (Reads anOperand 𝓤 H A) → Meets 𝓤 H A read-name.signature (WpFn 𝓤 H (𝓣 .C) (𝓣 .Λ) code.function) (read-name.spec 𝓤 H A mem run)
 read-name-meets 𝓤 H A W mem run 𝓣 known-new known-operand =
-    walk-meets 𝓤 H A read-name.ended stayed W (goes-none-slice 𝓤 H A W 1 (0 ∷ []) tt (plain (λ _. u8)) yes, (goes-none 𝓤 H A W 1 (λ _. usize) yes (λ κs x f. refl), tt)) (read-name.clauses 𝓤 H A mem run)
+    walk-meets 𝓤 H A read-name.ended stayed W
+    (goes-none-slice 𝓤 H A W 1 (0 ∷ []) tt (plain (λ _. u8)) yes, (goes-none 𝓤 H A W 1 (λ _. usize) yes (λ κs x f. refl), tt))
+    (read-name.clauses 𝓤 H A mem run)
     (WpFn 𝓤 H (𝓣 .C) (𝓣 .Λ) code.function) (WpFn-mono 𝓤 H (W .laws) 𝓣 code.function) (read-name-walks 𝓤 H A W mem run (𝓣 .C) (𝓣 .Λ) (fmOf 𝓤 H (W .laws) 𝓣) known-new known-operand)
 
 pub read-name-spec : {M : Type 1} → stated.statement M

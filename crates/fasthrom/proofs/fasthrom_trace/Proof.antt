@@ -6,7 +6,7 @@ use Prim.Native.Nat.{ℕ, _<_}
 use Rattle.refusal.specs.declared.Refusal.{Refusal}
 use Rattle.refusal.specs.Number.{numberOf}
 use Rattle.model.specs.Answer.{Batch, Buffers, answer}
-use Rattle.equality.specs.Answers.{answer-small}
+use Rattle.equality.specs.laws.emission.Answers.{answer-small}
 use Rattle.call.specs.declared.Outcome.{Outcome}
 use Rattle.call.specs.declared.Outcome.the-variants as O
 use Rattle.call.specs.Call.{answerBy}
@@ -22,7 +22,8 @@ module _ (b : Batch) (lent left : Buffers) (o : Outcome) (e : answerBy o left �
   unfolding Called
   schema x y z is = rw is at e
 
-  refused : (refusal : Refusal) (place number : ℕ) → o ≡ O.Refused refusal place → number ≡ numberOf refusal → Called b lent (record { refusal = number; place = place; «field_records» = 0; «name_bytes» = 0; columns = 0 }) left
+  refused : (refusal : Refusal) (place number : ℕ) → o ≡ O.Refused refusal place → number ≡ numberOf refusal →
+      Called b lent (record { refusal = number; place = place; «field_records» = 0; «name_bytes» = 0; columns = 0 }) left
   unfolding Called
   refused refusal place number is n = rw n (rw is at e)
 

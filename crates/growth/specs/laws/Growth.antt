@@ -8,8 +8,9 @@ use native.Mathlib.Omega.{arith}
 use borrow.Author.Tests.{eqb-false}
 use lib.Dec.{eqb, leb}
 use lib.ListN.{length}
-use Rattle.logic.specs.Test.{if_then_else_, cases}
-use Rattle.logic.specs.Flag.{if-either}
+use Rattle.logic.specs.Test.{if_then_else_}
+use Rattle.logic.specs.laws.Test.{cases}
+use Rattle.logic.specs.laws.Flag.{if-either}
 use Rattle.text.specs.declared.Name.{Name}
 use Rattle.words.specs.Word.{word, withWord, IsRow, IsTable}
 use Rattle.words.specs.laws.Word.{word-same, word-other, length-with}
@@ -56,7 +57,8 @@ length-either test x y n e d = if-either (λ z. length z ≡ n) test e d
 
 length-linked : (place child : ℕ) (t : List ℕ) → length (linked place child t) ≡ length t
 unfolding linked
-length-linked place child t = length-either (eqb (word t place firstWord) 0) (withWord t place firstWord child) (withWord t (word t place lastWord) nextWord child) (length t) (simp length-with) (simp length-with)
+length-linked place child t = length-either (eqb (word t place firstWord) 0) (withWord t place firstWord child)
+    (withWord t (word t place lastWord) nextWord child) (length t) (simp length-with) (simp length-with)
 
 -- a name that is packed and unpacked again
 module _ (text : List ℕ) (name : Name) (h : name .length < 65536) where
@@ -106,7 +108,8 @@ module _ (text t : List ℕ) (n place : ℕ) (ready : Ready text t n place) (roo
       let l : word t place lastWord < n = links .last place (omega arith) in
       if-either (λ x. Linked text x (n + 1)) (eqb (word t place firstWord) 0)
       (linked-stored text t n (n + 1) place firstWord n links (omega arith) (omega arith) (λ z. omega arith) (λ z. absurd (omega arith)) (λ z. absurd (omega arith)) (λ z. absurd (omega arith)))
-      (linked-stored text t n (n + 1) (word t place lastWord) nextWord n links (omega arith) (omega arith) (λ z. absurd (omega arith)) (λ z. absurd (omega arith)) (λ z. (omega arith, l)) (λ z. absurd (omega arith)))
+      (linked-stored text t n (n + 1) (word t place lastWord) nextWord n links (omega arith) (omega arith) (λ z. absurd (omega arith))
+      (λ z. absurd (omega arith)) (λ z. (omega arith, l)) (λ z. absurd (omega arith)))
 
   -- a store to a word behind the links
   linked-new : (x : List ℕ) (p w v : ℕ) → nextWord < w → (w ≡ nameWord → Inside text (unpackedName v)) → Linked text x (n + 1) → Linked text (withWord x p w v) (n + 1)
@@ -122,7 +125,8 @@ module _ (text t : List ℕ) (n place : ℕ) (ready : Ready text t n place) (roo
         linked-new _ n nameWord _ (omega arith) (λ z. packed-inside text name h (good .inside))
         (linked-new _ n stepWord code (omega arith) (λ z. absurd (omega arith))
         (linked-new _ n parentWord place (omega arith) (λ z. absurd (omega arith))
-        (linked-stored text _ (n + 1) (n + 1) place lastWord n linked-linked (le-refl (n + 1)) (omega arith) (λ z. absurd (omega arith)) (λ z. omega arith) (λ z. absurd (omega arith)) (λ z. absurd (omega arith)))))
+        (linked-stored text _ (n + 1) (n + 1) place lastWord n linked-linked (le-refl (n + 1)) (omega arith) (λ z. absurd (omega arith))
+        (λ z. omega arith) (λ z. absurd (omega arith)) (λ z. absurd (omega arith)))))
 
     appended-name : word after n nameWord ≡ packedName name
     unfolding described appended
@@ -163,7 +167,8 @@ module _ (text t : List ℕ) (n place : ℕ) (ready : Ready text t n place) (roo
         (λ q l. same q nameWord (omega arith) ∙ kept q nameWord l (omega arith))
         (λ q l. word-other after n tagWord tag q tagWord (λ e d. omega arith) ∙ kept q tagWord l (omega arith))
         (λ q l b. let o : q ≡ n = omega arith in rw (o, same n nameWord (omega arith)) appended-utf8)
-        (λ q l b d. let o : q ≡ n = omega arith in rw (o, same n nameWord (omega arith), appended-name, packed-bytes text name h) (word-same after n tagWord tag (linked-appended .room) room (omega arith))))
+        (λ q l b d. let o : q ≡ n = omega arith in rw (o, same n nameWord (omega arith), appended-name, packed-bytes text name h)
+        (word-same after n tagWord tag (linked-appended .room) room (omega arith))))
 
 -- ---- a child that is ensured, and children that are made
 
@@ -205,7 +210,8 @@ unfolding madeAll madeOne
 made-more text place [] n t = le-refl n
 made-more text place (s ∷ ss) n t = go (λ k u. made-more text place ss k u) (ensured text place s n t) (ensured-more text t n place s)
   where
-    go : ((k : ℕ) (u : List ℕ) → OnPlaces (λ m. k ≤ m) (madeAll text place ss k u)) → (x : Ensuring) → OnChild (λ child m. n ≤ m) x → OnPlaces (λ m. n ≤ m) (thenMade (ofEnsuring x) (madeAll text place ss))
+    go : ((k : ℕ) (u : List ℕ) → OnPlaces (λ m. k ≤ m) (madeAll text place ss k u)) → (x : Ensuring) → OnChild (λ child m. n ≤ m) x →
+        OnPlaces (λ m. n ≤ m) (thenMade (ofEnsuring x) (madeAll text place ss))
     go ih (ensuring (E.Child child k) u) h = up (madeAll text place ss k u) (ih k u)
       where
         up : (y : Making) → OnPlaces (λ m. k ≤ m) y → OnPlaces (λ m. n ≤ m) y

@@ -14,8 +14,9 @@ use Rattle.leaves.specs.declared.Traced.the-variants as T
 use Rattle.leaves.specs.Leaves.{Out, out, onMet, stored, observed, isKnown}
 use borrow.Author.Tests.{eqb-true, eq-eqb, ne-eqb, lt-leb, ltb-true, not-true}
 use lib.Dec.{eqb, ltb}
-use Rattle.logic.specs.Test.{if_then_else_, both}
-use Rattle.coerce.specs.Laws.{joint-same}
+use Rattle.logic.specs.Test.{if_then_else_}
+use Rattle.logic.specs.laws.Test.{both}
+use Rattle.coerce.specs.laws.Joined.{joint-same}
 use Rattle.model.specs.Kinds.{sequenceKind}
 
 -- ---- kinds that met
@@ -26,7 +27,8 @@ module _ (options levels before kind place : ℕ) (t : List ℕ) (met : Met) (b 
   on-refused : (here : ℕ) (refusal : Refusal) (k : ℕ → Out) → met ≡ M.Refused refusal → out (T.Refused refusal here) t ≡ onMet here t k (meeting options levels (word t place kindWord) kind)
   on-refused here refusal k e = rw (← b, ← m, e) refl
 
-  pub observe-kind : (isNull : Bool) (here behind n joint : ℕ) (u : List ℕ) → met ≡ M.Kind joint → u ≡ stored isNull joint place t → out (T.Next behind n) u ≡ observed options isNull kind levels here behind place n t
+  pub observe-kind : (isNull : Bool) (here behind n joint : ℕ) (u : List ℕ) → met ≡ M.Kind joint → u ≡ stored isNull joint place t →
+      out (T.Next behind n) u ≡ observed options isNull kind levels here behind place n t
   unfolding observed
   observe-kind isNull here behind n joint u e s = rw s (on-kind here joint (λ j. out (T.Next behind n) (stored isNull j place t)) e)
 
@@ -54,12 +56,14 @@ meets-itself : (options levels kind : ℕ) → kind < sequenceKind → M.Kind ki
 unfolding meeting if_then_else_
 meets-itself options levels kind h = rw (lt-leb sequenceKind kind h, joint-same options kind) refl
 
-pub observed-again : (options kind levels here behind place n : ℕ) (t : List ℕ) → word t place kindWord ≡ kind → kind < sequenceKind → out (T.Next behind n) t ≡ observed options false kind levels here behind place n t
+pub observed-again : (options kind levels here behind place n : ℕ) (t : List ℕ) → word t place kindWord ≡ kind → kind < sequenceKind →
+    out (T.Next behind n) t ≡ observed options false kind levels here behind place n t
 unfolding stored if_then_else_
 observed-again options kind levels here behind place n t e h =
     observe-kind options levels kind kind place t (M.Kind kind) (sym e) (meets-itself options levels kind h) false here behind n kind t refl (sym (rw e at (with-word t place kindWord)))
 
-pub observe-known : (options : ℕ) (isNull : Bool) (before kind levels here behind place n : ℕ) (t : List ℕ) (known : Bool) → before ≡ word t place kindWord → known ≡ isKnown isNull before kind → known ≡ true →
+pub observe-known : (options : ℕ) (isNull : Bool) (before kind levels here behind place n : ℕ) (t : List ℕ) (known : Bool) →
+    before ≡ word t place kindWord → known ≡ isKnown isNull before kind → known ≡ true →
     out (T.Next behind n) t ≡ observed options isNull kind levels here behind place n t
 unfolding isKnown
 observe-known options isNull before kind levels here behind place n t known b k e =

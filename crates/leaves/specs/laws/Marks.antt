@@ -10,11 +10,12 @@ use borrow.Author.Tests.{ltb-true, lt-ltb, le-ltb}
 use lib.Dec.{ltb, eqb}
 use lib.ListN.{length, getD}
 use Rattle.logic.specs.Test.{if_then_else_}
-use Rattle.logic.specs.Turns.{Turn, Says, Falls, holds, again, done, goes-on, ends}
+use Rattle.logic.specs.Turns.{Turn, again, done}
+use Rattle.logic.specs.laws.Turns.{Says, Falls, holds, goes-on, ends}
 use Rattle.commands.specs.declared.Read.the-variants as R
 use Rattle.shapes.specs.declared.Part.the-variants as P
 use Rattle.leaves.specs.Marks.{Chain, chain, isMark, pastTurn, pastMarks, marked, someByte}
-use Rattle.logic.specs.Flag.{if-either}
+use Rattle.logic.specs.laws.Flag.{if-either}
 use Rattle.words.specs.Word.{word}
 use Rattle.kinds.specs.declared.Met.{Met}
 use Rattle.kinds.specs.declared.Met.the-variants as M
@@ -99,7 +100,8 @@ module _ (text t : List ℕ) (n place : ℕ) (ready : Ready text t n place) wher
           h
 
   -- a primitive
-  pub observed-sound : (options : ℕ) (isNull : Bool) (kind levels here behind : ℕ) (r : Traced) (u : List ℕ) → out r u ≡ observed options isNull kind levels here behind place n t → SoundTraced text u n r
+  pub observed-sound : (options : ℕ) (isNull : Bool) (kind levels here behind : ℕ) (r : Traced) (u : List ℕ) →
+      out r u ≡ observed options isNull kind levels here behind place n t → SoundTraced text u n r
   unfolding observed stored
   observed-sound options isNull kind levels here behind r u e = rw (← e) at (go (meeting options levels (word t place kindWord) kind))
     where
@@ -107,6 +109,10 @@ module _ (text t : List ℕ) (n place : ℕ) (ready : Ready text t n place) wher
       Ok (out r x) = SoundTraced text x n r
 
       go : (met : Met) → Ok (onMet here t (λ joint. out (T.Next behind n) (stored isNull joint place t)) met)
-      go (M.Kind joint) =
-          (if-either (λ x. Sound text x n) isNull (sound-plain text _ n place nullWord 1 refl (sound-plain text t n place kindWord joint refl (ready .sound))) (sound-plain text t n place kindWord joint refl (ready .sound)), le-refl n)
+      go (M.Kind joint) = (
+        if-either (λ x. Sound text x n) isNull
+            (sound-plain text _ n place nullWord 1 refl (sound-plain text t n place kindWord joint refl (ready .sound)))
+            (sound-plain text t n place kindWord joint refl (ready .sound)),
+        le-refl n,
+      )
       go (M.Refused refusal) = tt

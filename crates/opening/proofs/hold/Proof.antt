@@ -21,7 +21,12 @@ same-length : tie.Need-same-length
 same-length c = search needs
 
 returns : tie.Need-returns
-returns c = (search (held-child, needs), child-held _ _ _ (c .before .before .before .before .before .before .before .before .before .ensure .ensures .1) _ _ (c .before .before .before .before .before .child .given .1) _ _ (c .before .before .touch .ensures))
+returns c = (
+  search (held-child, needs),
+  child-held _ _ _
+      (c .before .before .before .before .before .before .before .before .before .ensure .ensures .1) _ _
+      (c .before .before .before .before .before .child .given .1) _ _ (c .before .before .touch .ensures),
+)
 
 same-length-2 : tie.Need-same-length-2
 same-length-2 c = search needs

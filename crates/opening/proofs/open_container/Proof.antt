@@ -18,7 +18,9 @@ sample-requires : tie.Need-sample-requires
 sample-requires c κs = search needs
 
 make-requires : tie.Need-make-requires
-make-requires c κs = sampled-ready _ _ _ _ (c .before .before .before .before .before .before .before .before .before .before .before .before .before .pre) _ _ (c .before .before .before .sample .ensures)
+make-requires c κs = sampled-ready _ _ _ _
+    (c .before .before .before .before .before .before .before .before .before .before .before .before .before .pre) _ _
+    (c .before .before .before .sample .ensures)
 
 enum-known-refusal : tie.Need-enum-known-refusal
 enum-known-refusal c = search needs

@@ -1,6 +1,6 @@
 -- `open_field`: a name, the end, or a refusal.
 use borrow.Author.Needs.{needs}
-use Rattle.shapes.specs.Field.{field-inside}
+use Rattle.shapes.specs.laws.Field.{field-inside}
 use Rattle.opening.specs.laws.Opening.{opened-named, opened-ended, opened-refused}
 use Rattle.opening.proofs.open_field.Statement.{statement}
 use Rattle.opening.proofs.open_field.Tie as tie

@@ -19,7 +19,13 @@ sample-requires : tie.Need-sample-requires
 sample-requires c κs = search needs
 
 hold-requires : tie.Need-hold-requires
-hold-requires c κs = (sampled-ready _ _ _ _ (c .before .before .before .before .before .before .before .before .before .before .before .before .before .pre .0) _ _ (c .before .before .before .sample .ensures), search needs, λ e. omega arith)
+hold-requires c κs = (
+  sampled-ready _ _ _ _
+      (c .before .before .before .before .before .before .before .before .before .before .before .before .before .pre .0) _ _
+      (c .before .before .before .sample .ensures),
+  search needs,
+  λ e. omega arith,
+)
 
 enum-known-refusal : tie.Need-enum-known-refusal
 enum-known-refusal c = search needs

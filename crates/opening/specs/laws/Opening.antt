@@ -5,7 +5,8 @@ use mathlib.Core.List.{List}
 use Prim.Native.Nat.{ℕ, _<_, _≤_}
 use borrow.Author.Tests.{ne-eqb}
 use lib.Dec.{eqb}
-use Rattle.logic.specs.Test.{if_then_else_, cases}
+use Rattle.logic.specs.Test.{if_then_else_}
+use Rattle.logic.specs.laws.Test.{cases}
 use Rattle.refusal.specs.declared.Refusal.{Refusal}
 use Rattle.refusal.specs.declared.Refusal.the-variants as F
 use Rattle.text.specs.declared.Name.{Name}
@@ -41,7 +42,8 @@ use Rattle.growth.specs.laws.Growth.{child-ready, ensured-grows, sound-touched}
 -- a container is opened
 module _ (options levels before kind place : ℕ) (t : List ℕ) (met : Met) (b : before ≡ word t place kindWord) (m : met ≡ meeting options levels before kind) where
   module _ (text : List ℕ) (positions n : ℕ) where
-    pub opens-met : (joint : ℕ) (u v : List ℕ) (did : Made) → met ≡ M.Kind joint → u ≡ sampled place joint t → making did v ≡ made text place kind positions before n u → making did v ≡ containerMade text options levels kind positions place n t
+    pub opens-met : (joint : ℕ) (u v : List ℕ) (did : Made) → met ≡ M.Kind joint → u ≡ sampled place joint t →
+        making did v ≡ made text place kind positions before n u → making did v ≡ containerMade text options levels kind positions place n t
     unfolding containerMade
     opens-met joint u v did e s d = rw (← b, ← m, e, ← s) d
 
@@ -50,8 +52,10 @@ module _ (options levels before kind place : ℕ) (t : List ℕ) (met : Met) (b 
     opens-unmet refusal e = rw (← b, ← m, e) refl
 
 -- a variant is opened
-module _ (text : List ℕ) (options levels before number : ℕ) (name : Name) (place n : ℕ) (t : List ℕ) (met : Met) (b : before ≡ word t place kindWord) (m : met ≡ meeting options levels before unionKind) where
-  pub holds-met : (joint : ℕ) (u v : List ℕ) (did : Ensured) → met ≡ M.Kind joint → u ≡ sampled place joint t → ensuring did v ≡ held text place (S.Variant number name) n u → ensuring did v ≡ variantHeld text options levels number name place n t
+module _ (text : List ℕ) (options levels before number : ℕ) (name : Name) (place n : ℕ) (t : List ℕ) (met : Met) (b : before ≡ word t place kindWord)
+    (m : met ≡ meeting options levels before unionKind) where
+  pub holds-met : (joint : ℕ) (u v : List ℕ) (did : Ensured) → met ≡ M.Kind joint → u ≡ sampled place joint t →
+      ensuring did v ≡ held text place (S.Variant number name) n u → ensuring did v ≡ variantHeld text options levels number name place n t
   unfolding variantHeld
   holds-met joint u v did e s d = rw (← b, ← m, e, ← s) d
 
@@ -89,7 +93,8 @@ module _ (text t : List ℕ) (n place : ℕ) (name : Name) where
   unfolding ensured childAt
   field-new e = rw e refl
 
-  module _ (absent : findIn text place fieldCode name t ≡ 0) (good : Bool) (g : good ≡ isUtf8 (bytesOf text name)) (is : good ≡ true) (u : List ℕ) (did : Ensured) (d : ensuring did u ≡ ensuredBy text place fieldCode name n t 0) where
+  module _ (absent : findIn text place fieldCode name t ≡ 0) (good : Bool) (g : good ≡ isUtf8 (bytesOf text name)) (is : good ≡ true) (u : List ℕ)
+      (did : Ensured) (d : ensuring did u ≡ ensuredBy text place fieldCode name n t 0) where
     pub new-child : (child m : ℕ) (v : List ℕ) → did ≡ E.Child child m → v ≡ touched place child u → opening (O.Child child m) v ≡ fieldHeld text place name n t
     new-child child m v e h = field-child (sym g ∙ is) u did (d ∙ field-new absent) child m v e h
 
@@ -144,7 +149,8 @@ module _ (text u : List ℕ) (did : Ensured) (s : SoundEnsured text u did) (chil
   held-ready = child-ready text u did child m s e
 
   -- a field that is new
-  pub new-opened : (place n : ℕ) (name : Name) (t v : List ℕ) → findIn text place fieldCode name t ≡ 0 → ensuring did u ≡ ensuredBy text place fieldCode name n t 0 → v ≡ touched place child u → SoundOpened text v n (O.Child child m)
+  pub new-opened : (place n : ℕ) (name : Name) (t v : List ℕ) → findIn text place fieldCode name t ≡ 0 →
+      ensuring did u ≡ ensuredBy text place fieldCode name n t 0 → v ≡ touched place child u → SoundOpened text v n (O.Child child m)
   new-opened place n name t v absent d h =
       let g : Sound text v m × (child < m) = child-held place v h in
       (record { sound = g .0; here = g .1 }, ensured-grows text t n place (S.Field name) did u child m (d ∙ field-new text t n place name absent) e)

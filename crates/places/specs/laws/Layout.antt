@@ -7,7 +7,7 @@ use native.Mathlib.Nat.{le-refl}
 use native.Mathlib.Omega.{arith}
 use borrow.Author.Tests.{ltb-true, ltb-false}
 use lib.Dec.{eqb, ltb}
-use Rattle.logic.specs.Test.{cases}
+use Rattle.logic.specs.laws.Test.{cases}
 use Rattle.words.specs.Word.{IsTable, IsRow, word, withWord, zeros}
 use Rattle.words.specs.laws.Word.{word-keeps, word-other, length-with, zeros-table, word-zero}
 use Rattle.model.specs.Tracing.{placeLimit}
@@ -15,7 +15,7 @@ use Rattle.text.specs.declared.Name.{Name}
 use Rattle.text.specs.Name.{bytesOf}
 use Rattle.text.specs.Utf8.{isUtf8}
 use Rattle.shapes.specs.Steps.{unpackedName, Inside}
-use Rattle.shapes.specs.Laws.{no-name-good}
+use Rattle.shapes.specs.laws.Shapes.{no-name-good}
 use Rattle.places.specs.Layout.{firstWord, lastWord, nextWord, stepWord, nameWord, tagWord, Linked, Tagged, Sound, Ready}
 
 -- ---- the table stays linked

@@ -5,8 +5,9 @@ use Prim.Native.Nat.{ℕ, _+_, _*_, _%_, _<_}
 use native.Mathlib.Omega.{arith}
 use borrow.Author.Tests.{eq-eqb, ne-eqb, ltb-true}
 use lib.Dec.{eqb, ltb}
-use Rattle.logic.specs.Test.{if_then_else_, cases}
-use Rattle.logic.specs.Flag.{if-either}
+use Rattle.logic.specs.Test.{if_then_else_}
+use Rattle.logic.specs.laws.Test.{cases}
+use Rattle.logic.specs.laws.Flag.{if-either}
 use Rattle.words.specs.Word.{IsRow, word}
 use Rattle.text.specs.declared.Name.{Name}
 use Rattle.model.specs.Kinds.{variantOf}
@@ -48,7 +49,15 @@ step-back given (S.Position i) l h =
     rw (ne-eqb (4 + 2 * i) 0 (omega arith), ne-eqb (4 + 2 * i) 1 (omega arith), ne-eqb (4 + 2 * i) 2 (omega arith), ne-eqb (4 + 2 * i) 3 (omega arith), eq-eqb ((4 + 2 * i) % 2) 0 (omega arith), n)
 step-back given (S.Variant number name) l h =
     let n : numberIn (5 + 2 * number) ≡ number = omega arith in
-    rw (ne-eqb (5 + 2 * number) 0 (omega arith), ne-eqb (5 + 2 * number) 1 (omega arith), ne-eqb (5 + 2 * number) 2 (omega arith), ne-eqb (5 + 2 * number) 3 (omega arith), ne-eqb ((5 + 2 * number) % 2) 0 (omega arith), n)
+    rw (
+      ne-eqb (5 + 2 * number) 0 (omega arith),
+      ne-eqb (5 + 2 * number) 1 (omega arith),
+      ne-eqb (5 + 2 * number) 2 (omega arith),
+      ne-eqb
+          (5 + 2 * number) 3 (omega arith),
+      ne-eqb ((5 + 2 * number) % 2) 0 (omega arith),
+      n,
+    )
     (ap (S.Variant number) (sym h))
 
 -- its variant number is the model's

@@ -3,16 +3,16 @@ use borrow.Author.Needs.{needs}
 use mathlib.Core.Path.{_≡_, refl}
 use lib.ListN.{length}
 use native.Mathlib.Nat.{le-refl, le-trans}
-use Rattle.logic.specs.Flag.{flagged}
+use Rattle.logic.specs.laws.Flag.{flagged}
 use Rattle.model.specs.Kinds.{sequenceKind, mapKind, tupleKind}
-use Rattle.shapes.specs.Laws.{text-inside, variant-good, parts-parted}
+use Rattle.shapes.specs.laws.Shapes.{text-inside, variant-good, parts-parted}
 use Rattle.places.specs.Layout.{Ready}
-use Rattle.reading.specs.Flat.{partsFrom, partsBy, readers}
-use Rattle.reading.specs.Ways.{contents-unit, contents-value, contents-positions, contents-fields, value-leaf, value-parted, named-parted, unnamed, part-child, part-refused, struct-fits, parted-struct, parted-refused, parted-leaf, parted-parts, parted-variant, parted-none, container-parts, container-refused, variant-child, variant-refused}
-use Rattle.reading.specs.Same.{elements-same}
+use Rattle.reading.specs.Reading.{partsFrom, partsBy, readers}
+use Rattle.reading.specs.laws.Readers.{contents-unit, contents-value, contents-positions, contents-fields, value-leaf, value-parted, named-parted, unnamed, part-child, part-refused, struct-fits, parted-struct, parted-refused, parted-leaf, parted-parts, parted-variant, parted-none, container-parts, container-refused, variant-child, variant-refused}
+use Rattle.reading.specs.laws.Runs.{elements-same}
 use Rattle.runs.specs.laws.Runs.{same-above}
-use Rattle.reading.specs.Loops.{parts-end, parts-refused, parts-stopped, parts-more, parts-less, parts-counted, count-fits, element-part, elements-more, part-unnamed, element-unnamed, position-unnamed, entry-unnamed, position-part, positions-end, whole-fits, name-fits, name-whole, name-inside, end-fits, fields-ended, fields-refused, fields-stopped, fields-more, fields-less, by-fields, by-elements, by-entries, by-positions}
-use Rattle.reading.specs.Table.{held-from, opened-left, opened-ready, opened-from, chosen-left, chosen-from, field-ready, field-grows, field-still, field-ends, traced-from, traced-grows, traced-ready, traced-first, falls-parts, falls-contents, falls-named, struct-parted, tuple-parted}
+use Rattle.reading.specs.laws.Loops.{parts-end, parts-refused, parts-stopped, parts-more, parts-less, parts-counted, count-fits, element-part, elements-more, part-unnamed, element-unnamed, position-unnamed, entry-unnamed, position-part, positions-end, whole-fits, name-fits, name-whole, name-inside, end-fits, fields-ended, fields-refused, fields-stopped, fields-more, fields-less, by-fields, by-elements, by-entries, by-positions}
+use Rattle.reading.specs.laws.Sound.{held-from, opened-left, opened-ready, opened-from, chosen-left, chosen-from, field-ready, field-grows, field-still, field-ends, traced-from, traced-grows, traced-ready, traced-first, falls-parts, falls-contents, falls-named, struct-parted, tuple-parted}
 use Rattle.places.specs.laws.Layout.{is-place, has-room}
 use Rattle.opening.specs.laws.Opening.{held-ready}
 use Rattle.leaves.specs.laws.Marks.{past-ready, observed-sound}
@@ -217,16 +217,56 @@ abbrev fields-claims : ℕ → read-fields-lts.Claims
 fields-claims t = (open-field-reads.Asked, open-field-reads.Learnt, read-name-reads.Asked, read-name-reads.Learnt, named-below t, read-named.Post)
 
 abbrev named-claims : ℕ → read-named-lts.Claims
-named-claims t = (past-marks-reads.Asked, past-marks-reads.Learnt, leaf-at-reads.Asked, leaf-at-reads.Learnt, observe-reads.Asked, observe-reads.Learnt, lower-reads.Asked, lower-reads.Learnt, parted-below t, read-parted.Post)
+named-claims t = (
+  past-marks-reads.Asked,
+  past-marks-reads.Learnt,
+  leaf-at-reads.Asked,
+  leaf-at-reads.Learnt,
+  observe-reads.Asked,
+  observe-reads.Learnt,
+  lower-reads.Asked,
+  lower-reads.Learnt,
+  parted-below t,
+  read-parted.Post,
+)
 
 abbrev part-claims : ℕ → read-part-lts.Claims
 part-claims t = (hold-reads.Asked, hold-reads.Learnt, value-below t, read-value.Post)
 
 abbrev parted-claims : ℕ → read-parted-lts.Claims
-parted-claims t = (is-struct-at-reads.Asked, is-struct-at-reads.Learnt, container-below t, read-container.Post, read-command-reads.Asked, read-command-reads.Learnt, refusal-reads.Asked, refusal-reads.Learnt, place-reads.Asked, place-reads.Learnt, shape-of-reads.Asked, shape-of-reads.Learnt, observe-reads.Asked, observe-reads.Learnt, variant-below t, read-variant.Post)
+parted-claims t = (
+  is-struct-at-reads.Asked,
+  is-struct-at-reads.Learnt,
+  container-below t,
+  read-container.Post,
+  read-command-reads.Asked,
+  read-command-reads.Learnt,
+  refusal-reads.Asked,
+  refusal-reads.Learnt,
+  place-reads.Asked,
+  place-reads.Learnt,
+  shape-of-reads.Asked,
+  shape-of-reads.Learnt,
+  observe-reads.Asked,
+  observe-reads.Learnt,
+  variant-below t,
+  read-variant.Post,
+)
 
 abbrev parts-claims : ℕ → read-parts-lts.Claims
-parts-claims t = (is-struct-reads.Asked, is-struct-reads.Learnt, fields-below t, read-fields.Post, elements-below t, read-elements.Post, entries-below t, read-entries.Post, positions-below t, read-positions.Post)
+parts-claims t = (
+  is-struct-reads.Asked,
+  is-struct-reads.Learnt,
+  fields-below t,
+  read-fields.Post,
+  elements-below t,
+  read-elements.Post,
+  entries-below
+      t,
+  read-entries.Post,
+  positions-below t,
+  read-positions.Post,
+)
 
 abbrev positions-claims : ℕ → read-positions-lts.Claims
 positions-claims t = (value-part-reads.Asked, value-part-reads.Learnt, part-below t, read-part.Post)
@@ -533,14 +573,16 @@ pub +read-container+read-contents+read-elements+read-entries+read-fields+read-na
     (λ c. search needs)
     (λ c.
     let inv = c .before .before .before .before .before .before .before .before .before .before .before .before .loop .inv .0 in
-    let part = position-part _ _ _ _ _ _ (c .before .before .before .before .before .before .before .before .before .before .before .loop-test .taken) (c .before .before .before .before .before .before .before .before .before .before .value-part .ensures) in
+    let part = position-part _ _ _ _ _ _ (c .before .before .before .before .before .before .before .before .before .before .before .loop-test .taken)
+    (c .before .before .before .before .before .before .before .before .before .before .value-part .ensures) in
     let step = c .before .before .before .before .before .before .before .before .step .given .1 in
     let read = c .before .before .before .before .before .read-part .ensures in
     let next = c .before .behind2 .given .1 in
     parts-less _ _ _ _ _ _ _ _ _ _ _ _ (inv .0) _ part _ _ step _ _ (read .0) _ _ next _ (le-refl _))
     (λ c.
     let inv = c .before .before .before .before .before .before .before .before .before .before .before .before .loop .inv .0 in
-    let part = position-part _ _ _ _ _ _ (c .before .before .before .before .before .before .before .before .before .before .before .loop-test .taken) (c .before .before .before .before .before .before .before .before .before .before .value-part .ensures) in
+    let part = position-part _ _ _ _ _ _ (c .before .before .before .before .before .before .before .before .before .before .before .loop-test .taken)
+    (c .before .before .before .before .before .before .before .before .before .before .value-part .ensures) in
     let step = c .before .before .before .before .before .before .before .before .step .given .1 in
     let read = c .before .before .before .before .before .read-part .ensures in
     let next = c .before .behind2 .given .1 in

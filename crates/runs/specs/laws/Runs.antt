@@ -10,8 +10,9 @@ use lib.ListN.{length, getD, drop, drop-of-length-le}
 use lib.Seq.{drop-cons}
 use native.Mathlib.Numerals.{add-one}
 use native.Mathlib.Nat.{add-zero, le-refl}
-use Rattle.logic.specs.Test.{if_then_else_, both}
-use Rattle.logic.specs.Flag.{if-either}
+use Rattle.logic.specs.Test.{if_then_else_}
+use Rattle.logic.specs.laws.Test.{both}
+use Rattle.logic.specs.laws.Flag.{if-either}
 use Rattle.datatype.specs.Codes.{null}
 use Rattle.words.specs.Word.{word}
 use Rattle.places.specs.Layout.{kindWord, samplesWord, firstWord, stepWord, nameWord, markWord}
@@ -73,7 +74,8 @@ module _ (commands : List ℕ) (byte here r : ℕ) (whole : behindRun commands b
 
     pub run-more : (b : ℕ) → b ≡ getD commands here 0 → b ≡ byte → behindRun commands byte (here + 1) ≡ r
     unfolding behindRun runOf if_then_else_
-    run-more b is e = let shift : here + 1 + runOf byte (drop (here + 1) commands) ≡ here + suc (runOf byte (drop (here + 1) commands)) = omega arith in shift ∙ (rw (front, ← is, eq-eqb b byte e) at whole)
+    run-more b is e = let shift : here + 1 + runOf byte (drop (here + 1) commands) ≡ here + suc (runOf byte (drop (here + 1) commands)) =
+        omega arith in shift ∙ (rw (front, ← is, eq-eqb b byte e) at whole)
 
 pub own-fits : (kind : ℕ) (own : Bool) → own ≡ isOwnByte kind → own ≡ true → kind < 256
 unfolding isOwnByte

@@ -6,7 +6,7 @@ use lib.ListN.{length}
 use Rattle.places.specs.Layout.{Ready}
 use Rattle.samples.specs.Samples.{recordsAt, fromSamples}
 use Rattle.samples.specs.laws.Samples.{records-end, records-stopped, records-more, records-less, root-ready, root-sound}
-use Rattle.reading.specs.Table.{traced-ready}
+use Rattle.reading.specs.laws.Sound.{traced-ready}
 use Rattle.samples.proofs.from_samples.Statement.{statement}
 use Rattle.samples.proofs.from_samples.Tie as tie
 

@@ -6,13 +6,13 @@ use native.Mathlib.Omega.{arith}
 use borrow.Author.Tests.{ltb-true, lt-ltb, le-ltb}
 use lib.Dec.{ltb}
 use lib.ListN.{length}
-use Rattle.logic.specs.Turns.{Falls, goes-on, ends}
+use Rattle.logic.specs.laws.Turns.{Falls, goes-on, ends}
 use Rattle.shapes.specs.declared.Contents.the-variants as N
-use Rattle.reading.specs.Flat.{State, state, valueAt}
+use Rattle.reading.specs.Reading.{State, state, valueAt}
 use Rattle.samples.specs.Samples.{levelLimit, recordTurn, recordStop, recordsAt}
 use Rattle.leaves.specs.laws.Marks.{turn-has}
-use Rattle.reading.specs.Onward.{after-falls, leftState, readers-on}
-use Rattle.reading.specs.Loops.{moved-at}
+use Rattle.reading.specs.laws.Progress.{after-falls, leftState, readers-on}
+use Rattle.reading.specs.laws.Loops.{moved-at}
 use mathlib.Core.Path.{_≡_, refl, sym, _∙_}
 use Rattle.logic.specs.Test.{if_then_else_}
 use Rattle.refusal.specs.declared.Refusal.{Refusal}
@@ -43,7 +43,8 @@ module _ (commands text : List ℕ) (options at n : ℕ) (t : List ℕ) (r : Out
     pub records-stopped : (refusal : Refusal) (offset : ℕ) → traced ≡ T.Refused refusal offset → out (T.Refused refusal offset) u ≡ r
     unfolding recordsAt recordTurn if_then_else_
     records-stopped refusal offset e =
-        sym (ends (recordTurn commands text options) recordStop (leftState commands) (records-fall commands text options) (length commands + 1) (state 0 at n t) (out (T.Refused refusal offset) u) (omega arith)
+        sym (ends (recordTurn commands text options) recordStop (leftState commands) (records-fall commands text options) (length commands + 1)
+        (state 0 at n t) (out (T.Refused refusal offset) u) (omega arith)
         (rw (lt-ltb at (length commands) inside, ← q, e) refl)) ∙ whole
 
     module _ (behind m : ℕ) (e : traced ≡ T.Next behind m) where

@@ -10,7 +10,7 @@ use Rattle.places.specs.laws.Layout.{sound-zeros}
 use Rattle.leaves.specs.declared.Traced.{Traced}
 use Rattle.leaves.specs.declared.Traced.the-variants as T
 use Rattle.leaves.specs.Leaves.{SoundTraced}
-use Rattle.reading.specs.Table.{traced-sound}
+use Rattle.reading.specs.laws.Sound.{traced-sound}
 use Rattle.samples_vectors.proofs.trace.Statement.{statement}
 use Rattle.samples_vectors.proofs.trace.Tie as tie
 

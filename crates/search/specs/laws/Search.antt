@@ -7,13 +7,14 @@ use native.Mathlib.Nat.{le-refl}
 use native.Mathlib.Omega.{arith}
 use borrow.Author.Tests.{ne-eqb, eqb-true, eqb-false, ltb-true}
 use lib.Dec.{eqb, ltb}
-use Rattle.logic.specs.Test.{if_then_else_, cases, both}
+use Rattle.logic.specs.Test.{if_then_else_}
+use Rattle.logic.specs.laws.Test.{cases, both}
 use Rattle.logic.specs.Turns.{Turn, done, turns}
-use Rattle.logic.specs.Within.{Keeps, goes-on-within, ends-within, holds-within}
+use Rattle.logic.specs.laws.Invariant.{Keeps, goes-on-within, ends-within, holds-within}
 use Rattle.text.specs.declared.Name.{Name}
 use Rattle.words.specs.Word.{word}
 use Rattle.text.specs.Name.{bytesOf, tagOf}
-use Rattle.text.specs.NameLaws.{eqName-true}
+use Rattle.text.specs.laws.Name.{eqName-true}
 use Rattle.text.specs.Utf8.{isUtf8}
 use Rattle.model.specs.Tracing.{placeLimit}
 use Rattle.shapes.specs.declared.Step.{Step}
@@ -93,7 +94,8 @@ module _ (text t : List ℕ) (n code : ℕ) (name : Name) (s : Sound text t n) w
 
 -- ---- the search for a field
 -- a child that stands at a field has the name's bytes
-pub field-stands : (text t : List ℕ) (child : ℕ) (name : Name) → isAt text fieldCode name child t ≡ true → (word t child stepWord ≡ fieldCode) × (bytesOf text (unpackedName (word t child nameWord)) ≡ bytesOf text name)
+pub field-stands : (text t : List ℕ) (child : ℕ) (name : Name) → isAt text fieldCode name child t ≡ true →
+    (word t child stepWord ≡ fieldCode) × (bytesOf text (unpackedName (word t child nameWord)) ≡ bytesOf text name)
 unfolding isAt if_then_else_
 field-stands text t child name at =
     cases (eqb (word t child stepWord) fieldCode)
@@ -108,7 +110,8 @@ module _ (text t : List ℕ) (n place : ℕ) (name : Name) (s : Sound text t n) 
       rw (field-stands text t _ name (find-stands text t n fieldCode name s _ b found) .1) at (s .utf8 _ (find-below text t n fieldCode name s _ b))
 
 -- a child with another tag does not stand there
-pub other-tag : (text t : List ℕ) (child tag mark : ℕ) (name : Name) → Tagged text t child → tag ≡ tagOf (bytesOf text name) → mark ≡ word t child tagWord → (mark ≡ tag → ⊥) → false ≡ isAt text fieldCode name child t
+pub other-tag : (text t : List ℕ) (child tag mark : ℕ) (name : Name) → Tagged text t child → tag ≡ tagOf (bytesOf text name) →
+    mark ≡ word t child tagWord → (mark ≡ tag → ⊥) → false ≡ isAt text fieldCode name child t
 other-tag text t child tag mark name tags e d differ =
     cases (isAt text fieldCode name child t)
     (λ at. let h = field-stands text t child name at in absurd (differ (d ∙ tags (h .0) ∙ ap tagOf (h .1) ∙ sym e))) sym

@@ -6,9 +6,10 @@ use Prim.Native.Nat.{ℕ, zero, suc, _-_, _/_, _%_, _<_, _≤_}
 use native.Mathlib.Omega.{arith}
 use borrow.Author.Tests.{eqb-true, eqb-false, eq-eqb, ne-eqb, ltb-true}
 use lib.Dec.{eqb, ltb}
-use Rattle.logic.specs.Test.{if_then_else_, cases, both}
+use Rattle.logic.specs.Test.{if_then_else_}
+use Rattle.logic.specs.laws.Test.{cases, both}
 use Rattle.logic.specs.Turns.{Turn, done, after, turns}
-use Rattle.logic.specs.Within.{Keeps, goes-on-within, ends-within, holds-within}
+use Rattle.logic.specs.laws.Invariant.{Keeps, goes-on-within, ends-within, holds-within}
 use Rattle.words.specs.Word.{word}
 use Rattle.model.specs.Tracing.{placeLimit}
 use Rattle.search.specs.declared.Slot.{Slot}
@@ -79,7 +80,8 @@ seek-below code n t place h m =
     (λ z. follow-below (s .place) (s .field) n t (eqb-false _ 0 z) .1))
 
 -- one turn of it, in a loop that holds the child that its link leads to
-module _ (code n : ℕ) (t : List ℕ) (bits place field child : ℕ) (r : Slot) (most : n ≤ placeLimit) (here : place < n) (leads : child ≡ follow place field n t) (whole : seekFrom code n t (seeking bits place field) ≡ r) where
+module _ (code n : ℕ) (t : List ℕ) (bits place field child : ℕ) (r : Slot) (most : n ≤ placeLimit) (here : place < n)
+    (leads : child ≡ follow place field n t) (whole : seekFrom code n t (seeking bits place field) ≡ r) where
   abbrev turn : Seeking → Turn Seeking Slot
   turn = seekTurn code n t
 
@@ -88,7 +90,8 @@ module _ (code n : ℕ) (t : List ℕ) (bits place field child : ℕ) (r : Slot)
 
   ends-there : (s : Slot) → turn (seeking bits place field) ≡ done s → s ≡ r
   unfolding seekFrom
-  ends-there s e = sym (ends-within turn seekStop (Before code n t Any tt tt tt) (Ends code n t Any tt tt tt) (ahead code n t Any tt tt tt) (turn-ends code n t Any tt tt tt) 1025 (seeking bits place field) s (omega arith) e) ∙ whole
+  ends-there s e = sym (ends-within turn seekStop (Before code n t Any tt tt tt) (Ends code n t Any tt tt tt) (ahead code n t Any tt tt tt)
+      (turn-ends code n t Any tt tt tt) 1025 (seeking bits place field) s (omega arith) e) ∙ whole
 
   pub seek-none : child ≡ 0 → slot 0 place field ≡ r
   unfolding seekTurn seekAt if_then_else_
@@ -103,7 +106,8 @@ module _ (code n : ℕ) (t : List ℕ) (bits place field child : ℕ) (r : Slot)
     unfolding seekFrom seekTurn seekAt if_then_else_
     seek-next next d x =
         ap (λ (w : ℕ). seekFrom code n t (seeking (bits / 2) child w)) x
-        ∙ sym (goes-on-within turn seekStop (Before code n t Any tt tt tt) (Ends code n t Any tt tt tt) (ahead code n t Any tt tt tt) (turn-ends code n t Any tt tt tt) 1025 (seeking bits place field) (seeking (bits / 2) child (sideWord bits)) (here, tt) (omega arith)
+        ∙ sym (goes-on-within turn seekStop (Before code n t Any tt tt tt) (Ends code n t Any tt tt tt) (ahead code n t Any tt tt tt)
+        (turn-ends code n t Any tt tt tt) 1025 (seeking bits place field) (seeking (bits / 2) child (sideWord bits)) (here, tt) (omega arith)
         (rw (← leads, ne-eqb child 0 known, ← at, ne-eqb step code d))) ∙ whole
 
 -- ---- the search in another table, where the links that lead to a child lead to the same, with the same code: it ends at the same link

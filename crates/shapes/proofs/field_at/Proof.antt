@@ -7,7 +7,7 @@ use Prim.Native.Nat.{ℕ, _+_}
 use native.Mathlib.Omega.{arith}
 use lib.Dec.{eqb}
 use Rattle.logic.specs.Test.{if_then_else_}
-use Rattle.logic.specs.Flag.{if-either}
+use Rattle.logic.specs.laws.Flag.{if-either}
 use Rattle.text.specs.declared.Name.{Name}
 use Rattle.refusal.specs.declared.Refusal.{Refusal}
 use Rattle.commands.specs.declared.Command.{Command}
@@ -19,7 +19,7 @@ use Rattle.commands.specs.Commands.{nameAt, endByte, stands, badKey, readComman
 use Rattle.model.specs.Kinds.{structKind}
 use Rattle.shapes.specs.declared.Field.the-variants as O
 use Rattle.shapes.specs.Shapes.{beginsAt, namedAt}
-use Rattle.shapes.specs.Told.{named-fits, end-read}
+use Rattle.shapes.specs.laws.Bytes.{named-fits, end-read}
 use Rattle.shapes.specs.Field.{openerOf, dueOf, endOr, fieldAt}
 use Rattle.shapes.proofs.field_at.Statement.{statement}
 use Rattle.shapes.proofs.field_at.Tie as tie
@@ -36,7 +36,12 @@ module _ (commands text : List ℕ) (kind at byte : ℕ) (flag : Bool) (b : byte
   at-once : (last : Bool) → flag ≡ false → last ≡ beginsAt commands endByte at → last ≡ true → O.Ended ≡ fieldAt commands text kind at
   unfolding fieldAt if_then_else_
   at-once last fails l is =
-      rw (← b, sym f ∙ fails, end-read commands text at (dueOf kind) last (due-has (λ due. stands due endByte ≡ true) kind refl refl) (due-has (λ due. badKey due endByte ≡ false) kind refl refl) l is) refl
+      rw (
+        ← b,
+        sym f ∙ fails,
+        end-read commands text at (dueOf kind) last (due-has (λ due. stands due endByte ≡ true) kind refl refl)
+            (due-has (λ due. badKey due endByte ≡ false) kind refl refl) l is,
+      ) refl
 
   module _ (due : Due) (answer : Read) (fails : flag ≡ false) (d : due ≡ dueOf kind) (e : answer ≡ readCommand commands text at due) where
     read-on : endOr answer ≡ fieldAt commands text kind at

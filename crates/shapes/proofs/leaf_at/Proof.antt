@@ -17,12 +17,13 @@ use Rattle.commands.specs.declared.Due.the-variants as D
 use Rattle.commands.specs.declared.Read.{Read}
 use Rattle.commands.specs.declared.Read.the-variants as R
 use Rattle.commands.specs.Commands.{plain, formOf, operands, made, textByte, badCommand, readCommand}
-use Rattle.commands.specs.Laws.{byteOf, good}
+use Rattle.commands.specs.laws.Commands.{byteOf, good}
 use Rattle.shapes.specs.declared.Leaf.{Leaf}
 use Rattle.shapes.specs.declared.Leaf.the-variants as O
 use Rattle.shapes.specs.Shapes.{shapeAt, plainByte}
-use Rattle.shapes.specs.Leaf.{plainKind, leafBy, leafRead, leafAt, plain-shape}
-use Rattle.shapes.specs.Told.{bare-read, before-text}
+use Rattle.shapes.specs.Leaf.{plainKind, leafBy, leafRead, leafAt}
+use Rattle.shapes.specs.laws.Leaf.{plain-shape}
+use Rattle.shapes.specs.laws.Bytes.{bare-read, before-text}
 use Rattle.shapes.proofs.leaf_at.Statement.{statement}
 use Rattle.shapes.proofs.leaf_at.Tie as tie
 
@@ -78,7 +79,8 @@ module _ (options : ℕ) (commands text : List ℕ) (at byte : ℕ) (there : at 
   plain-there kind h k = rw (bare-read commands text at byte D.Value (sym is) there (before-text byte h) refl, plain-shape text commands (at + 1) options byte h, k)
 
   -- a command with no operands
-  alone : (which : ℕ) (command : Command) (leaf : Leaf) → byte ≡ which → formOf which ≡ plain command → plainByte which ≡ true → leaf ≡ leafBy (at + 1) (shapeAt options text command) → leaf ≡ leafAt options commands text at
+  alone : (which : ℕ) (command : Command) (leaf : Leaf) → byte ≡ which → formOf which ≡ plain command → plainByte which ≡ true →
+      leaf ≡ leafBy (at + 1) (shapeAt options text command) → leaf ≡ leafAt options commands text at
   unfolding leafAt made
   alone which command leaf b form bare l = rw (bare-read commands text at which D.Value (sym is ∙ b) there bare refl, form) l
 

@@ -1,6 +1,6 @@
 -- `map_kind` is chosen by the option map_as_struct.
 use borrow.Author.Needs.{needs}
-use Rattle.logic.specs.Test.{chosen, other}
+use Rattle.logic.specs.laws.Test.{chosen, other}
 use Rattle.shapes.proofs.map_kind.Statement.{statement}
 use Rattle.shapes.proofs.map_kind.Tie as tie
 

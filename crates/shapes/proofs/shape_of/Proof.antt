@@ -3,7 +3,7 @@ use borrow.Author.Needs.{needs}
 use mathlib.Core.Path.{_≡_}
 use mathlib.Core.List.{List}
 use Prim.Native.Nat.{ℕ}
-use Rattle.logic.specs.Test.{told}
+use Rattle.logic.specs.laws.Test.{told}
 use Rattle.commands.specs.declared.Command.{Command}
 use Rattle.shapes.specs.declared.Shape.{Shape}
 use Rattle.shapes.specs.Shapes.{shapeAt}

@@ -18,7 +18,7 @@ use Rattle.commands.specs.Commands.{nameAt, formOf, textByte, readCommand}
 use Rattle.shapes.specs.declared.Leaf.the-variants as O
 use Rattle.shapes.specs.Steps.{Inside}
 use Rattle.shapes.specs.Shapes.{shapeAt, namedAt}
-use Rattle.shapes.specs.Told.{named-fits, named-inside, named-read, named-refused, read-named}
+use Rattle.shapes.specs.laws.Bytes.{named-fits, named-inside, named-read, named-refused, read-named}
 use Rattle.shapes.specs.Leaf.{leafRead, leafAt}
 use Rattle.shapes.proofs.text_leaf.Statement.{statement}
 use Rattle.shapes.proofs.text_leaf.Tie as tie

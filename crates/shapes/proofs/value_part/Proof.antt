@@ -8,14 +8,15 @@ use Prim.Native.Nat.{ℕ}
 use lib.Dec.{ltb}
 use lib.ListN.{length, getD}
 use native.Mathlib.Omega.{arith}
-use Rattle.logic.specs.Test.{if_then_else_, both}
+use Rattle.logic.specs.Test.{if_then_else_}
+use Rattle.logic.specs.laws.Test.{both}
 use Rattle.commands.specs.declared.Due.{Due}
 use Rattle.commands.specs.Commands.{readCommand}
-use Rattle.commands.specs.Laws.{next-above, next-within}
+use Rattle.commands.specs.laws.Commands.{next-above, next-within}
 use Rattle.shapes.specs.declared.Step.{Step}
 use Rattle.shapes.specs.declared.Part.the-variants as P
 use Rattle.shapes.specs.Shapes.{valuePart, plainByte, plainAt, takesValue}
-use Rattle.shapes.specs.Told.{bare-read, bare-no-end}
+use Rattle.shapes.specs.laws.Bytes.{bare-read, bare-no-end}
 use Rattle.shapes.proofs.value_part.Statement.{statement}
 use Rattle.shapes.proofs.value_part.Tie as tie
 

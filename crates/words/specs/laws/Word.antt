@@ -8,7 +8,8 @@ use borrow.Author.Tests.{lt-ltb, ltb-true}
 use lib.Dec.{ltb}
 use lib.ListN.{length, getD, set, replicate, length-set, length-replicate}
 use lib.Seq.{getD-set-same, set-getD, set-set, set-comm}
-use Rattle.logic.specs.Test.{if_then_else_, cases, both}
+use Rattle.logic.specs.Test.{if_then_else_}
+use Rattle.logic.specs.laws.Test.{cases, both}
 use Rattle.words.specs.Word.{tablePlaces, placeWords, tableWords, IsTable, IsRow, hasWord, indexOf, word, withWord, zeros}
 
 -- ---- where words stand

@@ -1,6 +1,6 @@
 -- `Read::place`: each arm tells which case it is.
 use borrow.Author.Needs.{needs}
-use Rattle.logic.specs.Test.{told}
+use Rattle.logic.specs.laws.Test.{told}
 use Rattle.commands.specs.Commands.{placeOf}
 use Rattle.commands.proofs.Read.place.Statement.{statement}
 use Rattle.commands.proofs.Read.place.Tie as tie

@@ -1,6 +1,6 @@
 -- `Read::refusal`: each arm tells which case it is.
 use borrow.Author.Needs.{needs}
-use Rattle.logic.specs.Test.{told}
+use Rattle.logic.specs.laws.Test.{told}
 use Rattle.commands.specs.Commands.{refusalOf}
 use Rattle.commands.proofs.Read.refusal.Statement.{statement}
 use Rattle.commands.proofs.Read.refusal.Tie as tie

@@ -2,7 +2,7 @@
 use borrow.Author.Needs.{needs}
 use mathlib.Core.Path.{_≡_, ap, _∙_, sym}
 use Prim.Native.Nat.{ℕ}
-use Rattle.logic.specs.Test.{told}
+use Rattle.logic.specs.laws.Test.{told}
 use Rattle.datatype.specs.declared.DataType.{DataType}
 use Rattle.datatype.specs.declared.DataType.the-variants as D
 use Rattle.datatype.specs.declared.Zone.{Zone}

@@ -1,6 +1,6 @@
 -- `TracingOptions::dictionary_type` goes by its switch.
 use borrow.Author.Needs.{needs}
-use Rattle.logic.specs.Test.{chosen, other}
+use Rattle.logic.specs.laws.Test.{chosen, other}
 use Rattle.options.proofs.TracingOptions.dictionary_type.Statement.{statement}
 use Rattle.options.proofs.TracingOptions.dictionary_type.Tie as tie
 

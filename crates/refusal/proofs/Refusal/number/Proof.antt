@@ -1,6 +1,6 @@
 -- `Refusal::number` gives document 01's number: each arm tells which case it is.
 use borrow.Author.Needs.{needs}
-use Rattle.logic.specs.Test.{told}
+use Rattle.logic.specs.laws.Test.{told}
 use Rattle.refusal.specs.Number.{numberOf}
 use Rattle.refusal.proofs.Refusal.number.Statement.{statement}
 use Rattle.refusal.proofs.Refusal.number.Tie as tie

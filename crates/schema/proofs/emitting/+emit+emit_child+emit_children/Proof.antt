@@ -110,7 +110,9 @@ emit-children-claims t = (
 -- the place and the table stand in it too, so that they are at hand in a long turn
 abbrev Inv-loop : emit-children-lts.InvT-loop
 Inv-loop options text levels kind place table fields₀ names₀ so-far₀ slot₀ child₀ left₀ fields names so-far slot child left =
-    (fieldsFrom table (emittedAt (options .word) text table levels) kind place left slot child (writing (so-far .records) (so-far .names) fields names) ≡ fieldsFrom table (emittedAt (options .word) text table levels) kind place childLimit 0 child₀ (writing (so-far₀ .records) (so-far₀ .names) fields₀ names₀))
+    (fieldsFrom table (emittedAt (options .word) text table levels) kind place left slot child
+    (writing (so-far .records) (so-far .names) fields names) ≡ fieldsFrom table
+    (emittedAt (options .word) text table levels) kind place childLimit 0 child₀ (writing (so-far₀ .records) (so-far₀ .names) fields₀ names₀))
     × IsRow child × IsRow place × Linked text table placeLimit × (so-far .records ≤ length fields) × (so-far .names ≤ length names) × (length fields ≡ length fields₀) × (length names ≡ length names₀)
 
 abbrev μ-loop : emit-children-lts.MeasureT-loop
@@ -142,7 +144,8 @@ pub +emit+emit-child+emit-children-spec : {M : Type 1} → statement M
     (λ c. (search (leaf, needs), search needs))
     (λ c κs. search needs)
     (λ c. search (some-level, needs))
-    (λ c κs. let h : 1 ≤ (c .before .before .before .before .before .before .before .before .before .before .before .before .before .before .before .before .before .args .levels) = search (some-level, needs) in (omega arith, search needs))
+    (λ c κs. let h : 1 ≤ (c .before .before .before .before .before .before .before .before .before .before .before .before .before .before .before
+    .before .before .args .levels) = search (some-level, needs) in (omega arith, search needs))
     (λ c. search needs)
     (λ c. search needs)
     (λ c. (search (opened, needs), search needs)))

@@ -19,7 +19,8 @@ module _ (options : ℕ) (text t ordered fields names : List ℕ) (o : t ≡ ord
   unfolding toSchemaAt
   refused refusal e = rw (← o, sym a ∙ e)
 
-  walked-through : (records bytes below : ℕ) (whole : Answered) → answer ≡ W.Below records bytes below → whole ≡ finished options text t fields names records bytes below → whole ≡ toSchemaAt options text ordered fields names
+  walked-through : (records bytes below : ℕ) (whole : Answered) → answer ≡ W.Below records bytes below →
+      whole ≡ finished options text t fields names records bytes below → whole ≡ toSchemaAt options text ordered fields names
   unfolding toSchemaAt
   walked-through records bytes below whole e f = rw (← o, sym a ∙ e) f
 

@@ -5,7 +5,8 @@ use mathlib.Core.Path.{_≡_, sym, _∙_}
 use mathlib.Core.Bool.{Bool, true, false, _&&_, _||_}
 use Prim.Native.Nat.{ℕ, _%_}
 use lib.Dec.{eqb}
-use Rattle.logic.specs.Test.{if_then_else_, cases}
+use Rattle.logic.specs.Test.{if_then_else_}
+use Rattle.logic.specs.laws.Test.{cases}
 use Rattle.datatype.specs.declared.DataType.{DataType}
 use Rattle.datatype.specs.Codes.{codeOf, utf8, largeUtf8, struct}
 use Rattle.options.specs.Word.{listType, dictionaryType, stringDictionaryEncoding, sequenceAsLargeList, stringAsLargeUtf8}

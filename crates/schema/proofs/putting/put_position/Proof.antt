@@ -13,4 +13,5 @@ put-position-spec =
     (λ c. no-room _ _ _ _ (c .before .decimal-length .ensures) (search needs) (search needs))
     (λ c κs. search needs)
     (λ c. search needs)
-    (λ c. with-room _ _ _ _ (c .before .before .before .before .before .decimal-length .ensures) (search needs) _ _ (search needs) (c .before .before .put-decimal .ensures .0) (c .before .before .put-decimal .ensures .1)))
+    (λ c. with-room _ _ _ _ (c .before .before .before .before .before .decimal-length .ensures) (search needs) _ _ (search needs)
+    (c .before .before .put-decimal .ensures .0) (c .before .before .put-decimal .ensures .1)))

@@ -1,6 +1,6 @@
 -- `Step::code` gives the word of a step: each arm tells which step it is.
 use borrow.Author.Needs.{needs}
-use Rattle.logic.specs.Test.{told}
+use Rattle.logic.specs.laws.Test.{told}
 use Rattle.shapes.specs.Steps.{codeOf}
 use Rattle.shapes.proofs.Step.code.Statement.{statement}
 use Rattle.shapes.proofs.Step.code.Tie as tie

@@ -1,6 +1,6 @@
 -- `Step::name` gives the name of a step: each arm tells which step it is.
 use borrow.Author.Needs.{needs}
-use Rattle.logic.specs.Test.{told}
+use Rattle.logic.specs.laws.Test.{told}
 use Rattle.shapes.specs.Steps.{nameOf}
 use Rattle.shapes.proofs.Step.name.Statement.{statement}
 use Rattle.shapes.proofs.Step.name.Tie as tie

@@ -5,7 +5,7 @@ use Prim.Native.Nat.{ℕ, suc, _^_, _≤_, _<_}
 use native.Mathlib.Omega.{arith}
 use lib.ListN.{length}
 use Rattle.text.specs.Decimal.{decimal}
-use Rattle.text.specs.DecimalLaws.{decimal-small, length-most, length-least}
+use Rattle.text.specs.laws.Decimal.{decimal-small, length-most, length-least}
 use Rattle.text.proofs.decimal.decimal_length.Statement.{statement}
 use Rattle.text.proofs.decimal.decimal_length.Tie as tie
 

@@ -5,9 +5,10 @@ use Prim.Native.Nat.{ℕ, _+_, _-_, _/_, _%_, _≤_, _<_}
 use native.Mathlib.Omega.{arith}
 use mathlib.Core.List.{List}
 use lib.ListN.{length, set, length-set}
-use Rattle.logic.specs.Buffer.{written, written-one, written-last}
+use Rattle.logic.specs.Buffer.{written}
+use Rattle.logic.specs.laws.Buffer.{written-one, written-last}
 use Rattle.text.specs.Decimal.{decimal, zeroDigit}
-use Rattle.text.specs.DecimalLaws.{decimal-small, decimal-step, length-step, length-positive}
+use Rattle.text.specs.laws.Decimal.{decimal-small, decimal-step, length-step, length-positive}
 use Rattle.text.proofs.decimal.put_decimal.Statement.{statement}
 use Rattle.text.proofs.decimal.put_decimal.Tie as tie
 

@@ -6,7 +6,7 @@ use mathlib.Core.List.{List, _∷_}
 use mathlib.Core.Option.{none, some}
 use lib.ListN.{getElem?}
 use Rattle.text.specs.Utf8.{Range, _to_, table, dueIn}
-use Rattle.text.specs.Utf8Laws.{due-at, due-gap, due-past}
+use Rattle.text.specs.laws.Utf8.{due-at, due-gap, due-past}
 use Rattle.text.proofs.utf8.due_after.Statement.{statement}
 use Rattle.text.proofs.utf8.due_after.Tie as tie
 

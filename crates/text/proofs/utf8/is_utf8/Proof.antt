@@ -7,11 +7,11 @@ use mathlib.Core.Bool.{Bool, true, false, _&&_, and-assoc, false≢true}
 use mathlib.Core.List.{List, [], _∷_}
 use lib.ListN.{length, getD, drop, drop-of-length-le, length-drop, replicate, length-replicate}
 use lib.Seq.{drop-drop}
-use Rattle.logic.specs.Test.{both}
+use Rattle.logic.specs.laws.Test.{both}
 use Rattle.text.specs.declared.utf8.Due.{Due}
 use Rattle.text.specs.declared.utf8.Due.the-variants as D
 use Rattle.text.specs.Utf8.{Range, _to_, table, within, dueIn, reads, isUtf8}
-use Rattle.text.specs.Utf8Laws.{reads-none}
+use Rattle.text.specs.laws.Utf8.{reads-none}
 use Rattle.text.specs.Due.{trailing, dueOf, begins}
 use Rattle.text.proofs.Steps.{drop-at}
 use Rattle.text.proofs.Ascii.{taken, ascii}
@@ -68,7 +68,8 @@ ended bytes i inv h = rw (drop-of-length-le bytes h) at inv
 
 -- a whole sequence stands there
 stands : (c : tie.Then2 Inv-loop μ-loop) →
-    c .before .before .before .before .before .before .before .before .before .loop .i + (c .before .before .before .due .given .0 .1 .1 .0 + 2) ≤ length (c .before .before .before .before .before .before .before .before .before .before .before .before .args .bytes .now)
+    c .before .before .before .before .before .before .before .before .before .loop .i + (c .before .before .before .due .given .0 .1 .1 .0 + 2) ≤
+    length (c .before .before .before .before .before .before .before .before .before .before .before .before .args .bytes .now)
 stands c = search (room, needs)
 
 pub is-utf8-spec : {M : Type 1} → statement M

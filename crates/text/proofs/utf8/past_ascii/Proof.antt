@@ -20,7 +20,9 @@ Inv-loop bytes i₀ i = (i ≤ length bytes) × (isUtf8 (drop i bytes) ≡ isUtf
 abbrev μ-loop : tie.MeasureT-loop
 μ-loop bytes i₀ i = length bytes - i
 
-four : (bytes : List ℕ) (i : ℕ) (flag : Bool) → 4 ≤ length bytes - i → flag ≡ (ltb (getD bytes i 0) 0x80 && ltb (getD bytes (i + 1) 0) 0x80 && ltb (getD bytes (i + 2) 0) 0x80 && ltb (getD bytes (i + 3) 0) 0x80) → flag ≡ true →
+four : (bytes : List ℕ) (i : ℕ) (flag : Bool) → 4 ≤ length bytes - i →
+    flag ≡ (ltb (getD bytes i 0) 0x80 && ltb (getD bytes (i + 1) 0) 0x80 && ltb (getD bytes (i + 2) 0) 0x80 && ltb (getD bytes (i + 3) 0) 0x80) →
+    flag ≡ true →
     isUtf8 (drop i bytes) ≡ isUtf8 bytes → isUtf8 (drop (i + 4) bytes) ≡ isUtf8 bytes
 four bytes i flag h f e inv =
     by-four (λ b. ltb b 0x80) (λ k. isUtf8 (drop k bytes) ≡ isUtf8 bytes) bytes i (λ k g t p. ascii bytes k p g (ltb-true (getD bytes k 0) 0x80 t)) (omega arith) (sym f ∙ e) inv

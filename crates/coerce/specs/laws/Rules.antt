@@ -1,0 +1,170 @@
+-- Rules of the joint, each checked at all types that fit by one test that antt computes. The joint depends on the options
+-- word only through three bits, of which allow_to_string is off here: four words stand for all.
+use mathlib.Core.Path.{_≡_, refl, sym, _∙_, ap₂, fun-ext}
+use mathlib.Core.Bool.{Bool, true, false, _&&_, _||_, Bool·beq, false≢true}
+use mathlib.Core.List.{[], _∷_}
+use mathlib.Core.Option.{Option, none, some}
+use Prim.Native.Nat.{ℕ, suc, _≤_}
+use native.Mathlib.Omega.{arith}
+use lib.Dec.{eqb, leb}
+use borrow.Author.Tests.{leb-true, le-leb, eqb-true}
+use Rattle.logic.specs.Test.{if_then_else_}
+use Rattle.logic.specs.laws.Test.{both, cases, if-passed}
+use Rattle.logic.specs.All.{has}
+use Rattle.logic.specs.Maybe.{andThen, sameMaybe}
+use Rattle.logic.specs.laws.Maybe.{same-maybe}
+use Rattle.logic.specs.laws.Table.{allBelow, below-at}
+use Rattle.datatype.specs.Codes.{null, union}
+use Rattle.options.specs.Word.{coerceNumbers, allowToString, stringAsLargeUtf8, stringType}
+use Rattle.coerce.specs.Joint.{isString, isFloat, isSigned, numberJoint, jointOfNumbers, jointWithString, jointOfTimestamps, jointOfUnequal, joint}
+use Rattle.coerce.specs.Census.{isOther, isStringOrTimestamp, severalSeen, fitting, Fits}
+
+-- which types fit
+pub null-fits : (word : ℕ) → Fits word null
+unfolding fitting if_then_else_
+null-fits word = refl
+
+pub string-fits : (word : ℕ) → Fits word (stringType word)
+unfolding fitting if_then_else_
+string-fits word = cases (stringAsLargeUtf8 word) (λ e. rw e) (λ e. rw e)
+
+pub other-fits : (word t : ℕ) → t ≤ union → isString t ≡ false → Fits word t
+unfolding fitting if_then_else_
+other-fits word t h e = rw (le-leb t union h, e)
+
+-- a word for each setting of coerce_numbers and string_as_large_utf8
+abbrev plain : Bool → Bool → ℕ
+plain false false = 0
+plain false true = 8
+plain true false = 64
+plain true true = 72
+
+module _ (word : ℕ) (off : allowToString word ≡ false) where
+  alike : (c l : Bool) → coerceNumbers word ≡ c → stringAsLargeUtf8 word ≡ l → (a b : ℕ) → joint word a b ≡ joint (plain c l) a b
+  unfolding joint jointOfUnequal jointOfNumbers jointWithString jointOfTimestamps
+  alike false false p q a b = simp (p, q, off)
+  alike false true p q a b = simp (p, q, off)
+  alike true false p q a b = simp (p, q, off)
+  alike true true p q a b = simp (p, q, off)
+
+  alike-string : (c l : Bool) → stringAsLargeUtf8 word ≡ l → stringType word ≡ stringType (plain c l)
+  unfolding if_then_else_
+  alike-string false false q = rw q
+  alike-string false true q = rw q
+  alike-string true false q = rw q
+  alike-string true true q = rw q
+
+-- a rule of the joint and the string type, under a word
+abbrev Rule : Type 0
+Rule = (ℕ → ℕ → Option ℕ) → ℕ → Bool
+
+abbrev under : Rule → ℕ → Bool
+under rule word = rule (joint word) (stringType word)
+
+-- a rule that passes under those four words passes under every word with allow_to_string off
+settled : (rule : Rule) → ((c l : Bool) → under rule (plain c l) ≡ true) → (word : ℕ) → allowToString word ≡ false → under rule word ≡ true
+settled rule t word off =
+    let c = coerceNumbers word in
+    let l = stringAsLargeUtf8 word in
+    let j : joint word ≡ joint (plain c l) = fun-ext λ a. fun-ext λ b. alike word off c l refl refl a b in
+    ap₂ rule j (alike-string word off c l refl) ∙ t c l
+
+-- the test passes at every type that fits
+forFitting : ℕ → (ℕ → Bool) → Bool
+forFitting string p = allBelow (suc union) (λ t. if fitting string t then p t else true)
+
+for-fitting : (string : ℕ) (p : ℕ → Bool) → forFitting string p ≡ true → (t : ℕ) → fitting string t ≡ true → p t ≡ true
+unfolding forFitting fitting
+for-fitting string p e t f =
+    both (leb t union) (if isString t then eqb t string else true) f λ below own.
+    sym (if-passed true f) ∙ below-at (suc union) (λ t. if fitting string t then p t else true) e t (let h : t ≤ union = leb-true t union below in omega arith)
+
+-- what the test says of the joint, where there is one
+onSome : Option ℕ → (ℕ → Bool) → Bool
+onSome none p = true
+onSome (some u) p = p u
+
+on-some : (o : Option ℕ) (p : ℕ → Bool) (u : ℕ) → onSome o p ≡ true → o ≡ some u → p u ≡ true
+unfolding onSome
+on-some o p u t e = rw e at t
+
+-- two types may change places
+abbrev swaps : Rule
+swaps joint string =
+    forFitting string λ t. forFitting string λ a. forFitting string λ b.
+    sameMaybe (andThen (joint t a) (λ u. joint u b)) (andThen (joint t b) (λ u. joint u a))
+
+swaps-hold : (c l : Bool) → under swaps (plain c l) ≡ true
+unfolding forFitting allBelow fitting sameMaybe andThen joint jointOfUnequal jointOfNumbers numberJoint jointWithString jointOfTimestamps if_then_else_
+swaps-hold false false = refl
+swaps-hold false true = refl
+swaps-hold true false = refl
+swaps-hold true true = refl
+
+-- what holds of two types a and b and their joint u, each part as a test
+abbrev pub isSignedOrFloat : ℕ → Bool
+isSignedOrFloat t = isSigned t || isFloat t
+
+abbrev shows : (ℕ → Bool) → ℕ → ℕ → ℕ → Bool
+shows p a b u = Bool·beq (p u) (p a || p b)
+
+abbrev pub takesIn : ℕ → ℕ → ℕ → Bool
+takesIn a b u = eqb u a && (isOther null b && isOther a b)
+
+abbrev joins : Rule
+joins joint string =
+    forFitting string λ a. forFitting string λ b.
+    onSome (joint a b) λ u.
+    sameMaybe (joint u b) (some u) &&
+    (fitting string u &&
+    (shows isStringOrTimestamp a b u &&
+    (shows isFloat a b u &&
+    (shows isSignedOrFloat a b u &&
+    (if takesIn a b u then eqb u (severalSeen string (u ∷ [])) else true)))))
+
+joins-hold : (c l : Bool) → under joins (plain c l) ≡ true
+unfolding forFitting onSome allBelow fitting sameMaybe severalSeen has joint jointOfUnequal jointOfNumbers numberJoint jointWithString jointOfTimestamps if_then_else_
+joins-hold false false = refl
+joins-hold false true = refl
+joins-hold true false = refl
+joins-hold true true = refl
+
+beq-true : (s t : Bool) → Bool·beq s t ≡ true → s ≡ t
+beq-true true true e = refl
+beq-true true false e = absurd (false≢true e)
+beq-true false true e = absurd (false≢true e)
+beq-true false false e = refl
+
+-- what is known of the joint u of a and b
+pub record Joins (word a b u : ℕ) : Type 0 where
+  -- u takes b in
+  pub absorbs : joint word u b ≡ some u
+  pub fits : Fits word u
+  -- u is of a family where either type is
+  pub texts : isStringOrTimestamp u ≡ (isStringOrTimestamp a || isStringOrTimestamp b)
+  pub floats : isFloat u ≡ (isFloat a || isFloat b)
+  pub signs : isSignedOrFloat u ≡ (isSignedOrFloat a || isSignedOrFloat b)
+  -- a type that takes another in is that of several
+  pub several : takesIn a b u ≡ true → u ≡ severalSeen (stringType word) (u ∷ [])
+
+module _ (word : ℕ) (off : allowToString word ≡ false) where
+  -- two types that meet a third may change places
+  pub joint-swap : (t a b : ℕ) → Fits word t → Fits word a → Fits word b → andThen (joint word t a) (λ u. joint word u b) ≡ andThen (joint word t b) (λ u. joint word u a)
+  joint-swap t a b ft fa fb =
+      let string = stringType word in
+      same-maybe _ _
+      (for-fitting string _ (for-fitting string _ (for-fitting string _ (settled swaps swaps-hold word off) t ft) a fa) b fb)
+
+  pub joint-joins : (a b u : ℕ) → Fits word a → Fits word b → joint word a b ≡ some u → Joins word a b u
+  joint-joins a b u fa fb e =
+      let string = stringType word in
+      let all = on-some (joint word a b) _ u (for-fitting string _ (for-fitting string _ (settled joins joins-hold word off) a fa) b fb) e in
+      both _ _ all λ h₁ r₁. both _ _ r₁ λ h₂ r₂. both _ _ r₂ λ h₃ r₃. both _ _ r₃ λ h₄ r₄. both _ _ r₄ λ h₅ h₆.
+      record {
+        absorbs = same-maybe _ _ h₁;
+        fits = h₂;
+        texts = beq-true _ _ h₃;
+        floats = beq-true _ _ h₄;
+        signs = beq-true _ _ h₅;
+        several = λ t. eqb-true _ _ (sym (if-passed true t) ∙ h₆);
+      }

@@ -1,0 +1,4 @@
+pub mod order
+pub mod firstwalk
+pub mod secondwalk
+pub mod tree

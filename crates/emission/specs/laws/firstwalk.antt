@@ -1,0 +1,4 @@
+pub mod Children
+pub mod Places
+pub mod Sums
+pub mod Walk

@@ -1,0 +1,4 @@
+pub mod Chains
+pub mod Arranged
+pub mod Insertion
+pub mod Links

@@ -1,0 +1,4 @@
+pub mod Standing
+pub mod Kind
+pub mod View
+pub mod Equal

@@ -1,0 +1,7 @@
+pub mod Canon
+pub mod Fields
+pub mod InOrder
+pub mod Records
+pub mod Variants
+pub mod Accepted
+pub mod Answers

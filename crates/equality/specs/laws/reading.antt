@@ -1,0 +1,9 @@
+pub mod Steps
+pub mod Proper
+pub mod Records
+pub mod Values
+pub mod Commands
+pub mod Locality
+pub mod Batches
+pub mod Offsets
+pub mod WellFormed

@@ -1,0 +1,9 @@
+pub mod Test
+pub mod Turns
+pub mod Invariant
+pub mod Table
+pub mod Flag
+pub mod Arms
+pub mod Maybe
+pub mod All
+pub mod Buffer

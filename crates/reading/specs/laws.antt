@@ -1,0 +1,6 @@
+pub mod Progress
+pub mod Readers
+pub mod Loops
+pub mod Leaf
+pub mod Runs
+pub mod Sound

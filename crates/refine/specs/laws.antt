@@ -1,0 +1,4 @@
+pub mod reading
+pub mod numbered
+pub mod words
+pub mod Outcome

@@ -1,0 +1,4 @@
+pub mod Bytes
+pub mod Shapes
+pub mod Field
+pub mod Leaf

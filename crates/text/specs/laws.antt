@@ -1,0 +1,3 @@
+pub mod Name
+pub mod Utf8
+pub mod Decimal
