@@ -13,8 +13,8 @@ use Rattle.model.specs.Kinds.{isContainer}
 use Rattle.places.specs.Layout.{kindWord, nullWord}
 use Rattle.places.specs.Reading.{variantAt, nextChild, childLimit}
 use Rattle.walk.specs.Walk.{sumOf, gapsAt}
-use Rattle.schema.specs.Put.{put, putGaps, Writing, writing, gapsIn, entriesIn}
-use Rattle.schema.specs.Fields.{isDictionary, isLeaf, lackingAt}
+use Rattle.putting.specs.Put.{put, putGaps, Writing, writing, gapsIn, entriesIn}
+use Rattle.fields.specs.Fields.{isDictionary, isLeaf, lackingAt}
 use Rattle.schema.specs.Emit.{Writer, fieldAt, childIn, fieldsFrom, fieldsBelow, emittedBy, emittedAt}
 
 -- ---- a turn over a child: what is left gives what the whole gives

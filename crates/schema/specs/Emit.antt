@@ -21,8 +21,8 @@ use Rattle.walk.specs.declared.Walked.the-variants as W
 use Rattle.walk.specs.Walk.{sumOf, gapsAt, walked}
 use Rattle.schema.specs.declared.Emitted.{Emitted}
 use Rattle.schema.specs.declared.Emitted.the-variants as E
-use Rattle.schema.specs.Put.{recordOf, Writing, writing, both, gapsIn, entriesIn}
-use Rattle.schema.specs.Fields.{fieldCount, isStructRoot, lackingAt, isDictionary, isLeaf}
+use Rattle.putting.specs.Put.{recordOf, Writing, writing, both, gapsIn, entriesIn}
+use Rattle.fields.specs.Fields.{fieldCount, isStructRoot, lackingAt, isDictionary, isLeaf}
 
 -- the record and the name of a place, with nothing below it
 unfoldable pub fieldAt : ℕ → List ℕ → List ℕ → ℕ → Bool → ℕ → Writing → Writing

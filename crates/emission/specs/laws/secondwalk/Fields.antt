@@ -20,7 +20,7 @@ use Rattle.model.specs.Emission.{Place, shown, Places, none-below, below, place
 use Rattle.model.specs.Emission.{nameIn as nameOfField}
 use Rattle.refine.specs.laws.numbered.Tree.{Spot, Spots, no-spots, child}
 use Rattle.refine.specs.laws.numbered.Erased.{erase, eraseIn}
-use Rattle.schema.specs.Put.{recordOf, entriesIn}
+use Rattle.putting.specs.Put.{recordOf, entriesIn}
 use Rattle.emission.specs.laws.order.Arranged.{insertNameS, byNameS, orderS}
 use Rattle.emission.specs.laws.secondwalk.Writing.{Writes, writes-entries}
 use Rattle.emission.specs.laws.firstwalk.Places.{AllS}

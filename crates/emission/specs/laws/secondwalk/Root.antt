@@ -28,8 +28,8 @@ use Rattle.refine.specs.laws.numbered.Numbers.{Good}
 use Rattle.refine.specs.laws.words.Places.{Rep}
 use Rattle.refine.specs.laws.numbered.Erased.{erase, eraseIn}
 use Rattle.schema.specs.declared.Emitted.the-variants as E
-use Rattle.schema.specs.Put.{writing}
-use Rattle.schema.specs.Fields.{isStructRoot}
+use Rattle.putting.specs.Put.{writing}
+use Rattle.fields.specs.Fields.{isStructRoot}
 use Rattle.schema.specs.Emit.{Answered, answered, fieldsBelow, emittedAt, levelLimit, finished}
 use Rattle.emission.specs.laws.order.Arranged.{orderS, Orders, FitS}
 use Rattle.emission.specs.laws.firstwalk.Children.{fieldsOfField}

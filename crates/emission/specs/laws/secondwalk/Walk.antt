@@ -25,8 +25,8 @@ use Rattle.refine.specs.laws.words.Places.{Rep, Row, ownWords}
 use Rattle.refine.specs.laws.numbered.Erased.{erase, eraseIn}
 use Rattle.places.specs.Reading.{variantAt, childName, childLimit, nextChild}
 use Rattle.walk.specs.Walk.{datalessAt, sumOf, gapsAt}
-use Rattle.schema.specs.Put.{recordOf, Writing, writing, both, gapsIn, entriesIn}
-use Rattle.schema.specs.Fields.{countFrom, fieldCount, isDictionary, isLeaf}
+use Rattle.putting.specs.Put.{recordOf, Writing, writing, both, gapsIn, entriesIn}
+use Rattle.fields.specs.Fields.{countFrom, fieldCount, isDictionary, isLeaf}
 use Rattle.schema.specs.Emit.{fieldAt, Writer, childIn, fieldsFrom, fieldsBelow, emittedBy, emittedAt, levelLimit}
 use Rattle.emission.specs.laws.order.Arranged.{byNumberS, orderS, Enumerates, Rising, Orders, FitS}
 use Rattle.emission.specs.laws.secondwalk.Writing.{wrote, Writes, writes-none, writes-next, writes-as, writes-both, record-is, gapRecords, gap-records, gap-names, gap-count, writes-gaps, entries-none}

@@ -16,7 +16,7 @@ use Rattle.model.specs.Kinds.{mapKind}
 use Rattle.model.specs.Tracing.{one}
 use Rattle.model.specs.Emission.{Fields, gap, gaps, entriesName, twoBytes, recordsOf, recordsIn, namesOf, namesIn, childCount}
 use Rattle.walk.specs.Walk.{sumOf}
-use Rattle.schema.specs.Put.{put, putBytes, recordOf, putGaps, Writing, writing, both, gapsIn, entriesIn}
+use Rattle.putting.specs.Put.{put, putBytes, recordOf, putGaps, Writing, writing, both, gapsIn, entriesIn}
 
 -- what is left when records and names were written
 abbrev pub wrote : List ℕ → List ℕ → Writing → Writing
