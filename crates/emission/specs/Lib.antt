@@ -1,2 +1,3 @@
 pub mod Refinement
 pub mod laws
+pub mod Emits

@@ -2,3 +2,4 @@ pub mod order
 pub mod firstwalk
 pub mod secondwalk
 pub mod tree
+pub mod Emitted

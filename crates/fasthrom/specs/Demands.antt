@@ -128,7 +128,8 @@ pub record Demand2 (b : Batch) (lent : Buffers) (a : Answer) : Type 0 where
 equals : (b : Batch) (lent : Buffers) → WellFormed b → tableWords ≤ length (lent .table) → Demand2 b lent (answerOf b lent (schemaOf b))
 equals b lent w t = record { equal = as-unbounded b lent; places = too-many b lent; read = past-reading b lent w }
 
-pub demand-2 : (call : Call) → WellFormed (call .batch) → tableWords ≤ length (call .lent .table) → Demand2 (call .batch) (call .lent) (gave call)
+pub demand-2 : (call : Call) → WellFormed (call .batch) → tableWords ≤ length (call .lent .table) →
+    Demand2 (call .batch) (call .lent) (gave call)
 demand-2 call w t = rw (is call ∙ read-through (call .batch) (call .lent) w t) (equals (call .batch) (call .lent) w t)
 
 -- ---- Demand 3
@@ -154,15 +155,19 @@ pub record Demand3 : Type 0 where
   pub equal : (options : ℕ) → Plain options → (call other : Call) → Taken options call → Taken options other
       → SameSchema (gave call) (gave other) ↔ SameCensus options (recordsOf (call .batch)) (recordsOf (other .batch))
   -- the records in another order are accepted again, and only the order of struct fields changes
-  pub reordered : (options : ℕ) → Plain options → (text : List ℕ) (records others : List (List ℕ)) → All (IsRecord options text) records → List·Permᴰ records others
-      → (call other : Call) → call .batch ≡ batchOf options text records → other .batch ≡ batchOf options text others → Taken options call → NoShorter (call .lent) (other .lent)
+  pub reordered : (options : ℕ) → Plain options
+      → (text : List ℕ) (records others : List (List ℕ)) → All (IsRecord options text) records → List·Permᴰ records others
+      → (call other : Call) → call .batch ≡ batchOf options text records → other .batch ≡ batchOf options text others
+      → Taken options call → NoShorter (call .lent) (other .lent)
       → Accepted (gave other) × SameButOrder (gave call) (gave other)
 
 pub demand-3 : Demand3
 demand-3 =
     record {
       equal = λ options plain call other a b.
-          alike options plain (call .batch) (other .batch) (call .lent) (other .lent) (gave call) (gave other) (is call) (is other) (a .under) (b .under) (took a) (took b);
+          alike options plain (call .batch) (other .batch) (call .lent) (other .lent) (gave call) (gave other)
+          (is call) (is other) (a .under) (b .under) (took a) (took b);
       reordered = λ options plain text records others are perm call other e f a long.
-          again options plain (call .batch) (other .batch) (call .lent) (other .lent) (gave call) (gave other) (is call) (is other) text records others are perm e f (took a) long;
+          again options plain (call .batch) (other .batch) (call .lent) (other .lent) (gave call) (gave other)
+          (is call) (is other) text records others are perm e f (took a) long;
     }

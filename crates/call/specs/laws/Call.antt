@@ -27,7 +27,8 @@ use Rattle.refine.specs.Refinement.{traced-is-model}
 use Rattle.schema.specs.declared.Emitted.the-variants as E
 use Rattle.schema.specs.Emit.{Answered, answered, toSchemaAt}
 use Rattle.order.specs.Sort.{sortedPlaces}
-use Rattle.emission.specs.Refinement.{Emits, schema-is-model}
+use Rattle.emission.specs.Refinement.{schema-is-model}
+use Rattle.emission.specs.Emits.{Emits}
 use Rattle.refusal.specs.declared.Refusal.{Refusal}
 use Rattle.refusal.specs.declared.Refusal.the-variants as F
 use Rattle.call.specs.declared.Outcome.{Outcome}

@@ -4,3 +4,4 @@ pub mod Neat
 pub mod Writing
 pub mod Root
 pub mod Words
+pub mod Children

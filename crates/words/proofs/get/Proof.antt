@@ -1,7 +1,7 @@
 -- `get` reads the word where it stands.
 use borrow.Author.Needs.{needs}
 use mathlib.Core.Path.{sym}
-use Rattle.words.proofs.Ways.{word-at}
+use Rattle.words.proofs.Index.{word-at}
 use Rattle.words.proofs.get.Statement.{statement}
 use Rattle.words.proofs.get.Tie as tie
 

@@ -1,7 +1,7 @@
 -- `set` stores the word where it stands.
 use borrow.Author.Needs.{needs}
 use mathlib.Core.Path.{sym}
-use Rattle.words.proofs.Ways.{with-at}
+use Rattle.words.proofs.Index.{with-at}
 use Rattle.words.proofs.set.Statement.{statement}
 use Rattle.words.proofs.set.Tie as tie
 

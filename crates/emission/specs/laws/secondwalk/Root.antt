@@ -3,7 +3,7 @@ use mathlib.Core.Path.{_≡_, refl, sym, _∙_}
 use mathlib.Core.Bool.{Bool, true, false, _&&_, _||_, false≢true, true≢false}
 use mathlib.Core.List.{List, _++_}
 use mathlib.Core.Option.{none}
-use Prim.Native.Nat.{ℕ, _+_, _*_, _≤_}
+use Prim.Native.Nat.{ℕ, _*_, _≤_}
 use native.Mathlib.Omega.{arith}
 use lib.Dec.{eqb, ltb}
 use lib.ListN.{length, drop}
@@ -12,11 +12,8 @@ use Rattle.logic.specs.Test.{if_then_else_}
 use Rattle.logic.specs.laws.Test.{cases, neither}
 use Rattle.datatype.specs.Codes.{null, utf8, largeUtf8, struct}
 use Rattle.options.specs.Word.{stringDictionaryEncoding, stringAsLargeUtf8, sequenceAsLargeList, enumsWithoutDataAsStrings, listType, dictionaryType}
-use Rattle.refusal.specs.Number.{numberOf}
-use Rattle.refusal.specs.declared.Refusal.{Refusal}
 use Rattle.refusal.specs.declared.Refusal.the-variants as F
 use Rattle.words.specs.Word.{word}
-use Rattle.model.specs.Result.{Result, accepted, refused}
 use Rattle.model.specs.Kinds.{sequenceKind, structKind, unionKind, tupleKind, mapModeKind, isContainer, isStruct}
 use Rattle.model.specs.Tracing.{one, placeLimit}
 use Rattle.model.specs.Emission.{shown, Places, placeOf, placesOf, dataless, walk, Field, mk, Fields, typeOf, fieldOf, rootFields, countIn, recordsIn, namesIn}
@@ -27,21 +24,14 @@ use Rattle.refine.specs.laws.numbered.Tree.{Spot, spot, num}
 use Rattle.refine.specs.laws.numbered.Numbers.{Good}
 use Rattle.refine.specs.laws.words.Places.{Rep}
 use Rattle.refine.specs.laws.numbered.Erased.{erase, eraseIn}
-use Rattle.schema.specs.declared.Emitted.the-variants as E
 use Rattle.putting.specs.Put.{writing}
 use Rattle.fields.specs.Fields.{isStructRoot}
-use Rattle.schema.specs.Emit.{Answered, answered, fieldsBelow, emittedAt, levelLimit, finished}
+use Rattle.schema.specs.Emit.{fieldsBelow, emittedAt, levelLimit, finished}
 use Rattle.emission.specs.laws.order.Arranged.{orderS, Orders, FitS}
 use Rattle.emission.specs.laws.firstwalk.Children.{fieldsOfField}
 use Rattle.emission.specs.laws.secondwalk.Words.{Neat, place-is}
 use Rattle.emission.specs.laws.secondwalk.Walk.{root-written}
-
--- an answer is the model's: its refusal with both buffers untouched, or its records and names where there is room for them
-abbrev pub Finishes : List ℕ → List ℕ → ℕ → ℕ → ℕ → Result Fields → Answered → Type 0
-Finishes fields names records bytes columns (refused m at) a = (x : Refusal) × (numberOf x ≡ m) × (a ≡ answered (E.Refused x) fields names)
-Finishes fields names records bytes columns (accepted fs) a =
-    a ≡ (if ltb (length fields) (records * 8) || ltb (length names) bytes then answered (E.Refused F.ShortBuffer) fields names
-    else answered (E.Schema records bytes columns) (recordsIn fs ++ drop (length (recordsIn fs)) fields) (namesIn fs ++ drop (length (namesIn fs)) names))
+use Rattle.emission.specs.Emits.{Finishes}
 
 -- ---- the root's type
 dictionary-type : (options : ℕ) → (eqb (dictionaryType options) null ≡ false) × (eqb (dictionaryType options) struct ≡ false)
