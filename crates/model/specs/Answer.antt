@@ -1,6 +1,6 @@
 -- The answer of the whole call, for whatever is handed in: refusal, place, counts, both buffers with their tails, and the work table.
 use mathlib.Core.Bool.{Bool, true, false, _||_}
-use mathlib.Core.List.{List, [], _∷_, _++_}
+use mathlib.Core.List.{List, _++_}
 use mathlib.Core.Path.{_≡_}
 use Prim.Native.Nat.{ℕ, _*_, _≤_}
 use lib.Dec.{ltb}
@@ -10,7 +10,7 @@ use Rattle.options.specs.Word.{unknownBit}
 use Rattle.refusal.specs.Number.{unknownOption, shortTable, longInput, shortBuffer}
 use Rattle.model.specs.Result.{Result, accepted, refused, _>>=_}
 use Rattle.model.specs.Reading.{values, allWhole}
-use Rattle.model.specs.Tracing.{trace, Counted}
+use Rattle.model.specs.Tracing.{trace}
 use Rattle.model.specs.Emission.{Fields, toSchema, recordsIn, namesIn, columnsIn, countIn}
 
 -- words of 32 bits that the work table has at least

@@ -1,5 +1,5 @@
 -- The census (document 01, "Census"): what is said of each place, counted off the values that stand there. Nothing is merged.
-use mathlib.Core.Bool.{Bool, true, false, _&&_, _||_}
+use mathlib.Core.Bool.{Bool, false, _&&_, _||_}
 use mathlib.Core.List.{List, [], _∷_, _++_}
 use mathlib.Core.Option.{Option, none, some}
 use mathlib.Core.Path.{_≡_}
@@ -9,7 +9,7 @@ use Rattle.logic.specs.Test.{if_then_else_}
 use Rattle.datatype.specs.Codes.{null}
 use Rattle.text.specs.Name.{ltName}
 use Rattle.coerce.specs.Census.{typeSeen, nonNull}
-use Rattle.model.specs.Kinds.{sequenceKind, structKind, mapKind, mapModeKind, isContainer, isStruct, Step, element, key, value, stepCode, same}
+use Rattle.model.specs.Kinds.{sequenceKind, structKind, mapKind, isContainer, isStruct, Step, element, key, value, stepCode, same}
 use Rattle.model.specs.Reading.{Value, val, cut, Parts, no-parts, cut-off, part}
 use Rattle.model.specs.Tracing.{has, holds, one}
 

@@ -12,7 +12,7 @@ use Rattle.options.specs.Word.{allowToString, enumsWithoutDataAsStrings}
 use Rattle.model.specs.Kinds.{structKind, mapKind, mapModeKind, Step}
 use Rattle.model.specs.Reading.{Value, values, isWhole}
 use Rattle.model.specs.Emission.{Field, mk, Fields, no-fields, more, recordsIn, namesIn, countIn, byName}
-use Rattle.model.specs.Answer.{Batch, Buffers, Answer, answer, recordBytes}
+use Rattle.model.specs.Answer.{Batch, Buffers, Answer, recordBytes}
 use Rattle.model.specs.Census.{kindIn, standing}
 
 -- an options word with allow_to_string and enums_without_data_as_strings off

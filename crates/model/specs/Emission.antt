@@ -3,7 +3,7 @@
 use mathlib.Core.Bool.{Bool, true, false, not, _&&_, _||_}
 use mathlib.Core.List.{List, [], _∷_, _++_}
 use mathlib.Core.Option.{Option, none, some}
-use Prim.Native.Nat.{ℕ, zero, suc, _+_, _-_, _*_, _/_, _%_}
+use Prim.Native.Nat.{ℕ, zero, suc, _+_, _-_, _/_, _%_}
 use lib.Dec.{eqb, leb, ltb}
 use lib.ListN.{length}
 use Rattle.logic.specs.Test.{if_then_else_}
@@ -13,7 +13,7 @@ use Rattle.refusal.specs.Number.{nullField, datalessUnion, tooManySlots, nullab
 use Rattle.text.specs.Name.{ltName}
 use Rattle.text.specs.Decimal.{decimal}
 use Rattle.model.specs.Result.{Result, accepted, refused}
-use Rattle.model.specs.Kinds.{sequenceKind, structKind, mapKind, unionKind, tupleKind, mapModeKind, isStruct, Step, field, element, position, key, value, variant, stepCode, variantOf}
+use Rattle.model.specs.Kinds.{sequenceKind, mapKind, unionKind, tupleKind, mapModeKind, isStruct, Step, field, element, position, key, value, variant, variantOf}
 use Rattle.model.specs.Tracing.{Tree, node, Kids, no-kids, kid, one}
 
 -- ---- the places as the walk finds them: whether null is admitted, the kind, and the places below, in order of first sight, the variants

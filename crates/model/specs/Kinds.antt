@@ -1,10 +1,10 @@
 -- What a place can be, and the steps between places.
-use mathlib.Core.Bool.{Bool, true, false, _&&_, _||_}
+use mathlib.Core.Bool.{Bool, true, false, _||_}
 use mathlib.Core.List.{List, [], _∷_}
 use Prim.Native.Nat.{ℕ}
 use lib.Dec.{eqb, leb}
 use Rattle.datatype.specs.Codes.{list, struct, map, union}
-use Rattle.text.specs.Name.{eqName, dots}
+use Rattle.text.specs.Name.{eqName}
 
 -- A kind is the code of a primitive type, Null where nothing else was seen, or one of the containers below. They are the tracers of
 -- tracer.rs. A place shown as struct and one shown as map under map_as_struct are of two modes of the same container.

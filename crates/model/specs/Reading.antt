@@ -1,6 +1,6 @@
 -- From commands and text to values (document 01, "Commands and texts"). Reading is total: where a command cannot be read, a leaf `cut`
 -- with the refusal (4, 5 or 6) and its place stands in the value, and nothing follows it.
-use mathlib.Core.Bool.{Bool, true, false, not, _&&_}
+use mathlib.Core.Bool.{Bool, true, false, _&&_}
 use mathlib.Core.List.{List, [], _∷_}
 use mathlib.Core.Option.{Option, none, some}
 use Prim.Native.Nat.{ℕ, zero, suc, _+_, _*_, _%_}
@@ -16,7 +16,6 @@ use Rattle.commands.specs.declared.Command.{Command}
 use Rattle.commands.specs.declared.Command.the-variants as C
 use Rattle.commands.specs.declared.Read.{Read}
 use Rattle.commands.specs.declared.Read.the-variants as R
-use Rattle.commands.specs.declared.Due.{Due}
 use Rattle.commands.specs.declared.Due.the-variants as D
 use Rattle.commands.specs.Commands.{readCommand, nameAt, endByte}
 use Rattle.model.specs.Kinds.{sequenceKind, structKind, mapKind, tupleKind, unionKind, mapModeKind, Step, field, element, position, key, value, variant}

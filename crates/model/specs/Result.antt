@@ -1,5 +1,4 @@
 -- An outcome: what was asked for, or a refusal with its place.
-use mathlib.Core.Bool.{Bool, true, false}
 use mathlib.Core.Option.{Option, none, some}
 use Prim.Native.Nat.{ℕ}
 

@@ -1,7 +1,6 @@
 -- P1 to P12 of document 01's "Soundings", through the whole answer from bytes: one table and one theorem.
 use mathlib.Core.Path.{_≡_, refl}
 use mathlib.Core.List.{List, [], _∷_, _++_}
-use mathlib.Core.Option.{Option, none, some}
 use Prim.Native.Nat.{ℕ, _+_}
 use lib.ListN.{take, replicate}
 use Rattle.logic.specs.Test.{if_then_else_}

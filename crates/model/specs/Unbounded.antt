@@ -1,6 +1,6 @@
 -- Tracing without the bound on places, as Tracer::from_samples has none: the same tests but refusal 11, and no count is kept. Demand 2 speaks of
 -- it; that it gives what tracing with the bound gives, but for 11, is proved in `equality`.
-use mathlib.Core.Bool.{Bool, true, false, _||_}
+use mathlib.Core.Bool.{Bool, true, _||_}
 use mathlib.Core.List.{List, [], _∷_}
 use Prim.Native.Nat.{ℕ, suc, _+_}
 use Rattle.logic.specs.Test.{if_then_else_}
@@ -8,7 +8,7 @@ use Rattle.refusal.specs.Number.{twoNames}
 use Rattle.model.specs.Result.{Result, accepted, refused, _>>=_}
 use Rattle.model.specs.Kinds.{isContainer, Step}
 use Rattle.model.specs.Reading.{Value, val, cut, Parts, no-parts, cut-off, part}
-use Rattle.model.specs.Tracing.{Tree, node, Kids, no-kids, kid, nullOf, kindOf, samplesOf, kidsOf, fresh, dotsOf, meet, stepsOf, kidAt, put, clashes, made, one, tally}
+use Rattle.model.specs.Tracing.{Tree, node, Kids, no-kids, kid, nullOf, kindOf, samplesOf, kidsOf, dotsOf, meet, stepsOf, kidAt, put, clashes, made, one, tally}
 
 unfoldable pub makeAll : List Step → Kids → Kids
 makeAll [] kids = kids

@@ -4,7 +4,7 @@ use mathlib.Core.List.{List}
 use Prim.Native.Nat.{ℕ, _+_, _*_, _<_}
 use lib.ListN.{getD, set}
 use Rattle.logic.specs.Test.{if_then_else_}
-use Rattle.words.specs.Word.{placeWords, IsRow, hasWord, indexOf, word, withWord}
+use Rattle.words.specs.Word.{placeWords, IsRow, indexOf, word, withWord}
 use Rattle.words.specs.laws.Word.{has-word}
 
 module _ (t : List ℕ) (p f : ℕ) (l : IsRow p) (b : f < placeWords) where

@@ -1,8 +1,8 @@
 -- Worked examples of the definitions, each computed: what a wrong definition would break.
 use mathlib.Core.Path.{_≡_, refl}
-use mathlib.Core.Bool.{Bool, true, false}
+use mathlib.Core.Bool.{true, false}
 use mathlib.Core.List.{List, [], _∷_}
-use mathlib.Core.Option.{Option, none, some}
+use mathlib.Core.Option.{Option, some}
 use Prim.Native.Nat.{ℕ}
 use lib.ListN.{replicate}
 use Rattle.logic.specs.Test.{if_then_else_}
@@ -15,7 +15,7 @@ use Rattle.coerce.specs.Census as Y
 use Rattle.coerce.specs.Joint as J
 use Rattle.commands.specs.Commands as C
 use Rattle.model.specs.Result.{Result, accepted, refused}
-use Rattle.model.specs.Kinds.{Step, field, same}
+use Rattle.model.specs.Kinds.{field, same}
 use Rattle.model.specs.Reading as R
 use Rattle.model.specs.Tracing as T
 use Rattle.model.specs.Emission as E

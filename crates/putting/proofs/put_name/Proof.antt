@@ -2,7 +2,7 @@
 use borrow.Author.Needs.{needs}
 use mathlib.Core.Path.{_≡_, sym, _∙_}
 use mathlib.Core.List.{List}
-use Prim.Native.Nat.{ℕ, _<_}
+use Prim.Native.Nat.{ℕ}
 use Rattle.words.specs.Word.{IsRow}
 use Rattle.model.specs.Tracing.{placeLimit}
 use Rattle.text.specs.declared.Name.{Name}

@@ -16,7 +16,7 @@ use Rattle.commands.specs.declared.Command.the-variants as C
 use Rattle.commands.specs.declared.Due.the-variants as D
 use Rattle.commands.specs.declared.Read.{Read}
 use Rattle.commands.specs.declared.Read.the-variants as R
-use Rattle.commands.specs.Commands.{plain, formOf, operands, made, textByte, badCommand, readCommand}
+use Rattle.commands.specs.Commands.{plain, formOf, made, textByte, badCommand, readCommand}
 use Rattle.commands.specs.laws.Commands.{byteOf, good}
 use Rattle.shapes.specs.declared.Leaf.{Leaf}
 use Rattle.shapes.specs.declared.Leaf.the-variants as O

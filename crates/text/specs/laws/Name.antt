@@ -26,9 +26,6 @@ unfolding eqName
 eqName-refl [] = refl
 eqName-refl (a ∷ x) = rw (eq-eqb a a refl, eqName-refl x)
 
-pub eqName-false : (x y : List ℕ) → eqName x y ≡ false → x ≡ y → ⊥
-eqName-false x y e p = true≢false (sym (eqName-refl x) ∙ ap (eqName x) p ∙ e)
-
 -- a name inside the text has as many bytes as it says
 pub length-bytes : (text : List ℕ) (name : Name) → name .offset + name .length ≤ length text → length (bytesOf text name) ≡ name .length
 length-bytes text name h = simp (length-take, length-drop) (omega arith)

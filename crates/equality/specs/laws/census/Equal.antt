@@ -1,27 +1,26 @@
 -- Equal schemas and equal censuses, of two accepted batches of struct records.
-use mathlib.Core.Path.{_≡_, refl, ap, sym, subst, _∙_}
+use mathlib.Core.Path.{_≡_, refl, ap, sym, _∙_}
 use mathlib.Core.Logic.{_↔_}
-use mathlib.Core.Bool.{Bool, true, false, _||_, true≢false}
+use mathlib.Core.Bool.{true, false, _||_, true≢false}
 use mathlib.Core.List.{List, [], _∷_}
 use mathlib.Core.Option.{Option, none, some}
 use Prim.Native.Nat.{ℕ, _≤_}
-use native.Mathlib.Omega.{arith}
 use lib.Dec.{eqb}
 use lib.ListN.{length}
 use Rattle.logic.specs.Test.{if_then_else_}
 use Rattle.logic.specs.All.{All}
 use Rattle.coerce.specs.Census.{typeSeen, nonNull}
-use Rattle.model.specs.Result.{Result, accepted, refused, _>>=_}
-use Rattle.model.specs.Kinds.{structKind, tupleKind, isContainer, isStruct, Step}
-use Rattle.model.specs.Reading.{Value, values}
+use Rattle.model.specs.Result.{Result, accepted, refused}
+use Rattle.model.specs.Kinds.{structKind, tupleKind, isStruct}
+use Rattle.model.specs.Reading.{Value}
 use Rattle.model.specs.Tracing.{Tree, node, kindOf, fresh, placeLimit, trace}
-use Rattle.model.specs.Emission.{Place, Fields, placeOf, walk, fieldOf, rootFields, rootName, toSchema, recordsIn, namesIn, countIn}
+use Rattle.model.specs.Emission.{Fields, placeOf, walk, fieldOf, rootFields, rootName, toSchema, recordsIn, namesIn, countIn}
 use Rattle.model.specs.Answer.{Batch, Buffers, Answer, schemaOf, answer}
 use Rattle.model.specs.Census.{kindIn, kindsSeen, containerSeen, kindSeen, SameCensus}
 use Rattle.model.specs.Demand3.{Plain, Accepted, SameSchema, StructRecords, Holds, recordsOf}
 use Rattle.equality.specs.laws.Base.{bind-ok, not-refused}
 use Rattle.model.specs.Unbounded.{seeAll, size}
-use Rattle.equality.specs.laws.Proper.{allProper, fits}
+use Rattle.equality.specs.laws.Proper.{allProper}
 use Rattle.equality.specs.laws.emission.Canon.{canon}
 use Rattle.equality.specs.laws.tracing.Count.{traced}
 use Rattle.equality.specs.laws.tracing.Place.{see-all-whole}
@@ -29,10 +28,9 @@ use Rattle.equality.specs.laws.reading.Records.{values-proper}
 use Rattle.equality.specs.laws.census.Kind.{kind-seen}
 use Rattle.equality.specs.laws.census.View.{view, view-census, same-view, distinct-canon}
 use Rattle.equality.specs.laws.emission.Records.{schema-encoded}
-use Rattle.equality.specs.laws.emission.InOrder.{ascends}
 use Rattle.equality.specs.laws.emission.Fields.{kindAt, root-kind, same-root, root-canon}
 use Rattle.equality.specs.laws.tracing.Fitting.{tree-fits, tree-ascends}
-use Rattle.equality.specs.laws.emission.Accepted.{Took, took, holds}
+use Rattle.equality.specs.laws.emission.Accepted.{took, holds}
 
 -- ---- what an accepted schema comes of
 pub record Traced (b : Batch) (schema : Fields) : Type 0 where

@@ -13,7 +13,7 @@ use Rattle.logic.specs.All.{All}
 use Rattle.logic.specs.Maybe.{andThen}
 use Rattle.datatype.specs.Codes.{null, dictionaryUtf8}
 use Rattle.options.specs.Word.{allowToString, stringType}
-use Rattle.coerce.specs.Joint.{joint, joinedFrom, joined, isString}
+use Rattle.coerce.specs.Joint.{joint, joinedFrom, isString}
 use Rattle.coerce.specs.Census.{Fits}
 use Rattle.coerce.specs.laws.Rules.{string-fits, other-fits}
 use Rattle.coerce.specs.laws.Joined.{joint-below, joined-seen}

@@ -200,11 +200,6 @@ mutual
       both (ascends p) (ascendBelow ps) u λ v w.
       and-both (ascends-canon options p c v) (ascends-canons options kind (suc i) ps d w)
 
--- a place has the field of its canon
-pub field-canon : (options : ℕ) (x : List ℕ) (v : ℕ) (c : Place) → Off options → fits options c ≡ true → ascends c ≡ true →
-    fieldOf options x v c ≡ fieldOf options x v (canon c)
-field-canon options x v c o f a = same-canon options x v c (canon c) o f (fits-canon options c f a) a (ascends-canon options c f a) (sym (canon-twice c))
-
 -- ---- the root
 abbrev pub kindAt : Place → ℕ
 kindAt (shown admits kind ps) = kind

@@ -13,7 +13,7 @@ use Rattle.equality.specs.laws.Base.{and-left, and-right, and-both}
 use Rattle.equality.specs.laws.reading.Commands.{agree-further, agree-earlier}
 use Rattle.equality.specs.laws.reading.Values.{done, value-whole, value-on}
 use Rattle.equality.specs.laws.reading.Records.{record-at, records-end, records-cut, records-more, record-cases}
-use Rattle.equality.specs.laws.reading.Locality.{value-kept, value-bound, value-moves, moved, movedAll, moveValue}
+use Rattle.equality.specs.laws.reading.Locality.{value-kept, value-bound, value-moves, movedAll, moveValue}
 use Rattle.equality.specs.laws.reading.Offsets.{forget, forgetAll, forgetAll-moved, forgetAll-append, allWhole-moved}
 
 -- a record that was cut is not whole

@@ -160,11 +160,6 @@ agree-further r cs = record { inside = rw length-append (omega arith); bytes = �
 pub agree-earlier : (r cs : List ℕ) → Agree (r ++ cs) r (length r)
 agree-earlier r cs = record { inside = le-refl (length r); bytes = λ k h. sym (List·getD-append r cs 0 k h) }
 
--- further commands behind it change nothing
-pub command-extends : (r cs : List ℕ) (at : ℕ) (text : List ℕ) (due : Due) (c : Command) (b : ℕ) → readCommand r text at due ≡ R.Command c b →
-    readCommand (r ++ cs) text at due ≡ R.Command c b
-command-extends r cs at text due c b e = command-kept r (r ++ cs) (length r) (agree-further r cs) at text due c b e (reads-inside r text at due c b e)
-
 -- where a field or a key is due and no end stands, the operands are a name
 module _ (commands text : List ℕ) (at : ℕ) (c : Command) (b : ℕ) where
   named-width : (due : Due) → readCommand commands text at due ≡ R.Command c b → (byte : ℕ) → eqb (getD commands at 0) byte ≡ true → width (formOf byte) ≡ 5 → at + 5 ≤ b

@@ -1,9 +1,9 @@
 -- A batch's records in another order: it is accepted again, and its schema differs in the order of struct fields alone.
-use mathlib.Core.Path.{_≡_, refl, ap, ap₂, sym, subst, _∙_}
+use mathlib.Core.Path.{_≡_, refl, ap, ap₂, sym, _∙_}
 use mathlib.Core.Bool.{Bool, true, false, _&&_, _||_}
 use mathlib.Core.List.{List, [], _∷_, _++_, flatten, List·Permᴰ, List·Permᴰ·nil, List·Permᴰ·cons, List·Permᴰ·swap, List·Permᴰ·trans}
-use mathlib.Core.Option.{Option, none, some}
-use Prim.Native.Nat.{ℕ, _+_, _*_, _≤_}
+use mathlib.Core.Option.{none}
+use Prim.Native.Nat.{ℕ, _≤_}
 use native.Mathlib.Omega.{arith}
 use lib.ListN.{length, length-append}
 use Rattle.logic.specs.Test.{if_then_else_}
@@ -11,21 +11,20 @@ use Rattle.logic.specs.laws.Test.{cases}
 use Rattle.logic.specs.All.{All}
 use Rattle.model.specs.Result.{Result, accepted, refused, _>>=_}
 use Rattle.model.specs.Kinds.{Step, same}
-use Rattle.model.specs.Reading.{Value, val, cut, Parts, no-parts, cut-off, part, values}
-use Rattle.model.specs.Tracing.{Tree, fresh, placeLimit, trace}
+use Rattle.model.specs.Reading.{Value, val, cut, Parts, no-parts, cut-off, part}
+use Rattle.model.specs.Tracing.{Tree, fresh, placeLimit}
 use Rattle.model.specs.Emission.{Fields, placeOf, walk, fieldOf, rootFields, rootName, toSchema, countIn, namesIn}
-use Rattle.model.specs.Answer.{Batch, Buffers, Answer, schemaOf, answer, recordBytes}
+use Rattle.model.specs.Answer.{Batch, Buffers, Answer, schemaOf, answer}
 use Rattle.model.specs.Census.{kindIn, partsOf, partsAt, below, standing}
-use Rattle.model.specs.Demand3.{Plain, Accepted, NoPlaceBoth, NoShorter, IsRecord, SameButOrder, Holds, batchOf, recordsOf, shows, asStruct, asMap, inNameOrder}
+use Rattle.model.specs.Demand3.{Plain, Accepted, NoPlaceBoth, NoShorter, IsRecord, SameButOrder, batchOf, recordsOf, shows, asStruct, asMap, inNameOrder}
 use Rattle.equality.specs.laws.Base.{not-refused}
 use Rattle.model.specs.Unbounded.{seeAll, size}
-use Rattle.equality.specs.laws.Proper.{isProper, areProper, allProper, kindFits, partFits, fits}
+use Rattle.equality.specs.laws.Proper.{isProper, areProper, allProper, kindFits}
 use Rattle.equality.specs.laws.tracing.Count.{trace-fits}
 use Rattle.equality.specs.laws.tracing.Place.{see-all-whole}
 use Rattle.equality.specs.laws.reading.Records.{values-proper}
 use Rattle.equality.specs.laws.reading.Offsets.{forget, forgets, forgetAll, blur, all-forget, forgetAll-append}
 use Rattle.equality.specs.laws.reading.Batches.{Records, no-records, one-more, batches-permuted}
-use Rattle.equality.specs.laws.emission.InOrder.{ascends}
 use Rattle.equality.specs.laws.tracing.Fitting.{tree-fits, tree-ascends}
 use Rattle.equality.specs.laws.reordering.Sorted.{sortedPlace}
 use Rattle.equality.specs.laws.reordering.Places.{reordered}

@@ -113,9 +113,6 @@ unfolding ordered asSet
 set-of-ordered [] h = refl
 set-of-ordered (s ∷ ss) h = both (leads s ss) (ordered ss) h λ p q. rw (set-of-ordered ss q) (insert-leads s ss p)
 
-pub set-twice : (ss : List Step) → asSet (asSet ss) ≡ asSet ss
-set-twice ss = set-of-ordered (asSet ss) (ordered-set ss)
-
 -- ---- a set has one list in order
 -- a step that is not preceded by another is not preceded by any that this one does not follow
 leads-on : (s r q : Step) → precedes r s ≡ false → precedes q r ≡ false → precedes q s ≡ false

@@ -256,11 +256,6 @@ mutual
       ∙ ap (gaps slot (if eqb kind unionKind then variantOf s - slot else 0))
       (ap₂ more (order-field options (nameOf s) (variantOf s) p o g a) (order-fields options kind (variantOf s + 1) (suc i) ps o h b))
 
--- places that differ in order only have one field, in order of names
-pub field-reordered : (options : ℕ) (x : List ℕ) (v : ℕ) (c d : Place) → Off options → fits options c ≡ true → fits options d ≡ true → ascends c ≡ true → ascends d ≡ true →
-    sortedPlace c ≡ sortedPlace d → inNameOrderOf (fieldOf options x v c) ≡ inNameOrderOf (fieldOf options x v d)
-field-reordered options x v c d o f g a b e = order-field options x v c o f a ∙ ap (plainField options x v) e ∙ sym (order-field options x v d o g b)
-
 -- ---- the root
 -- the fields of a root in order
 unfoldable rootNames : ℕ → Place → Fields
