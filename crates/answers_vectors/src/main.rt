@@ -1,9 +1,7 @@
 // Replays stored questions: each put to the call over buffers and a table that hold a pattern, and all that comes of
 // it against the answer of the published Rust: the five numbers, what was written, and what had to be left alone.
-ghost use mathlib.Core.Path.{_≡_};
-ghost use mathlib.Core.Bool.{true};
-ghost use Prim.Native.Nat.{ℕ, _<_, _≤_};
-ghost use lib.ListN.{length, getD};
+ghost use Prim.Native.Nat.{_<_, _≤_};
+ghost use lib.ListN.{length};
 use fasthrom::Answer;
 
 // Two bytes of options and ten numbers.
@@ -80,19 +78,6 @@ fn is_written(buffer: &[u8], bytes: &[u8]) -> bool {
     check::same(&buffer[n..], &untouched[n..])
 }
 
-fn is_all(words: &[u32], word: u32) -> bool
-    ensures { λ r. ⌜ (r ≡ true → (k : ℕ) → k < length (now (words .entry)) → getD (now (words .entry)) k 0 ≡ word) ⌝ }
-{
-    let mut i = 0;
-    while i < words.len() {
-        if words[i] != word {
-            return false;
-        }
-        i += 1;
-    }
-    true
-}
-
 // Tested before the commands are read: 1 to 3.
 fn is_early(refusal: u32) -> bool {
     if refusal == 0 {
@@ -104,15 +89,15 @@ fn is_early(refusal: u32) -> bool {
 // The table's first words are zero, the others as they were; after an early refusal all are.
 fn is_left(table: &[u32], refusal: u32) -> bool {
     if is_early(refusal) {
-        return is_all(table, WORD);
+        return replay::is_all(table, WORD);
     }
     if table.len() < USED {
         return false;
     }
-    if !is_all(&table[..USED], 0) {
+    if !replay::is_all(&table[..USED], 0) {
         return false;
     }
-    is_all(&table[USED..], WORD)
+    replay::is_all(&table[USED..], WORD)
 }
 
 // The call over as much of the table and the buffers as the header lends.

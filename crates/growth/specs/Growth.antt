@@ -41,7 +41,7 @@ appended place code name child t = described place code name child (withWord (li
 unfoldable pub tagged : List ℕ → Name → ℕ → List ℕ → List ℕ
 tagged text name child t = withWord t child tagWord (tagOf (bytesOf text name))
 
--- a new numbered child, the table's place n, is stored there
+-- a new numbered child, the table's place n, is stored at the link where the search for it ends
 unfoldable pub entered : ℕ → ℕ → ℕ → List ℕ → List ℕ
 entered place code n t = if isNumbered code then withWord t (seek place code n t .place) (seek place code n t .field) n else t
 

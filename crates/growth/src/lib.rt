@@ -32,7 +32,7 @@ fn enter(place: usize, code: u32, child: usize, table: &mut [u32])
 }
 
 // The link to a new last child: from the place where it is the first, else from the last before it.
-pub fn link(place: usize, child: usize, table: &mut [u32])
+fn link(place: usize, child: usize, table: &mut [u32])
     requires { ⌜ IsRow place × IsRow child × IsTable (now table) × IsRow (word (now table) place lastWord) ⌝ }
     ensures { λ _. ⌜ now (table .exit) ≡ linked place child (now (table .entry)) ⌝ }
 {

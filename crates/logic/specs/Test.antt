@@ -1,4 +1,4 @@
--- Tests: the choice by a test, and what a test tells.
+-- The choice by a test.
 use mathlib.Core.Bool.{Bool, true, false}
 
 infix 1 if_then_else_

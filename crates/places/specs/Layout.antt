@@ -2,7 +2,7 @@
 use mathlib.Core.Path.{_≡_}
 use mathlib.Core.Bool.{true}
 use mathlib.Core.List.{List}
-use Prim.Native.Nat.{ℕ, _<_, _≤_}
+use Prim.Native.Nat.{ℕ, _+_, _<_, _≤_}
 use Rattle.text.specs.Name.{bytesOf, tagOf}
 use Rattle.text.specs.Utf8.{isUtf8}
 use Rattle.words.specs.Word.{word, IsTable, IsRow}
@@ -76,6 +76,10 @@ tagWord = 15
 -- the root's number; no place has it as a child, so that as a link it stands for none
 abbrev pub rootPlace : ℕ
 rootPlace = 0
+
+-- more turns than a search from child to child, or from link to link, takes
+abbrev pub turnLimit : ℕ
+turnLimit = placeLimit + 1
 
 -- What is true of a table with n places: links are places, a next child has a higher number, and names end inside the text.
 pub record Linked (text t : List ℕ) (n : ℕ) : Type 0 where

@@ -1,7 +1,7 @@
 -- The model's tree as the words of the table say it, and the outcome of a flat run.
 use mathlib.Core.Bool.{true, false}
 use mathlib.Core.List.{List}
-use Prim.Native.Nat.{_-_, ℕ, zero, suc, _/_}
+use Prim.Native.Nat.{_-_, ℕ, zero, suc, _*_, _/_, _%_}
 use lib.Dec.{eqb}
 use Rattle.logic.specs.Test.{if_then_else_}
 use Rattle.refusal.specs.Number.{numberOf}
@@ -9,7 +9,7 @@ use Rattle.text.specs.Name.{bytesOf}
 use Rattle.words.specs.Word.{word}
 use Rattle.model.specs.Result.{Result, refused}
 use Rattle.model.specs.Kinds.{Step, field, element, position, key, value, variant}
-use Rattle.model.specs.Tracing.{Tree, node, Kids, no-kids, kid, fresh, Counted, counted}
+use Rattle.model.specs.Tracing.{Tree, node, Kids, no-kids, kid, fresh, placeLimit, Counted, counted}
 use Rattle.shapes.specs.Steps.{fieldCode, unpackedName}
 use Rattle.places.specs.Layout.{kindWord, nullWord, samplesWord, firstWord, nextWord, stepWord, nameWord, heldWord, rootPlace}
 use Rattle.leaves.specs.declared.Traced.the-variants as T
@@ -22,7 +22,7 @@ stepBy code name =
     else if eqb code 1 then key
     else if eqb code 2 then value
     else if eqb code fieldCode then field name
-    else if eqb (Prim.Native.Nat._%_ code 2) 0 then position ((code - 4) / 2)
+    else if eqb (code % 2) 0 then position ((code - 4) / 2)
     else variant ((code - 5) / 2) name
 
 abbrev pub stepAt : List ℕ → List ℕ → ℕ → Step
@@ -44,7 +44,7 @@ unfoldable mutual
       ]
 
 unfoldable pub treeOf : List ℕ → List ℕ → Tree
-treeOf text t = treeAt 2048 text t rootPlace
+treeOf text t = treeAt (2 * placeLimit) text t rootPlace
 
 -- a refusal by its number and place, or the count of places and the tree
 unfoldable pub outcome : List ℕ → Out → Result (Counted Tree)

@@ -1,9 +1,11 @@
 // What the programs that replay stored vectors share. A file of vectors is records one after another, each a byte that
 // counts the bytes after it.
-use libc::STDOUT_FILENO;
-ghost use Prim.Native.Nat.{_≤_, _<_};
-ghost use lib.ListN.{length};
+ghost use mathlib.Core.Path.{_≡_};
+ghost use mathlib.Core.Bool.{true};
+ghost use Prim.Native.Nat.{ℕ, _≤_, _<_};
+ghost use lib.ListN.{length, getD};
 ghost use Rattle.io.specs.Counts.{Counts};
+use libc::STDOUT_FILENO;
 
 // The file's bytes into a buffer: how many, 0 where it cannot be opened.
 pub fn load(path: &[u8], buffer: &mut [u8]) -> usize
@@ -58,4 +60,18 @@ pub fn report(records: usize, what: &[u8], differ: usize) {
     io::write_all(STDOUT_FILENO, what);
     io::print_decimal(STDOUT_FILENO, differ as u64);
     io::write_all(STDOUT_FILENO, b" differ\n");
+}
+
+// Every word is that one.
+pub fn is_all(words: &[u32], word: u32) -> bool
+    ensures { λ r. ⌜ (r ≡ true → (k : ℕ) → k < length (now (words .entry)) → getD (now (words .entry)) k 0 ≡ word) ⌝ }
+{
+    let mut i = 0;
+    while i < words.len() {
+        if words[i] != word {
+            return false;
+        }
+        i += 1;
+    }
+    true
 }

@@ -99,7 +99,7 @@ onWalked k fields names (W.Below records bytes below) = k records bytes below
 
 unfoldable pub toSchemaAt : ℕ → List ℕ → List ℕ → List ℕ → List ℕ → Answered
 toSchemaAt options text t fields names =
-    onWalked (finished options text t fields names) fields names (walked options text t levelLimit 0)
+    onWalked (finished options text t fields names) fields names (walked options text t levelLimit rootPlace)
 
 -- ---- what `finish` and `to_schema` answer for
 abbrev pub Finishes : ℕ → (text table fields names : Slice) → (records bytes below : ℕ) → Emitted → Type 0

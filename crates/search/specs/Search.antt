@@ -12,7 +12,7 @@ use Rattle.words.specs.Word.{word, IsTable, IsRow}
 use Rattle.shapes.specs.declared.Step.{Step}
 use Rattle.shapes.specs.declared.Step.the-variants as S
 use Rattle.shapes.specs.Steps.{fieldCode, codeOf, noName, unpackedName, Inside}
-use Rattle.places.specs.Layout.{firstWord, blockWord, nextWord, stepWord, nameWord, Sound}
+use Rattle.places.specs.Layout.{firstWord, blockWord, nextWord, stepWord, nameWord, Sound, turnLimit}
 use Rattle.search.specs.Tree.{seek}
 
 -- what is asked where the name of a child is compared: the child is a row of the table, and both names lie in the text
@@ -35,7 +35,7 @@ findTurn text code name t child =
 
 -- from a child on
 unfoldable pub findFrom : List ℕ → ℕ → Name → List ℕ → ℕ → ℕ
-findFrom text code name t child = turns (findTurn text code name t) (λ c. 0) 1025 child
+findFrom text code name t child = turns (findTurn text code name t) (λ c. 0) turnLimit child
 
 abbrev pub findIn : List ℕ → ℕ → ℕ → Name → List ℕ → ℕ
 findIn text place code name t = findFrom text code name t (word t place firstWord)

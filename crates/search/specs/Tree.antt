@@ -11,7 +11,7 @@ use Rattle.logic.specs.Turns.{Turn, again, done, turns}
 use Rattle.words.specs.Word.{word}
 use Rattle.shapes.specs.Steps.{fieldCode}
 use Rattle.search.specs.declared.Slot.{Slot}
-use Rattle.places.specs.Layout.{rootWord, leftWord, rightWord, stepWord}
+use Rattle.places.specs.Layout.{rootWord, leftWord, rightWord, stepWord, turnLimit}
 
 -- variants and positions, by their codes
 abbrev pub isNumbered : ℕ → Bool
@@ -45,7 +45,7 @@ unfoldable pub seekStop : Seeking → Slot
 seekStop (seeking bits place field) = slot 0 place field
 
 unfoldable pub seekFrom : ℕ → ℕ → List ℕ → Seeking → Slot
-seekFrom code n t s = turns (seekTurn code n t) seekStop 1025 s
+seekFrom code n t s = turns (seekTurn code n t) seekStop turnLimit s
 
 -- the link at which the search for a code ends, and the child that it leads to: the one with the code, or none
 abbrev pub seek : ℕ → ℕ → ℕ → List ℕ → Slot

@@ -69,7 +69,7 @@ mutual
 -- the tree that a table says, from its root on
 pub tree-of : (n : ℕ) (text t : List ℕ) (u : Spot) → n ≤ placeLimit → num u ≡ 0 → Good n u → Rep text t u → treeOf text t ≡ erase u
 unfolding treeOf
-tree-of n text t u l z g r = rw z at (tree-is 2048 n text t u (omega arith) g r)
+tree-of n text t u l z g r = rw z at (tree-is (2 * placeLimit) n text t u (omega arith) g r)
 
 same-outcome : {text : List ℕ} {x : Result (Counted Spot)} {y : Out} → Ends text x y → outcome text y ≡ erased x
 unfolding outcome

@@ -31,7 +31,6 @@ module _ (commands text : List ℕ) (options : ℕ) where
       after-falls commands i at _ (readers-on commands text options levelLimit 0 N.Value 0 at 0 n t (omega arith)))
       (λ e. tt)
 
--- ---- the records
 module _ (commands text : List ℕ) (options at n : ℕ) (t : List ℕ) (r : Out) (whole : recordsAt commands text options at n t ≡ r) where
   pub records-end : length commands ≤ at → out (T.Next at n) t ≡ r
   unfolding recordsAt recordTurn if_then_else_

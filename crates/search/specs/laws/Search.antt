@@ -20,7 +20,7 @@ use Rattle.model.specs.Tracing.{placeLimit}
 use Rattle.shapes.specs.declared.Step.{Step}
 use Rattle.shapes.specs.declared.Step.the-variants as S
 use Rattle.shapes.specs.Steps.{fieldCode, noName, unpackedName}
-use Rattle.places.specs.Layout.{firstWord, blockWord, nextWord, stepWord, nameWord, tagWord, Tagged, Sound}
+use Rattle.places.specs.Layout.{firstWord, blockWord, nextWord, stepWord, nameWord, tagWord, Tagged, Sound, turnLimit}
 use Rattle.search.specs.Search.{isAt, findTurn, findFrom, findIn, inBlock, childAt, Past}
 use Rattle.search.specs.laws.Tree.{seek-below}
 use Rattle.places.specs.laws.Layout.{first-below, next-below}
@@ -28,7 +28,7 @@ use Rattle.places.specs.laws.Layout.{first-below, next-below}
 -- ---- the search for a child
 -- how many children may still follow: numbers rise, and 0 is none
 abbrev pub childrenLeft : ℕ → ℕ
-childrenLeft child = (1025 - child) % 1025
+childrenLeft child = (turnLimit - child) % turnLimit
 
 pub left-falls : (text t : List ℕ) (n child x : ℕ) → Sound text t n → child < n → (child ≡ 0 → ⊥) → x ≡ word t child nextWord → childrenLeft x < childrenLeft child
 left-falls text t n child x s h z e =
@@ -56,12 +56,12 @@ module _ (text t : List ℕ) (n code : ℕ) (name : Name) (s : Sound text t n) w
       (λ f. rw (e, f) (h, λ z. f))
       (λ f. rw (e, f) (next-below text t n child _ s h refl, left-falls text t n child _ s h (eqb-false child 0 e) refl)))
 
-  enough : (child : ℕ) → child < n → childrenLeft child < 1025
+  enough : (child : ℕ) → child < n → childrenLeft child < turnLimit
   enough child h = omega arith
 
   find-known : (child : ℕ) → child < n → Found (findFrom text code name t child)
   unfolding findFrom
-  find-known child h = holds-within turn (λ c. 0) (λ c. c < n) Found childrenLeft turn-keeps 1025 child h (enough child h)
+  find-known child h = holds-within turn (λ c. 0) (λ c. c < n) Found childrenLeft turn-keeps turnLimit child h (enough child h)
 
   -- a child found is a place, and stands at the step
   pub find-below : (child : ℕ) → child < n → findFrom text code name t child < n
@@ -76,7 +76,7 @@ module _ (text t : List ℕ) (n code : ℕ) (name : Name) (s : Sound text t n) w
   module _ (child r : ℕ) (h : child < n) (whole : findFrom text code name t child ≡ r) where
     ends-there : (c : ℕ) → turn child ≡ done c → c ≡ r
     unfolding findFrom
-    ends-there c e = sym (ends-within turn (λ c. 0) (λ c. c < n) Found childrenLeft turn-keeps 1025 child c (enough child h) e) ∙ whole
+    ends-there c e = sym (ends-within turn (λ c. 0) (λ c. c < n) Found childrenLeft turn-keeps turnLimit child c (enough child h) e) ∙ whole
 
     pub find-none : child ≡ 0 → 0 ≡ r
     unfolding findTurn if_then_else_
@@ -90,7 +90,7 @@ module _ (text t : List ℕ) (n code : ℕ) (name : Name) (s : Sound text t n) w
       pub find-next : (x : ℕ) → at ≡ false → x ≡ word t child nextWord → findFrom text code name t x ≡ r
       unfolding findFrom findTurn if_then_else_
       find-next x e d =
-          sym (goes-on-within turn (λ c. 0) (λ c. c < n) Found childrenLeft turn-keeps 1025 child x h (enough child h) (rw (ne-eqb child 0 known, ← is-at, e, d))) ∙ whole
+          sym (goes-on-within turn (λ c. 0) (λ c. c < n) Found childrenLeft turn-keeps turnLimit child x h (enough child h) (rw (ne-eqb child 0 known, ← is-at, e, d))) ∙ whole
 
 -- ---- the search for a field
 -- a child that stands at a field has the name's bytes
@@ -163,7 +163,7 @@ module _ (text t : List ℕ) (code : ℕ) (name : Name) (no-field : code ≡ fie
 -- so that the name does not matter
 pub any-name : (text t : List ℕ) (place code : ℕ) (name other : Name) → (code ≡ fieldCode → ⊥) → findIn text place code name t ≡ findIn text place code other t
 unfolding findFrom findTurn
-any-name text t place code name other no-field = ap (λ turn. turns turn (λ c. 0) 1025 (word t place firstWord)) (fun-ext same)
+any-name text t place code name other no-field = ap (λ turn. turns turn (λ c. 0) turnLimit (word t place firstWord)) (fun-ext same)
   where
     same : (child : ℕ) → findTurn text code name t child ≡ findTurn text code other t child
     same child = rw (by-code text t code name no-field child, by-code text t code other no-field child)

@@ -13,7 +13,7 @@ use Rattle.logic.specs.laws.Invariant.{Keeps, goes-on-within, ends-within, hold
 use Rattle.words.specs.Word.{word}
 use Rattle.model.specs.Tracing.{placeLimit}
 use Rattle.search.specs.declared.Slot.{Slot}
-use Rattle.places.specs.Layout.{rootWord, leftWord, rightWord, stepWord}
+use Rattle.places.specs.Layout.{rootWord, leftWord, rightWord, stepWord, turnLimit}
 use Rattle.search.specs.Tree.{Seeking, follow, seek, seekAt, seekFrom, seekStop, seekTurn, seeking, sideWord, slot}
 
 -- ---- a link
@@ -68,7 +68,7 @@ module _ (code n : ℕ) (t : List ℕ) (F : ℕ → Type 0) (root : F rootWord) 
 
   pub seek-ends : (place : ℕ) → place < n → n ≤ placeLimit → Ends (seek place code n t)
   unfolding seekFrom
-  seek-ends place h m = holds-within (seekTurn code n t) seekStop Before Ends ahead turn-ends 1025 (seeking (code / 2) place rootWord) (h, root) (omega arith)
+  seek-ends place h m = holds-within (seekTurn code n t) seekStop Before Ends ahead turn-ends turnLimit (seeking (code / 2) place rootWord) (h, root) (omega arith)
 
 -- what it finds is a place
 pub seek-below : (code n : ℕ) (t : List ℕ) (place : ℕ) → place < n → n ≤ placeLimit → seek place code n t .child < n
@@ -91,7 +91,7 @@ module _ (code n : ℕ) (t : List ℕ) (bits place field child : ℕ) (r : Slot)
   ends-there : (s : Slot) → turn (seeking bits place field) ≡ done s → s ≡ r
   unfolding seekFrom
   ends-there s e = sym (ends-within turn seekStop (Before code n t Any tt tt tt) (Ends code n t Any tt tt tt) (ahead code n t Any tt tt tt)
-      (turn-ends code n t Any tt tt tt) 1025 (seeking bits place field) s (omega arith) e) ∙ whole
+      (turn-ends code n t Any tt tt tt) turnLimit (seeking bits place field) s (omega arith) e) ∙ whole
 
   pub seek-none : child ≡ 0 → slot 0 place field ≡ r
   unfolding seekTurn seekAt if_then_else_
@@ -107,7 +107,7 @@ module _ (code n : ℕ) (t : List ℕ) (bits place field child : ℕ) (r : Slot)
     seek-next next d x =
         ap (λ (w : ℕ). seekFrom code n t (seeking (bits / 2) child w)) x
         ∙ sym (goes-on-within turn seekStop (Before code n t Any tt tt tt) (Ends code n t Any tt tt tt) (ahead code n t Any tt tt tt)
-        (turn-ends code n t Any tt tt tt) 1025 (seeking bits place field) (seeking (bits / 2) child (sideWord bits)) (here, tt) (omega arith)
+        (turn-ends code n t Any tt tt tt) turnLimit (seeking bits place field) (seeking (bits / 2) child (sideWord bits)) (here, tt) (omega arith)
         (rw (← leads, ne-eqb child 0 known, ← at, ne-eqb step code d))) ∙ whole
 
 -- ---- the search in another table, where the links that lead to a child lead to the same, with the same code: it ends at the same link
@@ -143,4 +143,4 @@ module _ (code n n′ : ℕ) (t t′ : List ℕ) (P : ℕ → ℕ → Type 0)
 
   pub seek-again : (p : ℕ) → P p rootWord → n ≤ placeLimit → Again (seek p code n t) (seek p code n′ t′)
   unfolding seekFrom
-  seek-again p h m = again-from 1025 (code / 2) p rootWord (omega arith) h
+  seek-again p h m = again-from turnLimit (code / 2) p rootWord (omega arith) h

@@ -21,7 +21,7 @@ use Rattle.model.specs.Kinds.{sequenceKind, unionKind, mapKind, mapModeKind, is
 use Rattle.model.specs.Tracing.{placeLimit}
 use Rattle.model.specs.Emission.{shown, byNumber, placeOf, placesOf, isMissing, isDataless, dataless, walk, walks, Field, mk, Fields, no-fields, more, nameOf, entriesName, byName, gaps, arranged, fieldOf, fieldsOf, childCount, namesOf, namesIn, columnsOf, columnsIn, countOf, countIn}
 use Rattle.model.specs.Emission as Model
-use Rattle.places.specs.Layout.{kindWord}
+use Rattle.places.specs.Layout.{kindWord, turnLimit}
 use Rattle.refine.specs.laws.numbered.Tree.{Spot, spot, Spots, no-spots, child, num, kindS}
 use Rattle.refine.specs.laws.numbered.Numbers.{Good, GoodIn}
 use Rattle.refine.specs.laws.words.Places.{Rep, RepIn}
@@ -72,7 +72,7 @@ next-ordered : (t : List ℕ) (k p last : ℕ) → eqb k unionKind ≡ true → 
 unfolding isOrdered nextChild if_then_else_
 next-ordered t k p last e = rw e
 
-onward-next : (slot : ℕ) → slot < 1025 → onward slot ≡ slot + 1
+onward-next : (slot : ℕ) → slot < turnLimit → onward slot ≡ slot + 1
 onward-next slot l = omega arith
 
 module _ (options : ℕ) (text t : List ℕ) (inner : ℕ → Walked) (k p m : ℕ) where

@@ -19,7 +19,7 @@ use Rattle.model.specs.Tracing.{one, placeLimit, has, clashes}
 use Rattle.equality.specs.laws.Base.{same-true, same-refl, or-cases}
 use Rattle.shapes.specs.declared.Step as Flat
 use Rattle.shapes.specs.Steps.{Inside, unpackedName, packedName, codeOf, nameOf}
-use Rattle.places.specs.Layout.{kindWord, firstWord, lastWord, rootWord, blockWord, leftWord, nextWord, parentWord, stepWord, nameWord, rightWord}
+use Rattle.places.specs.Layout.{kindWord, firstWord, lastWord, rootWord, blockWord, leftWord, nextWord, parentWord, stepWord, nameWord, rightWord, turnLimit}
 use Rattle.growth.specs.Growth.{linked, appended, described}
 use Rattle.search.specs.Search.{isAt, findTurn, findFrom, findIn}
 use Rattle.refine.specs.laws.numbered.Tree.{Spot, spot, Spots, no-spots, child, num, belowS, stepsS, newSpot, spotAt, addS}
@@ -97,7 +97,7 @@ module _ (text t : List ℕ) (f : Flat.Step) (s : Step) (st : Stands text f s) w
   unfolding findFrom
   sought n p b k m ks h =
       let x : word t p firstWord ≡ firstOf ks = h .rep .0 3 (omega arith) in
-      rw x (seek n p p 1025 ks (h .most) (omega arith) (h .good .2) (h .rep .1))
+      rw x (seek n p p turnLimit ks (h .most) (omega arith) (h .good .2) (h .rep .1))
 
   pub picked : (n p c : ℕ) (ks : Spots) → GoodIn n c ks → RepIn text t p ks → nearIn s ks ≡ true → Picked text t s ks
   unfolding nearIn has stepsS spotAt if_then_else_

@@ -1,8 +1,8 @@
 -- `climb` never goes down.
 use borrow.Author.Needs.{needs}
 use Prim.Native.Nat.{_≤_}
-use Rattle.schema_list.proofs.climb.Statement.{statement}
-use Rattle.schema_list.proofs.climb.Tie as tie
+use Rattle.listing.proofs.climb.Statement.{statement}
+use Rattle.listing.proofs.climb.Tie as tie
 
 abbrev Inv-loop : tie.InvT-loop
 Inv-loop due₀ level level₀ due level' = level' ≤ level

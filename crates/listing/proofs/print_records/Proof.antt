@@ -2,8 +2,8 @@
 use borrow.Author.Needs.{needs}
 use Prim.Native.Nat.{_-_, _*_, _≤_}
 use lib.ListN.{length}
-use Rattle.schema_list.proofs.print_records.Statement.{statement}
-use Rattle.schema_list.proofs.print_records.Tie as tie
+use Rattle.listing.proofs.print_records.Statement.{statement}
+use Rattle.listing.proofs.print_records.Tie as tie
 
 abbrev Inv-loop : tie.InvT-loop
 Inv-loop fields names due₀ level₀ name₀ at₀ due level name at = (at ≤ length fields) × (name ≤ length names) × (level * 8 ≤ at)

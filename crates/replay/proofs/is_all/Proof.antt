@@ -7,8 +7,8 @@ use Prim.Native.Nat.{ℕ, _-_, _<_, _≤_}
 use native.Mathlib.Nat.{lt-of-lt-of-le}
 use lib.Dec.{T}
 use lib.ListN.{length, getD}
-use Rattle.answers_vectors.proofs.is_all.Statement.{statement}
-use Rattle.answers_vectors.proofs.is_all.Tie as tie
+use Rattle.replay.proofs.is_all.Statement.{statement}
+use Rattle.replay.proofs.is_all.Tie as tie
 
 abbrev Inv-loop : tie.InvT-loop
 Inv-loop words word i₀ i = (i ≤ length words) × ((k : ℕ) → k < i → getD words k 0 ≡ word)
