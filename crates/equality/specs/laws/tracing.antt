@@ -6,3 +6,5 @@ pub mod Refusals
 pub mod Kinds
 pub mod Acceptance
 pub mod Place
+pub mod Needs
+pub mod Ascending

@@ -1,17 +1,21 @@
 -- Tracer::from_samples has no bound on places: the bound changes nothing but where it is met (refusal 11).
 use mathlib.Core.Path.{_≡_, refl, sym, _∙_}
 use mathlib.Core.List.{List, [], _∷_}
-use mathlib.Core.Bool.{true, not, true≢false}
-use Prim.Native.Nat.{ℕ, _+_}
+use mathlib.Core.Bool.{true, false, not, true≢false}
+use mathlib.Core.Option.{Option, none, some}
+use Prim.Native.Nat.{ℕ, _+_, _≤_}
+use native.Mathlib.Omega.{arith}
 use lib.Dec.{ltb}
+use borrow.Author.Tests.{ltb-false}
 use Rattle.logic.specs.Test.{if_then_else_}
 use Rattle.logic.specs.laws.Test.{cases}
-use Rattle.refusal.specs.Number.{twoNames, tooManyPlaces}
-use Rattle.model.specs.Result.{Result, accepted, refused, _>>=_}
+use Rattle.refusal.specs.Number.{twoNames, noJoint, tooManyPlaces}
+use Rattle.coerce.specs.Joint.{joint}
+use Rattle.model.specs.Result.{Result, accepted, refused, _>>=_, orRefused}
 use Rattle.model.specs.Kinds.{Step, isVariant}
 use Rattle.model.specs.Reading.{Value, val, cut, Parts, no-parts, cut-off, part}
 use Rattle.model.specs.Tracing.{Tree, Kids, kindOf, kidsOf, fresh, dotsOf, placeLimit, meet, stepsOf, has, kidAt, put, clashes, room, made, make, observe, observeParts, observeAll, trace}
-use Rattle.equality.specs.laws.Base.{and-left, and-right, not-refused}
+use Rattle.equality.specs.laws.Base.{and-left, and-right, not-refused, choice}
 use Rattle.model.specs.Unbounded.{allowed, see, seeParts, seeAll}
 use Rattle.equality.specs.laws.tracing.Count.{noVariants, made-no-variants, no-clash, counted-make, counted, room-ok}
 
@@ -20,11 +24,11 @@ same-refusal : {A B : Type 0} {n at m p : ℕ} → _≡_ {A = Result A} (refused
 same-refusal {n = n} {at = at} {m = m} {p = p} e = let a : n ≡ m = cc in let b : at ≡ p = cc in rw (a, b) refl
 
 -- what is refused was refused at first, or after it
-bind-no : {A B P : Type 0} (r : Result A) (f : A → Result B) (m p : ℕ) → (r >>= f) ≡ refused m p → (r ≡ refused m p → P) → ((a : A) → r ≡ accepted a → f a ≡ refused m p → P) → P
+pub bind-no : {A B P : Type 0} (r : Result A) (f : A → Result B) (m p : ℕ) → (r >>= f) ≡ refused m p → (r ≡ refused m p → P) → ((a : A) → r ≡ accepted a → f a ≡ refused m p → P) → P
 bind-no (accepted a) f m p e h k = k a refl e
 bind-no (refused n at) f m p e h k = h (same-refusal e)
 
-not-accepted : {A P : Type 0} {n at : ℕ} {a : A} → accepted a ≡ refused n at → P
+pub not-accepted : {A P : Type 0} {n at : ℕ} {a : A} → accepted a ≡ refused n at → P
 not-accepted e = not-refused (sym e)
 
 abbrev Other : ℕ → Type 0
@@ -43,6 +47,42 @@ room-no at s n ks m p e o k =
     cases (ltb n placeLimit)
     (λ h. let q : accepted (n + 1) ≡ refused m p = rw (f, g, h) at e in not-accepted q)
     (λ h. let q : _≡_ {A = Result ℕ} (refused tooManyPlaces at) (refused m p) = rw (f, g, h) at e in absurd (o (let z : tooManyPlaces ≡ m = cc in sym z)))))
+
+-- for the bound, where it is reached, and the place is not there
+pub eleven-room : {P : Type 0} (at : ℕ) (s : Step) (n : ℕ) (ks : Kids) (p : ℕ) → room at s n ks ≡ refused tooManyPlaces p
+    → (clashes s (stepsOf ks) ≡ false → has s (stepsOf ks) ≡ false → placeLimit ≤ n → at ≡ p → P) → P
+unfolding room if_then_else_
+eleven-room at s n ks p e k =
+    cases (clashes s (stepsOf ks))
+    (λ f. let q : _≡_ {A = Result ℕ} (refused twoNames at) (refused tooManyPlaces p) = rw f at e in absurd (let z : twoNames ≡ tooManyPlaces = cc in omega arith))
+    (λ f.
+    cases (has s (stepsOf ks))
+    (λ g. let q : accepted n ≡ refused tooManyPlaces p = rw (f, g) at e in not-accepted q)
+    (λ g.
+    cases (ltb n placeLimit)
+    (λ h. let q : accepted (n + 1) ≡ refused tooManyPlaces p = rw (f, g, h) at e in not-accepted q)
+    (λ h. let q : _≡_ {A = Result ℕ} (refused tooManyPlaces at) (refused tooManyPlaces p) = rw (f, g, h) at e in k f g (ltb-false n placeLimit h) cc)))
+
+-- kinds that meet are not refused for it
+abbrev Apart : {A : Type 0} → Result A → Type 0
+Apart (accepted a) = Unit {0}
+Apart (refused n at) = Other n
+
+or-apart : {A : Type 0} (at : ℕ) (r : Option A) → Apart (orRefused noJoint at r)
+or-apart at none = λ e. omega arith
+or-apart at (some a) = tt
+
+meet-apart : (o d at k h : ℕ) → Apart (meet o d at k h)
+unfolding meet
+meet-apart o d at k h =
+    choice Apart _ (λ _ e. omega arith) λ _.
+    choice Apart _ (λ _. or-apart at (joint o k h)) λ _.
+    choice Apart _ (λ _. tt) λ _.
+    choice Apart _ (λ _. tt) λ _.
+    choice Apart _ (λ _. tt) (λ _ e. omega arith)
+
+pub eleven-meet : {P : Type 0} (o d at k h p : ℕ) → meet o d at k h ≡ refused tooManyPlaces p → P
+eleven-meet o d at k h p e = absurd (let f : Other tooManyPlaces = rw e at (meet-apart o d at k h) in f refl)
 
 -- of places that are no variants, for the bound alone
 make-no : {P : Type 0} (at : ℕ) (ss : List Step) (n : ℕ) (ks : Kids) (m p : ℕ) → noVariants ss ≡ true → make at ss n ks ≡ refused m p → Other m → P
