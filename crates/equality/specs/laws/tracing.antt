@@ -8,3 +8,4 @@ pub mod Acceptance
 pub mod Place
 pub mod Needs
 pub mod Ascending
+pub mod Held
