@@ -2,27 +2,29 @@
 -- contract allows, so of every call that is made; that a call ends at all is part of what is proved of a function.
 --
 -- The words are those of the model: Batch, Buffers, Answer, schemaOf, withSchema, turnedDown (Answer), from commands to values (Reading), places
--- (Tracing, Unbounded), field records (Emission), the census (Census), equal schemas and records in another order (Demand3).
+-- (Tracing, Unbounded), how many and which command needs them (Bound), field records (Emission), the census (Census), equal schemas and records
+-- in another order (Demand3).
 use mathlib.Core.Path.{_≡_, refl, _∙_}
 use mathlib.Core.Bool.{false}
 use mathlib.Core.List.{List, List·Permᴰ}
 use mathlib.Core.Logic.{_⊎_, inl, inr, _↔_}
-use Prim.Native.Nat.{ℕ, _<_, _≤_, zero-le}
+use Prim.Native.Nat.{ℕ, _≤_, zero-le}
 use native.Mathlib.Omega.{arith}
 use lib.ListN.{length}
 use Rattle.logic.specs.All.{All}
 use Rattle.refusal.specs.Number.{tooManyPlaces}
 use Rattle.model.specs.Result.{Result, accepted, _>>=_}
 use Rattle.model.specs.Tracing.{Tree, fresh, placeLimit}
-use Rattle.model.specs.Unbounded.{seeAll, size}
+use Rattle.model.specs.Unbounded.{seeAll}
+use Rattle.model.specs.Bound.{AtMost, Exceeds}
 use Rattle.model.specs.Emission.{Fields, toSchema}
-use Rattle.model.specs.Answer.{tableWords, Batch, Buffers, Answer, WellFormed, schemaOf, isShort, cleared, withSchema, answerOf, answer}
+use Rattle.model.specs.Answer.{tableWords, Batch, Buffers, Answer, WellFormed, schemaOf, isShort, cleared, turnedDown, zeroed, withSchema, answerOf, answer}
 use Rattle.model.specs.Census.{SameCensus}
 use Rattle.model.specs.Demand3.{Plain, Accepted, SameSchema, StructRecords, NoPlaceBoth, IsRecord, NoShorter, SameButOrder, batchOf, recordsOf}
 use Rattle.fasthrom.specs.declared.Answer as R
 use Rattle.fasthrom.specs.Called.{said, Called}
 use Rattle.equality.specs.laws.emission.Answers.{Ending, barred, turned, whole, answer-ends}
-use Rattle.call.specs.laws.Bounded.{read-through, as-unbounded, too-many, past-reading}
+use Rattle.equality.specs.laws.emission.Bounded.{read-through, as-unbounded, as-demanded, exactly, past-reading}
 use Rattle.call.specs.laws.Demand3.{Took, alike, again}
 
 -- One call: what was handed in and lent, the numbers answered and what was left in the buffers, tied by the function's contract.
@@ -118,19 +120,22 @@ abbrev pub rust : Batch → Result Fields
 rust b = fromSamples b >>= toSchema (b .options) (length (b .commands))
 
 pub record Demand2 (b : Batch) (lent : Buffers) (a : Answer) : Type 0 where
-  -- unless a 1,025th place is needed, the answer is what the Rust gives: its refusal and place, or its schema, which fits or gets 18
+  -- a batch of at most 1,024 places, read off its census, gets what the Rust gives: its refusal and place, or its schema, which fits or gets 18
+  pub within : AtMost placeLimit (b .options) (recordsOf b) → a ≡ answerOf b lent (rust b)
+  -- so does every other, unless a 1,025th place is needed
   pub equal : (a .refusal ≡ tooManyPlaces → ⊥) → a ≡ answerOf b lent (rust b)
-  -- and what has at most 1,024 places is not refused for them
-  pub places : a .refusal ≡ tooManyPlaces → (tree : Tree) → fromSamples b ≡ accepted tree → placeLimit < size tree
+  -- which is said at p exactly if the command there is the first that needs it, and the Rust refuses none before p
+  pub eleven : (p : ℕ) → (a ≡ turnedDown tooManyPlaces p (zeroed lent)) ↔ Exceeds (b .options) (recordsOf b) p
   -- a well-formed batch is turned down for none of 1 to 6
   pub read : (a .refusal ≡ 0) ⊎ (7 ≤ a .refusal)
 
-equals : (b : Batch) (lent : Buffers) → WellFormed b → tableWords ≤ length (lent .table) → Demand2 b lent (answerOf b lent (schemaOf b))
-equals b lent w t = record { equal = as-unbounded b lent; places = too-many b lent; read = past-reading b lent w }
-
 pub demand-2 : (call : Call) → WellFormed (call .batch) → tableWords ≤ length (call .lent .table) →
     Demand2 (call .batch) (call .lent) (gave call)
-demand-2 call w t = rw (is call ∙ read-through (call .batch) (call .lent) w t) (equals (call .batch) (call .lent) w t)
+demand-2 call w t =
+    let b = call .batch in
+    let lent = call .lent in
+    rw (is call ∙ read-through b lent w t)
+    (record { within = as-demanded b lent w; equal = as-unbounded b lent; eleven = exactly b lent w; read = past-reading b lent w })
 
 -- ---- Demand 3
 -- "For every options word with allow_to_string and enums_without_data_as_strings off, and every two batches of struct records accepted under

@@ -5,3 +5,4 @@ pub mod Records
 pub mod Variants
 pub mod Accepted
 pub mod Answers
+pub mod Bounded

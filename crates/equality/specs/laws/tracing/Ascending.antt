@@ -4,7 +4,7 @@ use mathlib.Core.Path.{_≡_, refl, sym, ap, _∙_}
 use mathlib.Core.Bool.{Bool, true, false, true≢false}
 use mathlib.Core.List.{List, [], _∷_}
 use mathlib.Core.Option.{Option, none, some}
-use Prim.Native.Nat.{ℕ, zero, suc, _+_, _≤_, zero-le}
+use Prim.Native.Nat.{ℕ, zero, suc, _+_, _≤_}
 use native.Mathlib.Nat.{le-refl}
 use native.Mathlib.Omega.{arith}
 use lib.ListN.{length}
@@ -24,7 +24,7 @@ use Rattle.equality.specs.laws.reading.Steps.{read-cases, next-cases, va
 use Rattle.equality.specs.laws.reading.Values.{done, none-behind, value-whole, next-inside, rest-on, value-on}
 use Rattle.equality.specs.laws.reading.Records.{record-at, records-end, records-cut, records-more, record-cases}
 use Rattle.equality.specs.laws.tracing.Count.{counted-make, counted, room-ok}
-use Rattle.equality.specs.laws.tracing.Bound.{bind-no, not-accepted, eleven-meet, eleven-room}
+use Rattle.equality.specs.laws.tracing.Bound.{bind-no, not-accepted, eleven-meet}
 
 -- ---- reading
 -- the commands of a value stand in order, from one offset to another; a value that was cut has no end

@@ -31,11 +31,11 @@ bind-no (refused n at) f m p e h k = h (same-refusal e)
 pub not-accepted : {A P : Type 0} {n at : ℕ} {a : A} → accepted a ≡ refused n at → P
 not-accepted e = not-refused (sym e)
 
-abbrev Other : ℕ → Type 0
+abbrev pub Other : ℕ → Type 0
 Other m = m ≡ tooManyPlaces → ⊥
 
 -- room is refused for two names, or for the bound
-room-no : {P : Type 0} (at : ℕ) (s : Step) (n : ℕ) (ks : Kids) (m p : ℕ) → room at s n ks ≡ refused m p → Other m → (clashes s (stepsOf ks) ≡ true → allowed at s ks ≡ refused m p → P) → P
+pub room-no : {P : Type 0} (at : ℕ) (s : Step) (n : ℕ) (ks : Kids) (m p : ℕ) → room at s n ks ≡ refused m p → Other m → (clashes s (stepsOf ks) ≡ true → allowed at s ks ≡ refused m p → P) → P
 unfolding room allowed if_then_else_
 room-no at s n ks m p e o k =
     cases (clashes s (stepsOf ks))
@@ -85,7 +85,7 @@ pub eleven-meet : {P : Type 0} (o d at k h p : ℕ) → meet o d at k h ≡ refu
 eleven-meet o d at k h p e = absurd (let f : Other tooManyPlaces = rw e at (meet-apart o d at k h) in f refl)
 
 -- of places that are no variants, for the bound alone
-make-no : {P : Type 0} (at : ℕ) (ss : List Step) (n : ℕ) (ks : Kids) (m p : ℕ) → noVariants ss ≡ true → make at ss n ks ≡ refused m p → Other m → P
+pub make-no : {P : Type 0} (at : ℕ) (ss : List Step) (n : ℕ) (ks : Kids) (m p : ℕ) → noVariants ss ≡ true → make at ss n ks ≡ refused m p → Other m → P
 unfolding make
 make-no at [] n ks m p v e o = not-accepted e
 make-no at (s ∷ ss) n ks m p v e o =
@@ -96,7 +96,7 @@ make-no at (s ∷ ss) n ks m p v e o =
 mutual
   unfolding observe see allowed if_then_else_
 
-  value-no : (o d : ℕ) (v : Value) (n : ℕ) (t : Tree) (m p : ℕ) → observe o d v n t ≡ refused m p → Other m → see o d v t ≡ refused m p
+  pub value-no : (o d : ℕ) (v : Value) (n : ℕ) (t : Tree) (m p : ℕ) → observe o d v n t ≡ refused m p → Other m → see o d v t ≡ refused m p
   value-no o d (cut n′ at) n t m p e x = same-refusal e
   value-no o d (val at b k l ps) n t m p e x =
       bind-no (meet o d at (kindOf t) k) _ m p e (λ f. rw f refl) λ j e₁ f.
@@ -106,7 +106,7 @@ mutual
       (λ h. rw (e₁, made-all, parts-no o d ps (q .places) (q .what) m p h x) refl)
       (λ r e₃ h. not-accepted h)
 
-  parts-no : (o d : ℕ) (ps : Parts) (n : ℕ) (ks : Kids) (m p : ℕ) → observeParts o d ps n ks ≡ refused m p → Other m → seeParts o d ps ks ≡ refused m p
+  pub parts-no : (o d : ℕ) (ps : Parts) (n : ℕ) (ks : Kids) (m p : ℕ) → observeParts o d ps n ks ≡ refused m p → Other m → seeParts o d ps ks ≡ refused m p
   parts-no o d no-parts n ks m p e x = not-accepted e
   parts-no o d (cut-off n′ at) n ks m p e x = same-refusal e
   parts-no o d (part at s v ps) n ks m p e x =

@@ -1,25 +1,23 @@
 -- Refusal 11 is said at the command that needs a 1,025th place: what commands need is what bounded tracing counts.
 use mathlib.Core.Path.{_≡_, refl, ap, sym, _∙_}
-use mathlib.Core.List.{List, [], _∷_, _++_, append-assoc}
+use mathlib.Core.List.{List, [], _∷_, _++_, append-assoc, append-nil}
 use mathlib.Core.Bool.{true, false≢true}
 use Prim.Native.Nat.{ℕ, suc, _+_, _≤_}
 use native.Mathlib.Omega.{arith}
-use lib.Dec.{ltb}
 use lib.ListN.{length, length-append}
-use borrow.Author.Tests.{ltb-false}
 use Rattle.logic.specs.Test.{if_then_else_}
 use Rattle.logic.specs.laws.Test.{cases}
-use Rattle.refusal.specs.Number.{twoNames, tooManyPlaces}
-use Rattle.model.specs.Result.{Result, accepted, refused}
-use Rattle.model.specs.Kinds.{Step, isVariant}
+use Rattle.refusal.specs.Number.{tooManyPlaces}
+use Rattle.model.specs.Result.{accepted, refused}
+use Rattle.model.specs.Kinds.{Step}
 use Rattle.model.specs.Reading.{Value, val, cut, Parts, no-parts, cut-off, part, isWhole, areWhole, allWhole}
-use Rattle.model.specs.Tracing.{Tree, Kids, kindOf, kidsOf, fresh, dotsOf, placeLimit, meet, stepsOf, has, kidAt, put, clashes, room, made, make, tally, observe, observeParts, observeAll, trace}
+use Rattle.model.specs.Tracing.{Tree, Kids, kindOf, kidsOf, fresh, dotsOf, placeLimit, meet, stepsOf, has, kidAt, put, room, made, make, Counted, observe, observeParts, observeAll, trace}
 use Rattle.model.specs.Unbounded.{size, sizes, makeAll, allowed, see, seeParts, seeAll}
 use Rattle.model.specs.Bound.{need, needed, needs, needsIn, needsAll}
 use Rattle.equality.specs.laws.Base.{and-left, and-right, bind-ok}
 use Rattle.equality.specs.laws.census.Standing.{met}
-use Rattle.equality.specs.laws.tracing.Count.{new, size-put, size-tally, size-is, noVariants, made-no-variants, room-ok, counted-make, counted, counted-parts, allowed-ok}
-use Rattle.equality.specs.laws.tracing.Bound.{bind-no, not-accepted, eleven-meet, eleven-room}
+use Rattle.equality.specs.laws.tracing.Count.{new, size-put, size-tally, size-is, made-no-variants, room-ok, counted-make, counted, allowed-ok, traced}
+use Rattle.equality.specs.laws.tracing.Bound.{bind-no, not-accepted, Other, eleven-meet, eleven-room, room-no, make-no, value-no}
 
 -- ---- a tree has as many places more as commands needed
 need-new : (at : ℕ) (s : Step) (ks : Kids) → length (need at s ks) ≡ new s ks
@@ -169,3 +167,76 @@ reaches-all o (v ∷ vs) n t p w h e =
 pub trace-reaches : (o : ℕ) (vs : List Value) (p : ℕ) → allWhole vs ≡ true → trace o vs ≡ refused tooManyPlaces p → Reaches 1 p (needsAll o vs fresh)
 unfolding trace
 trace-reaches o vs p w e = reaches-all o vs 1 fresh p w (omega arith) e
+
+-- ---- and where 11 is not said, no 1,025th place is needed
+needs-all-size : (o : ℕ) (vs : List Value) (t t′ : Tree) → seeAll o 0 vs t ≡ accepted t′ → size t′ ≡ size t + length (needsAll o vs t)
+unfolding seeAll needsAll
+needs-all-size o [] t t′ e = let h : t ≡ t′ = cc in omega (arith, ap size h)
+needs-all-size o (v ∷ vs) t t′ e =
+    bind-ok (see o 0 v t) _ t′ e λ u e₁ e₂.
+    rw e₁ (omega (arith, needs-size o 0 v t u e₁, needs-all-size o vs u t′ e₂, length-append (needs o 0 v t) (needsAll o vs u)))
+
+-- nothing more
+ends-there : (n : ℕ) (xs : List ℕ) → n + length xs ≤ placeLimit → n + length (xs ++ []) ≤ placeLimit
+ends-there n xs h = rw (append-nil xs) h
+
+goes-on : (n m : ℕ) (xs ys : List ℕ) → n + length xs ≡ m → m + length ys ≤ placeLimit → n + length (xs ++ ys) ≤ placeLimit
+goes-on n m xs ys e h = omega (arith, length-append xs ys)
+
+mutual
+  unfolding observe needs isWhole if_then_else_
+
+  within-value : (o d : ℕ) (v : Value) (n : ℕ) (t : Tree) (m p : ℕ) → Other m → n ≤ placeLimit → observe o d v n t ≡ refused m p → n + length (needs o d v t) ≤ placeLimit
+  within-value o d (cut n′ at) n t m p x h e = omega arith
+  within-value o d (val at b k l ps) n t m p x h e =
+      let ss : List Step = made k l (kindOf t) in
+      bind-no (meet o d at (kindOf t) k) _ m p e (λ f. rw f (omega arith)) λ j e₁ f.
+      bind-no (make at ss n (kidsOf t)) _ m p f (λ g. make-no at ss n (kidsOf t) m p (made-no-variants k l (kindOf t)) g x) λ q e₂ g.
+      let c = counted-make at ss n (kidsOf t) q e₂ in
+      bind-no (observeParts o d ps (q .places) (q .what)) _ m p g
+      (λ i.
+      rw e₁
+      (goes-on n (q .places) (needed at ss (kidsOf t)) (needsIn o d ps (makeAll ss (kidsOf t))) (omega (arith, c .1, ap sizes (c .0), needed-sizes at ss (kidsOf t)))
+      (rw (c .0) (within-parts o d ps (q .places) (q .what) m p x (c .2 h) i))))
+      (λ _ _ i. not-accepted i)
+
+  within-parts : (o d : ℕ) (ps : Parts) (n : ℕ) (ks : Kids) (m p : ℕ) → Other m → n ≤ placeLimit → observeParts o d ps n ks ≡ refused m p
+      → n + length (needsIn o d ps ks) ≤ placeLimit
+  within-parts o d no-parts n ks m p x h e = not-accepted e
+  within-parts o d (cut-off n′ at) n ks m p x h e = omega arith
+  within-parts o d (part at s v ps) n ks m p x h e =
+      let d′ : ℕ = d + dotsOf s in
+      let xs : List ℕ = need at s ks in
+      let ys : List ℕ = needs o d′ v (kidAt s ks) in
+      bind-no (room at s n ks) _ m p e (λ f. room-no at s n ks m p f x λ clash _. rw clash (omega arith)) λ k e₁ f.
+      room-ok at s n ks k e₁ λ free i l.
+      rw free
+      (goes-on n k xs _ (omega (arith, i, need-new at s ks))
+      (bind-no (observe o d′ v k (kidAt s ks)) _ m p f
+      (λ g. rw (value-no o d′ v k (kidAt s ks) m p g x) (ends-there k ys (within-value o d′ v k (kidAt s ks) m p x (l h) g)))
+      λ q e₂ g.
+      let c = counted o d′ v k (kidAt s ks) q e₂ in
+      rw (c .0)
+      (goes-on k (q .places) ys _ (omega (arith, c .1, needs-size o d′ v (kidAt s ks) (q .what) (c .0)))
+      (within-parts o d ps (q .places) (put s (q .what) ks) m p x (c .2 (l h)) g))))
+
+within-all : (o : ℕ) (vs : List Value) (n : ℕ) (t : Tree) (m p : ℕ) → Other m → n ≤ placeLimit → observeAll o 0 vs n t ≡ refused m p → n + length (needsAll o vs t) ≤ placeLimit
+unfolding observeAll needsAll
+within-all o [] n t m p x h e = not-accepted e
+within-all o (v ∷ vs) n t m p x h e =
+    let ys : List ℕ = needs o 0 v t in
+    bind-no (observe o 0 v n t) _ m p e
+    (λ f. rw (value-no o 0 v n t m p f x) (ends-there n ys (within-value o 0 v n t m p x h f)))
+    λ q e₁ f.
+    let c = counted o 0 v n t q e₁ in
+    rw (c .0)
+    (goes-on n (q .places) ys _ (omega (arith, c .1, needs-size o 0 v t (q .what) (c .0)))
+    (within-all o vs (q .places) (q .what) m p x (c .2 h) f))
+
+pub trace-within : (o : ℕ) (vs : List Value) (m p : ℕ) → Other m → trace o vs ≡ refused m p → suc (length (needsAll o vs fresh)) ≤ placeLimit
+unfolding trace
+trace-within o vs m p x e = omega (arith, within-all o vs 1 fresh m p x (omega arith) e)
+
+pub accepted-within : (o : ℕ) (vs : List Value) (r : Counted Tree) → trace o vs ≡ accepted r → suc (length (needsAll o vs fresh)) ≤ placeLimit
+unfolding size
+accepted-within o vs r e = let t = traced o vs r e in omega (arith, t .2, needs-all-size o vs fresh (r .what) (t .0))
