@@ -1,15 +1,19 @@
--- What the user demands of the call `fasthrom_trace`, in three theorems: demand-1, demand-2 and demand-3. Each is said of any call that its
--- contract allows, so of every call that is made; that a call ends at all is part of what is proved of a function.
+-- What the user demands of the call `fasthrom_trace`, in three theorems: demand-1, demand-2 and demand-3; and document 01's soundings P1
+-- to P12 in a fourth. Each is said of any call that its contract allows, so of every call that is made; that a call ends at all is part
+-- of what is proved of a function.
 --
 -- The words are those of the model: Batch, Buffers, Answer, schemaOf, withSchema, turnedDown (Answer), from commands to values (Reading),
--- places (Tracing, Unbounded), field records (Emission), the census (Census), equal schemas and records in another order (Demand3).
-use mathlib.Core.Path.{_≡_, refl, _∙_}
+-- places (Tracing, Unbounded), field records (Emission), the census (Census), equal schemas and records in another order (Demand3), P1 to
+-- P12 (Soundings).
+use mathlib.Core.Path.{_≡_, refl, ap, _∙_}
 use mathlib.Core.Bool.{false}
 use mathlib.Core.List.{List, List·Permᴰ}
 use mathlib.Core.Logic.{_⊎_, inl, inr, _↔_}
 use Prim.Native.Nat.{ℕ, _<_, _≤_, zero-le}
 use native.Mathlib.Omega.{arith}
 use lib.ListN.{length}
+use Rattle.logic.specs.All.{All}
+use Rattle.logic.specs.laws.All.{all-map}
 use Rattle.refusal.specs.Number.{tooManyPlaces}
 use Rattle.model.specs.Result.{Result, accepted, _>>=_}
 use Rattle.model.specs.Tracing.{Tree, fresh, placeLimit}
@@ -18,6 +22,8 @@ use Rattle.model.specs.Emission.{Fields, toSchema}
 use Rattle.model.specs.Answer.{tableWords, Batch, Buffers, Answer, WellFormed, schemaOf, isShort, cleared, withSchema, answerOf, answer}
 use Rattle.model.specs.Census.{SameCensus}
 use Rattle.model.specs.Demand3.{Plain, Accepted, SameSchema, StructRecords, NoPlaceBoth, Split, NoShorter, SameButOrder, withRecords, recordsOf}
+use Rattle.model.specs.Soundings.{Sounding, batch, Roomy, outcome, soundings}
+use Rattle.model.specs.laws.Sounded.{sounded}
 use Rattle.fasthrom.specs.declared.Answer as R
 use Rattle.fasthrom.specs.Called.{said, Called}
 use Rattle.equality.specs.laws.emission.Answers.{Ending, barred, turned, whole, answer-ends}
@@ -182,3 +188,11 @@ demand-3 =
           (is call) (is other) (a .under) (b .under) (took a) (took b);
       reordered = reorder;
     }
+
+-- ---- Soundings
+-- P1 to P12 of document 01, of every call that is handed one of their batches, with buffers long enough
+pub p1-to-p12 : All (λ (s : Sounding). (call : Call) → call .batch ≡ batch s → Roomy (call .lent) → outcome (gave call) ≡ s .gives)
+    soundings
+p1-to-p12 =
+    all-map _ _ soundings
+    (λ s h call e roomy. ap outcome (is call ∙ ap (λ (b : Batch). answer b (call .lent)) e) ∙ h (call .lent) roomy) sounded
