@@ -20,7 +20,9 @@ use Rattle.model.specs.Kinds.{field, same}
 use Rattle.model.specs.Reading as R
 use Rattle.model.specs.Tracing as T
 use Rattle.model.specs.Emission as E
+use Rattle.model.specs.Unbounded as N
 use Rattle.model.specs.Census as S
+use Rattle.model.specs.Bound as B
 use Rattle.model.specs.Answer.{schemaOf}
 use Rattle.model.specs.Demand3.{inNameOrderOf, inNameOrder}
 
@@ -64,6 +66,21 @@ said commands = S.census 30 (field (97 ∷ []) ∷ []) false (R.values 30 comman
 pub lacking-null : said (0x15 ∷ 0x16 ∷ 0 ∷ 0 ∷ 1 ∷ 0 ∷ 0x06 ∷ 0x17 ∷ 0x15 ∷ 0x17 ∷ []) ≡ some (record { null = true; kind = uint8; children = [] })
 unfolding said
 lacking-null = refl
+
+-- ---- which commands need places
+unfoldable pub needing : ℕ → List ℕ → List ℕ
+unfolding if_then_else_ eqName dots same C.formOf C.operands C.made C.nameIn C.badCommand C.badName C.readCommand R.shapeOf R.nextPart R.recordsFrom R.values R.readValue R.readShape R.readParts T.meet T.stepsOf T.has T.kidAt T.put T.clashes T.made T.holds T.tally N.makeAll N.allowed N.see N.seeParts B.needed B.needs B.needsIn B.needsAll J.numberJoint J.jointOfNumbers J.jointWithString J.jointOfTimestamps J.jointOfUnequal J.joint
+needing options commands = B.needsAll options (R.values options commands []) T.fresh
+
+-- a tuple of two and one of three: the first needs both its positions at its own command, the second its third at that position's value
+pub tuples-need : needing 30 (0x13 ∷ 2 ∷ 0 ∷ 1 ∷ 1 ∷ 0x13 ∷ 3 ∷ 0 ∷ 1 ∷ 1 ∷ 1 ∷ []) ≡ 0 ∷ 0 ∷ 10 ∷ []
+unfolding needing
+tuples-need = refl
+
+-- behind a refusal (bool and u8 have no joint) nothing is needed
+pub refused-needs : needing 0 (0x01 ∷ 0x06 ∷ 0x13 ∷ 2 ∷ 0 ∷ 1 ∷ 1 ∷ []) ≡ []
+unfolding needing
+refused-needs = refl
 
 -- ---- nothing changed but the order of struct fields
 abbrev leaf : List ℕ → E.Field
