@@ -26,9 +26,9 @@ class Lent(NamedTuple):
 
 @dataclass(frozen=True)
 class Answer:
-    """"On a refusal every count is 0; on success refusal and place are 0". The buffers begin with `records` and `names`;
-    "past them the buffers are untouched", so a refusal changes neither. The table's first 16,384 words are zeros, or it
-    is left alone."""
+    """What the call answers and leaves: "on a refusal every count is 0; on success refusal and place are 0". The
+    buffers begin with `records` and `names`, and "past them the buffers are untouched": a refusal changes neither. The
+    table's first 16,384 words are zeros then, or it is left alone."""
     refusal: int = 0
     place: int = 0
     fields: tuple = ()
@@ -40,7 +40,7 @@ class Answer:
 
     @property
     def names(self):
-        """"Names stand one after another in the second buffer"."""
+        """The name bytes: "names stand one after another in the second buffer"."""
         return b"".join(field.name for _, field in preorder(self.fields))
 
     # ---- "The answer adds three counts: field records, name bytes, and columns"

@@ -20,7 +20,7 @@ class Said(NamedTuple):
 
 
 def census(options, records):
-    """"For every place, from commands, text and options alone"."""
+    """What is said "for every place, from commands, text and options alone"; a place is the steps down to it."""
     said = {}
     waiting = [((), False, records)]
     while waiting:
@@ -56,15 +56,15 @@ def steps_shown(value):
 # ---- what is said of a place
 
 def kind_seen(options, values):
-    """"Container kind and mode, or a type read off the set of non-null types seen". Of two modes it is the first
-    sight's; demand 3 leaves such places out."""
+    """What a place is: "container kind and mode, or a type read off the set of non-null types seen". Of two modes it is
+    the first sight's; demand 3 leaves such places out."""
     shown = [value.kind for value in values if value.kind in kinds.CONTAINERS]
     return shown[0] if shown else type_seen(options, {value.kind for value in values} - {t.NULL})
 
 
 def type_seen(options, types):
-    """"None: Null; one: itself; several numbers: Float64 with a float among them, else Int64 with a signed one, else
-    UInt64; timestamps of both zones, or with strings: the string type". Of other sets, which are refused, nothing."""
+    """The type read off a set: "none: Null; one: itself; several numbers: Float64 with a float among them, else Int64
+    with a signed one, else UInt64; timestamps of both zones, or with strings: the string type". Others are refused."""
     if not types:
         return t.NULL
     if len(types) == 1:
@@ -77,13 +77,13 @@ def type_seen(options, types):
 
 
 def is_lacking(step, samples):
-    """"Fewer samples of its struct hold it than exist". A sample is a 15, 1B or 14: "each such value is a sample"."""
+    """Whether "fewer samples of its struct hold it than exist", a sample being each value that shows the struct."""
     return any(all(part.step != step for part in value.parts) for value in samples if value.kind in kinds.STRUCTS)
 
 
 def children(kind, values):
-    """"Children: struct names in order of first sight, map-mode names as a set, longest tuple, variant numbers with
-    names". Those of a sequence and of a map are the same everywhere."""
+    """What is said of the places below: "struct names in order of first sight, map-mode names as a set, longest tuple,
+    variant numbers with names". Those of a sequence and of a map are the same everywhere."""
     names = dict.fromkeys((part.step, part.name) for value in values for part in value.parts)
     if kind == kinds.STRUCT:
         return tuple(name for _, name in names)
@@ -115,12 +115,13 @@ def places_of_batch(records):
 # ---- demand 3's premises
 
 def is_struct_batch(records):
-    """"A struct record is a 15, past any 10 and 11": every record is one."""
+    """Whether every record is a struct record: "a struct record is a 15, past any 10 and 11"."""
     return all(record.kind == kinds.STRUCT for record in records)
 
 
 def shows_both(records):
-    """Some place is shown both as struct and as map: "15, or 1B at its variant, shows a place as struct, 14 as map"."""
+    """Whether some place is shown both as struct and as map: "15, or 1B at its variant, shows a place as struct, 14 as
+    map"."""
     waiting = [records]
     while waiting:
         values = waiting.pop()

@@ -22,7 +22,7 @@ FORMS = [
 
 
 def text_type(options, text):
-    """"Results: Timestamp(ms), Timestamp(ms, UTC), Time64(ns), Date32, else the string type"."""
+    """What a text observes: "Timestamp(ms), Timestamp(ms, UTC), Time64(ns), Date32, else the string type"."""
     if options.guess_dates():
         for form, type_ in FORMS:
             if form.fullmatch(text):

@@ -21,7 +21,8 @@ def joint(options, first, second):
 
 
 def joint_of_numbers(pair):
-    """"Unequal number types give Float64 if either is a float, else Int64 if either is signed, else UInt64"."""
+    """With coerce_numbers, "unequal number types give Float64 if either is a float, else Int64 if either is signed,
+    else UInt64"."""
     if pair & t.FLOATS:
         return t.FLOAT64
     if pair & t.SIGNED:

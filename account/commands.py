@@ -30,13 +30,13 @@ PLAIN_TYPES = {
     0x08: t.UINT32, 0x09: t.UINT64, 0x0A: t.FLOAT32, 0x0B: t.FLOAT64, 0x0C: t.UINT32,
 }
 
-# "One byte, hexadecimal, then u16 operands, low byte first. "Name" is an offset and a length in the text slice."
+# "One byte, hexadecimal, then u16 operands, low byte first." A name is "an offset and a length in the text slice".
 OPERANDS = {
     TEXT: ["name"], TUPLE: ["count"], FIELD: ["name"], UNIT_VARIANT: ["number", "name"],
     NEWTYPE_VARIANT: ["number", "name"], TUPLE_VARIANT: ["number", "name", "count"], STRUCT_VARIANT: ["number", "name"],
 }
 WIDTH = {"number": 2, "name": 4, "count": 2}
-LENGTH = {code: 1 + sum(WIDTH[operand] for operand in OPERANDS.get(code, [])) for code in range(UNIT, STRUCT_VARIANT + 1)}
+LENGTH = {code: 1 + sum(WIDTH[operand] for operand in OPERANDS.get(code, [])) for code in range(0x1C)}
 
 # which commands can stand where a value is due, a value or an end, a field or an end
 VALUE = set(LENGTH) - {FIELD, END}
@@ -74,14 +74,14 @@ def is_too_long(commands, text):
 
 
 def is_well_formed(options, commands, text):
-    """"A batch is well-formed if, read through without tracing, none of refusals 1 and 3 to 6 applies"."""
+    """Whether, "read through without tracing, none of refusals 1 and 3 to 6 applies"."""
     if options.has_unknown_bit() or is_too_long(commands, text):
         return False
     return read(options, commands, text).stopped is None
 
 
 def read(options, commands, text):
-    """"A batch is values up to the end, each a record at the root"."""
+    """The records of a batch: "a batch is values up to the end, each a record at the root"."""
     reader = Reader(options, commands, text)
     records = []
     try:
@@ -134,7 +134,8 @@ class Reader:
     # ---- the value that a command begins
 
     def fill(self, value, command):
-        """"10 some, 11 newtype struct: one value follows"; they make no step, and some marks the place."""
+        """The value that begins with this command. At "10 some, 11 newtype struct: one value follows", at the same
+        place, for "10 and 11 make no step"; some marks it."""
         while command.code in (SOME, NEWTYPE_STRUCT):
             value.null |= command.code == SOME
             command = self.command(VALUE)
@@ -166,12 +167,12 @@ class Reader:
             self.map(value)
 
     def variant(self, value, command):
-        """"Operands are the variant number, then the name, for 1A then n; contents as for the plain form"."""
+        """18 to 1B: "operands are the variant number, then the name, for 1A then n; contents as for the plain form"."""
         value.kind = kinds.UNION
         contents = self.below(value, command.at, kinds.variant(command.number), command.name)
         contents.at = command.at
         if command.code == UNIT_VARIANT:
-            contents.null = True                # "a unit variant at its variant observes Null"
+            contents.null = True                # "a unit variant at its variant, observes Null"
         elif command.code == NEWTYPE_VARIANT:
             self.fill(contents, self.command(VALUE))
         elif command.code == TUPLE_VARIANT:
@@ -196,34 +197,34 @@ class Reader:
         self.fill(self.below(value, command.at, kinds.field(command.name), command.name), self.command(VALUE))
 
     def sequence(self, value):
-        """"12 sequence: values, then 17 (end)"."""
+        """12: values, then 17 (end)."""
         value.kind = kinds.SEQUENCE
         while (command := self.command(VALUE_OR_END)).code != END:
             self.value_below(value, kinds.ELEMENT, command)
 
     def tuple(self, value, count):
-        """"13 tuple (n): n values, no end"."""
+        """13: "n values, no end"."""
         value.kind = kinds.TUPLE
         value.positions = count
         for i in range(count):
             self.value_below(value, kinds.position(i), self.command(VALUE))
 
     def map(self, value):
-        """"14 map: keys each with a value, then 17 (end)"."""
+        """14: "keys each with a value, then 17 (end)"."""
         value.kind = kinds.MAP
         while (command := self.command(VALUE_OR_END)).code != END:
             self.value_below(value, kinds.KEY, command)
             self.value_below(value, kinds.VALUE, self.command(VALUE))
 
     def struct(self, value):
-        """"15 struct: fields, each 16 (name) and a value, then 17"."""
+        """15: "fields, each 16 (name) and a value, then 17"."""
         value.kind = kinds.STRUCT
         while (command := self.command(FIELD_OR_END)).code != END:
             self.named_below(value, command)
 
     def map_as_struct(self, value):
-        """"Under map_as_struct a key command makes its field's place, as 16 does". Refusal 6, after the key's own 4 and
-        5: "under map_as_struct a key is not 0D"."""
+        """14 where "under map_as_struct a key command makes its field's place, as 16 does". Refusal 6, after the key's
+        own 4 and 5: "under map_as_struct a key is not 0D"."""
         value.kind = kinds.MAP_MODE
         while (command := self.command(VALUE_OR_END)).code != END:
             if command.code != TEXT:

@@ -25,18 +25,18 @@ class Field:
     variant: int = 0            # "variant number, else 0"
 
     def record(self):
-        """"8 bytes each: type; nullable 0 or 1; strategy [...]; variant number, else 0; name length u16; child count
-        u16", low byte first as in the commands."""
+        """Its 8 bytes: "type; nullable 0 or 1; strategy [...]; variant number, else 0; name length u16; child count
+        u16". These numbers have their low byte first, as in the commands."""
         return (bytes([self.type, self.nullable, self.strategy, self.variant])
                 + len(self.name).to_bytes(2, "little") + len(self.children).to_bytes(2, "little"))
 
     def is_column(self):
-        """"A column being a field record without children"."""
+        """Whether it counts as a column, "a column being a field record without children"."""
         return not self.children
 
 
 def preorder(fields, level=0):
-    """"Preorder under the root": these fields and all below them, each with its level."""
+    """These fields and all below them in "preorder under the root", each with its level."""
     for each in fields:
         yield level, each
         yield from preorder(each.children, level + 1)
@@ -79,7 +79,7 @@ class Emission:
         return Field(t.NULL, nullable, place.name)
 
     def primitive_type(self, type_):
-        """"A string under option 5 [...] is a dictionary without children"."""
+        """The type as it is emitted: "a string under option 5 [...] is a dictionary without children"."""
         if type_ in t.STRINGS and self.options.string_dictionary_encoding():
             return self.options.dictionary_type()
         return type_
@@ -101,8 +101,9 @@ class Emission:
         return Field(t.STRUCT, nullable, place.name, children)
 
     def union(self, place, nullable):
-        """"Under option 9 a union of only dataless variants without gaps is a dictionary without children". Refusal 13:
-        such a union "has neither option 9 nor option 0"; "a union tests 13 before its children"."""
+        """A dense union, but "under option 9 a union of only dataless variants without gaps, is a dictionary without
+        children". Refusal 13: such a union "has neither option 9 nor option 0"; "a union tests 13 before its
+        children"."""
         highest = max(step.by for step in place.children)
         slots = [place.children.get(kinds.variant(number)) for number in range(highest + 1)]
         if all(slot is not None and slot.kind == t.NULL for slot in slots):

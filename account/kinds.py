@@ -11,7 +11,7 @@ CONTAINERS = {SEQUENCE, TUPLE, MAP, UNION} | STRUCTS
 
 
 class Step(NamedTuple):
-    """"Each a field's name [...], the element, a position, the map key or value, or a variant number"."""
+    """A step down: "each a field's name [...], the element, a position, the map key or value, or a variant number"."""
     to: str
     by: bytes | int | None = None
 

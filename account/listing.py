@@ -10,8 +10,8 @@ BUFFER = 65_536
 
 
 def listing(given):
-    """"Lines: level (0 for the root's fields), type, nullable, strategy, variant, children, name; last line: accepted,
-    field records, columns; or only: refused, number, place". A name is written as its bytes."""
+    """A line for each field: "level (0 for the root's fields), type, nullable, strategy, variant, children, name; last
+    line: accepted, field records, columns; or only: refused, number, place". A name is written as its bytes."""
     if given.refusal:
         return b"refused %d %d\n" % (given.refusal, given.place)
     lines = [b"%d %d %d %d %d %d %s\n" % (level, field.type, field.nullable, field.strategy, field.variant,
@@ -21,6 +21,7 @@ def listing(given):
 
 
 def list_return(folder):
-    """"The program schema-list reads options.bin (2 bytes, low first), commands.bin and text.bin"."""
-    options, commands, text = (pathlib.Path(folder, f"{name}.bin").read_bytes() for name in ("options", "commands", "text"))
+    """The program: it "reads options.bin (2 bytes, low first), commands.bin and text.bin"."""
+    options, commands, text = (pathlib.Path(folder, name).read_bytes()
+                               for name in ("options.bin", "commands.bin", "text.bin"))
     return listing(answer(int.from_bytes(options, "little"), commands, text, Lent(records=BUFFER, names=BUFFER)))

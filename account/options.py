@@ -62,5 +62,5 @@ class Options:
         return t.LARGE_LIST if self.sequence_as_large_list() else t.LIST
 
     def dictionary_type(self):
-        """"A dictionary without children, 20 or 21 by option 3"."""
+        """What strings become under option 5, and enums under option 9: "20 or 21 by option 3"."""
         return t.LARGE_DICTIONARY if self.string_as_large_utf8() else t.DICTIONARY

@@ -16,8 +16,8 @@ DEPTH = 20          # "a container or variant stands at depth 20 or more" is ref
 
 @dataclass(slots=True, eq=False)
 class Place:
-    """"A place is a node of the tree: root, struct field, sequence element, tuple position, map key, map value,
-    variant"."""
+    """What is known of a place: "a node of the tree: root, struct field, sequence element, tuple position, map key, map
+    value, variant"."""
     name: bytes
     depth: int
     null: bool = False          # none or some seen there, or Null observed
@@ -28,8 +28,8 @@ class Place:
 
 
 def trace(options, reading, limit=PLACES):
-    """"A trace starts from an unseen root, and each record meets what the last left". Where the reading stopped, all
-    that was read before has been met: refusals 4 to 6 come here in their turn."""
+    """All records at the root: "a trace starts from an unseen root, and each record meets what the last left". Where
+    the reading stopped, all that was read before has been met by then: refusals 4 to 6 come in their turn."""
     tracer = Tracer(options, limit)
     for record in reading.records:
         tracer.observe(tracer.root, record)
@@ -115,6 +115,6 @@ def made_at_once(value, was_unknown):
 
 
 def is_lacking(parent, place):
-    """"A struct field missing from any of that struct's samples becomes nullable, first sight in a later sample
-    included"."""
+    """Whether it is "a struct field missing from any of that struct's samples", which "becomes nullable, first sight
+    in a later sample included"."""
     return parent.kind in kinds.STRUCTS and place.held < parent.samples

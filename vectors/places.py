@@ -2,9 +2,9 @@
 
     python3 vectors/places.py
 
-Writes crates/samples_vectors/data/batches.bin (a batch is the options word, the lengths of commands and text, each of two
-bytes, low byte first, then both) and crates/samples_vectors/stdout (a batch is `refused NUMBER PLACE`, or `places COUNT` and
-a line for each place: parent, step, kind, null, samples, held).
+Writes crates/samples_vectors/data/batches.bin (a batch is the options word, the lengths of commands and text, each of
+two bytes, low byte first, then both) and crates/samples_vectors/stdout (a batch is `refused NUMBER PLACE`, or `places
+COUNT` and a line for each place: parent, step, kind, null, samples, held).
 """
 
 import pathlib

@@ -1,4 +1,7 @@
-"""Tests of the account, run in the repository's folder: python3 -m account.test [COUNT], COUNT random batches of each kind."""
+"""Tests of the account, run in the repository's folder:
+
+    python3 -m account.test [COUNT]     COUNT random batches of each kind
+"""
 
 import sys
 

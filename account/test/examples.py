@@ -15,7 +15,7 @@ A, B = "0000 0100", "0100 0100"
 
 
 def over_records(*values, of=A):
-    """"The values being those of one struct field over the records"."""
+    """A batch, "the values being those of one struct field over the records"."""
     return " ".join(f"15 16 {of} {value} 17" for value in values)
 
 
@@ -35,8 +35,10 @@ SOUNDINGS = [
     ("P6", DEFAULT, over_records("06", "07"), b"a", "refused 10 14"),
     ("P7", DEFAULT | TO_STRING, over_records("01", f"0D {A}", "04"), b"a", "0 13 0 0 0 0 a/accepted 1 1"),
     ("P8", DEFAULT | TO_STRING, over_records("01", "04", f"0D {A}"), b"a", "refused 10 14"),
-    ("P9", DEFAULT | GUESS_DATES, over_records("0D 0100 1300"), b"a2024-01-02 03:04:05", "0 13 0 0 0 0 a/accepted 1 1"),
-    ("P10", DEFAULT | GUESS_DATES, over_records("0D 0100 1400"), b"a2024-01-02 03:04:05Z", "0 19 0 0 0 0 a/accepted 1 1"),
+    ("P9", DEFAULT | GUESS_DATES, over_records("0D 0100 1300"), b"a2024-01-02 03:04:05",
+     "0 13 0 0 0 0 a/accepted 1 1"),
+    ("P10", DEFAULT | GUESS_DATES, over_records("0D 0100 1400"), b"a2024-01-02 03:04:05Z",
+     "0 19 0 0 0 0 a/accepted 1 1"),
     ("P11", DEFAULT, over_records(f"19 7F00 {A} 04"), b"a", "0 26 0 0 0 128 a/.../1 4 0 0 127 0 a/accepted 129 128"),
     ("P12", DEFAULT, over_records(f"19 8000 {A} 04"), b"a", "refused 14 15"),
     ("an empty batch", DEFAULT, "", b"", "refused 12 0"),
@@ -44,7 +46,8 @@ SOUNDINGS = [
     ("a struct at depth 19", DEFAULT, over_records("15 17", of="0000 1200"), b"." * 18, ".../accepted 1 1"),
     ("a struct at depth 20", DEFAULT, over_records("15 17", of="0000 1300"), b"." * 19, "refused 7 6"),
     ("a bool at depth 20", DEFAULT, over_records("01", of="0000 1300"), b"." * 19, ".../accepted 1 1"),
-    ("a date and a plain text", DEFAULT | GUESS_DATES, over_records("0D 0100 0500", f"0D {A}"), b"a1-2-3", "refused 10 18"),
+    ("a date and a plain text", DEFAULT | GUESS_DATES, over_records("0D 0100 0500", f"0D {A}"), b"a1-2-3",
+     "refused 10 18"),
     ("the name a.b adds two dots", DEFAULT, over_records("12" * 18 + "01" + "17" * 18, of="0000 0300"), b"a.b",
      ".../accepted 19 1"),
     ("and one more", DEFAULT, over_records("12" * 19 + "01" + "17" * 19, of="0000 0300"), b"a.b", "refused 7 24"),
@@ -93,7 +96,8 @@ READINGS = [
     ("17: an enum as a dictionary", ENUMS_AS_STRINGS, f"18 0000 {A}", b"a", "refused 17 7"),
     ("a shorter tuple leaves no position nullable", 0, "13 0200 01 01 13 0100 01", b"",
      "0 1 0 0 0 0 0/0 1 0 0 0 0 1/accepted 2 2"),
-    ("a field twice in one sample is held once", 0, f"15 16 {A} 01 16 {A} 01 17 15 17", b"a", "0 1 1 0 0 0 a/accepted 1 1"),
+    ("a field twice in one sample is held once", 0, f"15 16 {A} 01 16 {A} 01 17 15 17", b"a",
+     "0 1 1 0 0 0 a/accepted 1 1"),
     ("first sight in a later sample", 0, f"15 17 15 16 {A} 01 17", b"a", "0 1 1 0 0 0 a/accepted 1 1"),
     ("an element never seen is not nullable", 1, over_records("12 17"), b"a",
      "0 22 0 0 0 1 a/1 0 0 0 0 0 element/accepted 2 1"),
@@ -101,7 +105,8 @@ READINGS = [
      "0 25 0 0 0 1 a/1 24 0 0 0 2 entries/2 0 1 0 0 0 key/2 4 0 0 0 0 value/accepted 4 2"),
     ("a gap has its slot, and no 12", 0, over_records(f"19 0100 {A} 04"), b"a",
      "0 26 0 0 0 2 a/1 0 1 3 0 0 /1 4 0 0 1 0 a/accepted 3 2"),
-    ("map mode: the walk goes by first sight", 2, over_records(f"14 0D {B} 19 8000 {A} 04 0D {A} 00 17"), b"ab", "refused 14 28"),
+    ("map mode: the walk goes by first sight", 2, over_records(f"14 0D {B} 19 8000 {A} 04 0D {A} 00 17"), b"ab",
+     "refused 14 28"),
     ("the other way round", 2, over_records(f"14 0D {A} 00 0D {B} 19 8000 {A} 04 17"), b"ab", "refused 12 28"),
     ("map mode: the fields are sorted", 2, over_records(f"14 0D {B} 04 0D {A} 01 17"), b"ab",
      "0 24 0 2 0 2 a/1 1 0 0 0 0 a/1 4 0 0 0 0 b/accepted 3 2"),

@@ -18,8 +18,8 @@ def refused_at(options, reading, limit):
 
 def claims(records):
     """For each place that some command needs, that command's offset, and the steps to the place; in the order of
-    commands. A sequence needs its element, a map its key and value, the first tuple at a place all its positions, a later
-    one each position at the first command of its value; fields and variants are needed where they are named."""
+    commands. A sequence needs its element, a map its key and value, the first tuple at a place all its positions, a
+    later one each position at the first command of its value; fields and variants are needed where they are named."""
     made, tuples = [], set()
 
     def claim(steps, value):

@@ -66,7 +66,8 @@ def questions(data):
         for length in (commands, text, 8 * field_records, name_bytes):
             parts.append(data[:length])
             data = data[length:]
-        yield (word, parts[0], parts[1], Lent(table, records_lent, names_lent)), (refusal, place, columns, parts[2], parts[3])
+        asked = (word, parts[0], parts[1], Lent(table, records_lent, names_lent))
+        yield asked, (refusal, place, columns, parts[2], parts[3])
 
 
 def check_answers():
