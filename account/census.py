@@ -12,11 +12,11 @@ from . import kinds
 
 
 class Said(NamedTuple):
-    """What the census says of a place. "Censuses are equal when they have the same places and say the same of each": as
-    dictionaries from places to this they are equal then."""
-    kind: int | str | None
-    null: bool
-    children: object
+    """What the census says of a place. "Censuses are equal when they have the same places and say the same of each":
+    that is, as dictionaries from places to this."""
+    kind: int | str | None      # kind and mode of a container, or type
+    null: bool                  # whether null is admitted
+    children: object            # what is said of those, in the form that `children` gives them
 
 
 def census(options, records):
@@ -100,9 +100,8 @@ def children(kind, values):
 
 def places_of_batch(records):
     """How many different lists of steps there are where the census says anything: the root's, and those of all that
-    some record shows. A variant's step is its number, whatever its name; a tuple shows the positions it announces.
-    A list is known by the number given to it: that of the list without its last step, with that step, has its own."""
-    numbers = {}
+    some record shows. A variant's step is its number, whatever its name; a tuple shows the positions it announces."""
+    numbers = {}    # a number for each list but the root's, found by that of the list one step shorter and the last step
     waiting = [(0, record) for record in records]
     while waiting:
         place, value = waiting.pop()

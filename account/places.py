@@ -39,6 +39,8 @@ def trace(options, reading, limit=PLACES):
 
 
 class Tracer:
+    """The tree of places, which grows while values are observed."""
+
     def __init__(self, options, limit=PLACES):
         self.options = options
         self.limit = limit
@@ -48,8 +50,9 @@ class Tracer:
     # ---- one value at its place
 
     def observe(self, place, value):
-        """The order of tests at one command: "7, 8 or 10, 9, 11 for its own place; a variant then 7, 8, 11 for its
-        contents". A variant is a union's only part, so that its contents come after it."""
+        """The order of tests at one command is the order of this: 11 for a tuple position where the part before it is
+        met; "then 7, 8 or 10" where kinds meet, "9, 11 for its own place" where its children are found or made; "a
+        variant then 7, 8, 11 for its contents", for it is a union's only part."""
         was_unknown = place.kind == t.NULL
         place.kind = self.meet(place, value)
         place.null |= value.null

@@ -22,7 +22,7 @@ class Value:
 class Part:
     """A value below another: the step to it, and the name of the place there. A union has one part, its variant: "a
     variant's contents stand at the variant"."""
-    at: int                     # the offset of the command that first needs the place
+    at: int                     # the offset of the first command of it: 16 or a key, the variant, or the value's own
     step: tuple
     name: bytes
     value: Value

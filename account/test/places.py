@@ -1,10 +1,13 @@
 """Refusal 11 held to counts of places that are not tracing's own. Limits far below 1,024 are tried too: nothing in
-tracing depends on the number, and small batches then come near it."""
+tracing depends on the number, and small batches then come near it.
+
+If the answer is 11 at a place, the records show more places than the limit; the commands before that place need no more
+than the limit, and those up to it more. Whatever else the answer is, the commands before its place need no more."""
 
 from .. import census, kinds
 from ..places import PLACES, trace
 from ..refusal import TOO_MANY_PLACES, Refused
-from .random_batches import any_readings
+from .random_batches import any_readings, full_readings
 
 
 def refused_at(options, reading, limit):
@@ -58,11 +61,11 @@ def check_eleven(options, reading, limit):
 
 
 def check(count, seed=1):
-    tried = elevens = 0
-    for number, (options, reading) in enumerate(any_readings(seed, count)):
-        for limit in (number % 40 + 1, PLACES):
-            tried += 1
-            elevens += check_eleven(options, reading, limit)
-    assert 0 < elevens < tried
-    yield "batches under a limit on places, where 11 is said as counted apart", tried
-    yield "of them got 11", elevens
+    said = [check_eleven(options, reading, limit)
+            for number, (options, reading) in enumerate(any_readings(seed, count))
+            for limit in (number % 40 + 1, PLACES)]
+    yield "batches and limits on places where 11 is said as counted apart", len(said)
+    yield "of them got 11", sum(said)
+    full = [check_eleven(options, reading, PLACES) for options, reading in full_readings()]
+    yield "batches around 1,024 places where it is", len(full)
+    yield "of them got 11", sum(full)

@@ -1,4 +1,4 @@
-"""Random batches of vectors/batches.py, taken apart."""
+"""Batches of vectors/batches.py and vectors/edges.py, read."""
 
 import pathlib
 import sys
@@ -7,22 +7,22 @@ from .. import commands
 from ..options import Options
 
 sys.path.insert(0, str(pathlib.Path(__file__).resolve().parent.parent.parent / "vectors"))
-import batches  # noqa: E402
-
-Batches = batches.Batches
-
-
-def any_batches(seed, count):
-    """Well-formed and damaged batches under any options word: options, commands, text."""
-    made = Batches(seed)
-    for _ in range(count):
-        word, written, text = made.line().split(" ")
-        yield int(word, 16), bytes.fromhex(written.strip("-")), bytes.fromhex(text)
+import edges  # noqa: E402
+from batches import Batches  # noqa: E402
 
 
 def any_readings(seed, count):
-    """Of such batches those that are read at all: options, what was read."""
-    for word, written, text in any_batches(seed, count):
-        options = Options(word)
+    """Well-formed and damaged batches under any options word that is known: options, what was read."""
+    made = Batches(seed)
+    for _ in range(count):
+        word, written, text = made.line().split(" ")
+        options = Options(int(word, 16))
         if not options.has_unknown_bit():
-            yield options, commands.read(options, written, text)
+            yield options, commands.read(options, bytes.fromhex(written.strip("-")), bytes.fromhex(text))
+
+
+def full_readings():
+    """Batches around 1,024 places: options, what was read."""
+    for word in (0, edges.MAP_AS_STRUCT):
+        for written in edges.full_tables(range(1021, 1025)):
+            yield Options(word), commands.read(Options(word), written, edges.TEXT)
