@@ -101,7 +101,7 @@ def children(kind, values):
 def places_of_batch(records):
     """How many different lists of steps there are where the census says anything: the root's, and those of all that
     some record shows. A variant's step is its number, whatever its name; a tuple shows the positions it announces."""
-    numbers = {}    # a number for each list but the root's, found by that of the list one step shorter and the last step
+    numbers = {}    # a number for each list but the root's, found by that of the list one step shorter and the step
     waiting = [(0, record) for record in records]
     while waiting:
         place, value = waiting.pop()

@@ -50,9 +50,9 @@ class Tracer:
     # ---- one value at its place
 
     def observe(self, place, value):
-        """The order of tests at one command is the order of this: 11 for a tuple position where the part before it is
-        met; "then 7, 8 or 10" where kinds meet, "9, 11 for its own place" where its children are found or made; "a
-        variant then 7, 8, 11 for its contents", for it is a union's only part."""
+        """The order of tests at one command is the order of this: "11 for a tuple position it is first to reach" is
+        behind us; "then 7, 8 or 10" where kinds meet, "9, 11 for its own place" where places below are found or made;
+        "a variant then 7, 8, 11 for its contents", for they are a union's only part."""
         was_unknown = place.kind == t.NULL
         place.kind = self.meet(place, value)
         place.null |= value.null
