@@ -1,5 +1,5 @@
-"""Questions to the whole call, with the answers of the published Rust, for `answers_vectors`. Run in any folder, with the
-oracle built:
+"""Questions to the whole call, with the answers of the published Rust, for `answers_vectors`. Run in any folder; the
+oracle is brought up to date first:
 
     python3 vectors/answers.py
 
@@ -12,15 +12,14 @@ Refusals 2 and 18 are lengths, compared here; all else is the oracle's. The list
 batches.py and edges.py: a second run writes the same bytes.
 """
 
-import pathlib
 import random
 import subprocess
 
 import batches
 import edges
+import published
+from published import ORACLE, TOP
 
-TOP = pathlib.Path(__file__).resolve().parent.parent
-ORACLE = TOP / "oracle" / "target" / "release" / "oracle"
 PROGRAM = TOP / "crates" / "answers_vectors"
 # what the program has room for
 FILE, BUFFER, TABLE, TABLE_USED = 262_144, 16_384, 16_400, 16_384
@@ -215,4 +214,5 @@ def main():
 
 
 if __name__ == "__main__":
+    published.ready()
     main()

@@ -1,5 +1,5 @@
 """Makes the stored vectors anew: the lists of texts, of byte strings and of pairs of types, each with the oracle's
-answers (README.md has the layouts). Run in any folder, with the oracle built:
+answers (README.md has the layouts). Run in any folder; the oracle is brought up to date first:
 
     python3 vectors/make.py
 
@@ -7,12 +7,11 @@ The lists depend on nothing but this file: a second run writes the same bytes.
 """
 
 import itertools
-import pathlib
 import random
 import subprocess
 
-TOP = pathlib.Path(__file__).resolve().parent.parent
-ORACLE = TOP / "oracle" / "target" / "release" / "oracle"
+import published
+from published import ORACLE, TOP
 
 
 def ask(question, byte_strings=()):
@@ -185,6 +184,7 @@ def make_joints():
 
 
 if __name__ == "__main__":
+    published.ready()
     make_texts()
     make_byte_strings()
     make_joints()
