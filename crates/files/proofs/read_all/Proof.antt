@@ -4,8 +4,8 @@ use Rattle.io.proofs.Counting.{counts}
 use mathlib.Core.Path.{_≡_}
 use Prim.Native.Nat.{_-_, _≤_}
 use lib.ListN.{length}
-use Rattle.schema_list.proofs.read_all.Statement.{statement}
-use Rattle.schema_list.proofs.read_all.Tie as tie
+use Rattle.files.proofs.read_all.Statement.{statement}
+use Rattle.files.proofs.read_all.Tie as tie
 
 abbrev Inv-loop : tie.InvT-loop
 Inv-loop fd path buffer₀ done₀ buffer done = (done ≤ length buffer) × (length buffer ≡ length buffer₀)
