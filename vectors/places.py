@@ -4,7 +4,8 @@
 
 Writes crates/samples_vectors/data/batches.bin (a batch is the options word, the lengths of commands and text, each of
 two bytes, low byte first, then both) and crates/samples_vectors/stdout (a batch is `refused NUMBER PLACE`, or `places
-COUNT` and a line for each place: parent, step, kind, null, samples, held).
+COUNT` and a line for each place: parent, step, kind, null, samples, held; the last line is how many bytes batches.bin
+has).
 """
 
 import pathlib
@@ -94,7 +95,7 @@ def main():
         lines += expected(options, commands, text)
     (PROGRAM / "data").mkdir(parents=True, exist_ok=True)
     (PROGRAM / "data" / "batches.bin").write_bytes(made)
-    (PROGRAM / "stdout").write_text("\n".join(lines) + "\n")
+    (PROGRAM / "stdout").write_text("\n".join(lines + [f"{len(made)} bytes"]) + "\n")
     print(len(chosen), "batches,", refused, "refused,", len(made), "bytes,", len(lines), "lines")
 
 
