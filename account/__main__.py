@@ -20,8 +20,9 @@ def answer_line(line):
 
 
 def main(asked):
-    if len(asked) != 1:
-        sys.exit(__doc__)
+    if len(asked) != 1 or asked[0] in ("-h", "--help"):
+        print("usage: python3 -m account (DIRECTORY | batch)", file=sys.stderr)
+        sys.exit(2)
     if asked == ["batch"]:
         for line in sys.stdin:
             print(answer_line(line))

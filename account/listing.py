@@ -20,8 +20,17 @@ def listing(given):
     return b"".join(lines) + b"accepted %d %d\n" % (given.field_records, given.columns)
 
 
+def list_files(options, commands, text):
+    """A return in three files: nothing where one cannot be read, or the options word is not two bytes long."""
+    if not all(path.is_file() for path in (options, commands, text)):
+        return b""
+    word = options.read_bytes()
+    if len(word) != 2:
+        return b""
+    lent = Lent(records=BUFFER, names=BUFFER)
+    return listing(answer(int.from_bytes(word, "little"), commands.read_bytes(), text.read_bytes(), lent))
+
+
 def list_return(folder):
     """The program: it "reads options.bin (2 bytes, low first), commands.bin and text.bin"."""
-    options, commands, text = (pathlib.Path(folder, name).read_bytes()
-                               for name in ("options.bin", "commands.bin", "text.bin"))
-    return listing(answer(int.from_bytes(options, "little"), commands, text, Lent(records=BUFFER, names=BUFFER)))
+    return list_files(*(pathlib.Path(folder, name) for name in ("options.bin", "commands.bin", "text.bin")))

@@ -7,7 +7,7 @@ from ..chrono import FORMS, text_type
 from ..coerce import joint
 from ..commands import is_utf8
 from ..datatype import STRINGS
-from ..listing import list_return
+from ..listing import list_files, list_return
 from ..options import Options
 
 TOP = pathlib.Path(__file__).resolve().parent.parent.parent
@@ -82,11 +82,14 @@ def check_answers():
 
 
 def check_listings():
-    folders = [(CRATES / "schema_list" / "data", CRATES / "schema_list" / "stdout"),
-               (TOP / "examples" / "ferries", TOP / "examples" / "ferries" / "listing")]
-    for folder, wanted in folders:
-        assert list_return(folder) == wanted.read_bytes(), folder
-    return len(folders)
+    """Those that the gate lists one after another, and the example's."""
+    program = CRATES / "schema_list"
+    files = [program / "data" / name for name in (program / "args").read_text().split()]
+    returns = [files[i:i + 3] for i in range(0, len(files), 3)]
+    assert b"".join(list_files(*paths) for paths in returns) == (program / "stdout").read_bytes(), program
+    ferries = TOP / "examples" / "ferries"
+    assert list_return(ferries) == (ferries / "listing").read_bytes(), ferries
+    return len(returns) + 1
 
 
 def check():
