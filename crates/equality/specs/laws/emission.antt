@@ -2,6 +2,5 @@ pub mod Canon
 pub mod Fields
 pub mod InOrder
 pub mod Records
-pub mod Variants
 pub mod Accepted
 pub mod Answers

@@ -51,13 +51,6 @@ read-back (suc deep) (more (mk τ b σ v x gs) fs) cs ms h =
     (read-more deep (childCount fs) τ b σ v x gs fs (recordsIn gs ++ (recordsIn fs ++ cs)) (recordsIn fs ++ cs) cs (namesIn gs ++ (namesIn fs ++ ms)) (namesIn fs ++ ms) ms
     (read-back deep gs (recordsIn fs ++ cs) (namesIn fs ++ ms) (omega arith)) (read-back deep fs cs ms (omega arith)))
 
--- two lists of fields of one length, that something follows, are equal where their records and names are, and so is what follows
-pub fields-encoded : (fs gs : Fields) (cs ds ms ns : List ℕ) → childCount fs ≡ childCount gs → recordsIn fs ++ cs ≡ recordsIn gs ++ ds → namesIn fs ++ ms ≡ namesIn gs ++ ns →
-    _≡_ {A = Fields × List ℕ × List ℕ} (fs, cs, ms) (gs, ds, ns)
-fields-encoded fs gs cs ds ms ns c e h =
-    let deep : ℕ = countIn fs + countIn gs in
-    sym (read-back deep fs cs ms (omega arith)) ∙ (λ i. readFields deep (c i) (e i) (h i)) ∙ read-back deep gs ds ns (omega arith)
-
 -- ---- a whole schema: fields up to the end of the records
 abbrev pub readSchema : List ℕ → List ℕ → Fields
 readSchema records names = (readFields (length records) (length records) records names) .0
