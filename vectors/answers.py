@@ -205,7 +205,7 @@ def main():
     said, all_refusals = "", []
     for seed, (name, batch_list, count, what) in enumerate(LISTS):
         refusals = ask(name, batch_list, count, seed)
-        said += f"{len(refusals)} {what}, 0 differ\n"
+        said += f"{len(refusals)} {what} in {(PROGRAM / 'data' / name).stat().st_size} bytes, 0 differ\n"
         all_refusals += refusals
     (PROGRAM / "stdout").write_text(said)
     for number in range(19):

@@ -26,7 +26,7 @@ def store(crate, name, what, records):
     path = TOP / "crates" / crate / "data" / name
     path.parent.mkdir(parents=True, exist_ok=True)
     path.write_bytes(b"".join(bytes([len(r)]) + r for r in records))
-    (TOP / "crates" / crate / "stdout").write_text(f"{len(records)} {what}, 0 differ\n")
+    (TOP / "crates" / crate / "stdout").write_text(f"{len(records)} {what} in {path.stat().st_size} bytes, 0 differ\n")
     print(f"{path.relative_to(TOP)}: {len(records)} {what}, {path.stat().st_size} bytes")
 
 

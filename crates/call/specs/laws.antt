@@ -1,3 +1,2 @@
 pub mod Call
-pub mod Bounded
 pub mod Demand3

@@ -1,4 +1,8 @@
 // Replays joints.bin: the joint of two primitive types under an options word, against the answers of the published Rust.
+ghost use mathlib.Core.Path.{_≡_};
+ghost use Rattle.datatype.specs.Codes.{codeOf};
+ghost use Rattle.coerce.specs.Joint.{joint};
+ghost use Rattle.coerce_vectors.specs.Agrees.{storedAs, agrees};
 use coerce::Coerced;
 use datatype::DataType;
 use datatype::Decoded;
@@ -7,11 +11,9 @@ use options::TracingOptions;
 // What stands in a record for no joint.
 const NONE: u8 = 255;
 
-fn word(low: u8, high: u8) -> u16 {
-    (low as u16) + (high as u16) * 256
-}
-
-fn joint(first: DataType, second: DataType, options: TracingOptions) -> u8 {
+fn joint(first: DataType, second: DataType, options: TracingOptions) -> u8
+    ensures { λ r. ⌜ r ≡ storedAs (joint (options .word) (codeOf first) (codeOf second)) ⌝ }
+{
     match coerce::coerce_primitive_type(first, second, options) {
         Coerced::Type(joint) => joint.code(),
         Coerced::Nothing => NONE,
@@ -19,11 +21,13 @@ fn joint(first: DataType, second: DataType, options: TracingOptions) -> u8 {
 }
 
 // A record: the options word, low byte first, the codes of the first and the second type, the code of their joint.
-fn agrees(record: &[u8]) -> bool {
+fn agrees(record: &[u8]) -> bool
+    ensures { λ r. ⌜ r ≡ agrees (now («record» .entry)) ⌝ }
+{
     if record.len() != 5 {
         return false;
     }
-    let options = TracingOptions::new(word(record[0], record[1]));
+    let options = TracingOptions::new(files::two_bytes(record, 0) as u16);
     let Decoded::Type(first) = DataType::from_code(record[2]) else {
         return false;
     };
@@ -43,11 +47,12 @@ fn replay_all(vectors: &[u8]) {
         differ += replay::differs(records, agrees(&vectors[start..at]));
         records += 1;
     }
-    replay::report(records, b" joints, ", differ);
+    replay::report(records, b" joints", vectors.len(), differ);
 }
 
 fn main() {
     let mut buffer = [0u8; 262144];
-    let n = replay::load(b"joints.bin", &mut buffer);
+    let loaded = files::load(b"joints.bin", &mut buffer);
+    let n = loaded.bytes;
     replay_all(&buffer[..n]);
 }

@@ -1,29 +1,35 @@
--- What the user demands of the call `fasthrom_trace`, in three theorems: demand-1, demand-2 and demand-3. Each is said of any call that its
--- contract allows, so of every call that is made; that a call ends at all is part of what is proved of a function.
+-- What the user demands of the call `fasthrom_trace`, in three theorems: demand-1, demand-2 and demand-3; and document 01's soundings P1
+-- to P12 in a fourth. Each is said of any call that its contract allows, so of every call that is made; that a call ends at all is part
+-- of what is proved of a function.
 --
--- The words are those of the model: Batch, Buffers, Answer, schemaOf, withSchema, turnedDown (Answer), from commands to values (Reading), places
--- (Tracing, Unbounded), field records (Emission), the census (Census), equal schemas and records in another order (Demand3).
-use mathlib.Core.Path.{_≡_, refl, _∙_}
+-- The words are those of the model: Batch, Buffers, Answer, schemaOf, withSchema, turnedDown (Answer), from commands to values (Reading),
+-- places (Tracing, Unbounded), how many they are and which command needs them (Bound), field records (Emission), the census (Census), equal
+-- schemas and records in another order (Demand3), P1 to P12 (Soundings).
+use mathlib.Core.Path.{_≡_, refl, ap, _∙_}
 use mathlib.Core.Bool.{false}
 use mathlib.Core.List.{List, List·Permᴰ}
 use mathlib.Core.Logic.{_⊎_, inl, inr, _↔_}
-use Prim.Native.Nat.{ℕ, _<_, _≤_, zero-le}
+use Prim.Native.Nat.{ℕ, _≤_, zero-le}
 use native.Mathlib.Omega.{arith}
 use lib.ListN.{length}
 use Rattle.logic.specs.All.{All}
+use Rattle.logic.specs.laws.All.{all-map}
 use Rattle.refusal.specs.Number.{tooManyPlaces}
 use Rattle.model.specs.Result.{Result, accepted, _>>=_}
 use Rattle.model.specs.Tracing.{Tree, fresh, placeLimit}
-use Rattle.model.specs.Unbounded.{seeAll, size}
+use Rattle.model.specs.Unbounded.{seeAll}
+use Rattle.model.specs.Bound.{AtMost, Exceeds}
 use Rattle.model.specs.Emission.{Fields, toSchema}
-use Rattle.model.specs.Answer.{tableWords, Batch, Buffers, Answer, WellFormed, schemaOf, isShort, cleared, withSchema, answerOf, answer}
+use Rattle.model.specs.Answer.{tableWords, Batch, Buffers, Answer, WellFormed, schemaOf, isShort, cleared, turnedDown, zeroed, withSchema, answerOf, answer}
 use Rattle.model.specs.Census.{SameCensus}
-use Rattle.model.specs.Demand3.{Plain, Accepted, SameSchema, StructRecords, NoPlaceBoth, IsRecord, NoShorter, SameButOrder, batchOf, recordsOf}
+use Rattle.model.specs.Demand3.{Plain, Accepted, SameSchema, StructRecords, NoPlaceBoth, Split, NoShorter, SameButOrder, withRecords, recordsOf}
+use Rattle.model.specs.Soundings.{Sounding, batch, Roomy, outcome, soundings}
+use Rattle.model.specs.laws.Sounded.{sounded}
 use Rattle.fasthrom.specs.declared.Answer as R
 use Rattle.fasthrom.specs.Called.{said, Called}
 use Rattle.equality.specs.laws.emission.Answers.{Ending, barred, turned, whole, answer-ends}
-use Rattle.call.specs.laws.Bounded.{read-through, as-unbounded, too-many, past-reading}
-use Rattle.call.specs.laws.Demand3.{Took, alike, again}
+use Rattle.equality.specs.laws.emission.Bounded.{read-through, as-unbounded, as-demanded, exactly, past-reading}
+use Rattle.call.specs.laws.Demand3.{Took, alike, apart, again}
 
 -- One call: what was handed in and lent, the numbers answered and what was left in the buffers, tied by the function's contract.
 pub record Call : Type 0 where
@@ -118,27 +124,30 @@ abbrev pub rust : Batch → Result Fields
 rust b = fromSamples b >>= toSchema (b .options) (length (b .commands))
 
 pub record Demand2 (b : Batch) (lent : Buffers) (a : Answer) : Type 0 where
-  -- unless a 1,025th place is needed, the answer is what the Rust gives: its refusal and place, or its schema, which fits or gets 18
+  -- a batch of at most 1,024 places, read off its census, gets what the Rust gives: its refusal and place, or its schema, which fits or gets 18
+  pub within : AtMost placeLimit (b .options) (recordsOf b) → a ≡ answerOf b lent (rust b)
+  -- so does every other, unless a 1,025th place is needed
   pub equal : (a .refusal ≡ tooManyPlaces → ⊥) → a ≡ answerOf b lent (rust b)
-  -- and what has at most 1,024 places is not refused for them
-  pub places : a .refusal ≡ tooManyPlaces → (tree : Tree) → fromSamples b ≡ accepted tree → placeLimit < size tree
+  -- which is said at p exactly if the command there is the first that needs it, and the Rust refuses none before p
+  pub eleven : (p : ℕ) → (a ≡ turnedDown tooManyPlaces p (zeroed lent)) ↔ Exceeds (b .options) (recordsOf b) p
   -- a well-formed batch is turned down for none of 1 to 6
   pub read : (a .refusal ≡ 0) ⊎ (7 ≤ a .refusal)
 
-equals : (b : Batch) (lent : Buffers) → WellFormed b → tableWords ≤ length (lent .table) → Demand2 b lent (answerOf b lent (schemaOf b))
-equals b lent w t = record { equal = as-unbounded b lent; places = too-many b lent; read = past-reading b lent w }
-
 pub demand-2 : (call : Call) → WellFormed (call .batch) → tableWords ≤ length (call .lent .table) →
     Demand2 (call .batch) (call .lent) (gave call)
-demand-2 call w t = rw (is call ∙ read-through (call .batch) (call .lent) w t) (equals (call .batch) (call .lent) w t)
+demand-2 call w t =
+    let b = call .batch in
+    let lent = call .lent in
+    rw (is call ∙ read-through b lent w t)
+    (record { within = as-demanded b lent w; equal = as-unbounded b lent; eleven = exactly b lent w; read = past-reading b lent w })
 
 -- ---- Demand 3
--- "For every options word with allow_to_string and enums_without_data_as_strings off, and every two batches of struct records accepted under
--- it, in whatever order their records come and whichever fields they leave out, the two schemas are equal exactly when the two censuses are,
--- provided neither batch shows one place both as struct and as map. Schemas are equal when they have equally many field records and name
--- bytes, and the same bytes in them, whatever the buffers held before. Put such a batch's records in any other order, the buffers no shorter,
--- and it is accepted again, with nothing changed in its schema but the order of struct fields. The census is counted from the records without
--- merging anything."
+-- "For every options word with allow_to_string and enums_without_data_as_strings off, and every two batches of struct records accepted
+-- under it, in whatever order their records come and whichever fields they leave out, the two schemas are equal exactly when the two
+-- censuses are, provided neither batch shows one place both as struct and as map. Schemas are equal when they have equally many field
+-- records and name bytes, and the same bytes in them, whatever the buffers held before. Put such a batch's records in any other order,
+-- the buffers no shorter, and it is accepted again, with nothing changed in its schema but the order of struct fields. The census is
+-- counted from the records without merging anything."
 
 -- a call with struct records, accepted under that options word
 pub record Taken (options : ℕ) (call : Call) : Type 0 where
@@ -150,16 +159,30 @@ pub record Taken (options : ℕ) (call : Call) : Type 0 where
 took : {options : ℕ} {call : Call} → Taken options call → Took (call .batch) (gave call)
 took a = (a .taken, a .structs, a .not-both)
 
+pub record Reordered (call : Call) : Type 0 where
+  -- the batch is made up of records, in one way only
+  pub split : Split (call .batch)
+  -- in any other order, the buffers no shorter, they are accepted again, and only the order of struct fields changes
+  pub again : (others : List (List ℕ)) → List·Permᴰ (split .records) others
+      → (other : Call) → other .batch ≡ withRecords (call .batch) others → NoShorter (call .lent) (other .lent)
+      → Accepted (gave other) × SameButOrder (gave call) (gave other)
+
 pub record Demand3 : Type 0 where
   -- schemas are equal exactly when censuses are
   pub equal : (options : ℕ) → Plain options → (call other : Call) → Taken options call → Taken options other
       → SameSchema (gave call) (gave other) ↔ SameCensus options (recordsOf (call .batch)) (recordsOf (other .batch))
-  -- the records in another order are accepted again, and only the order of struct fields changes
-  pub reordered : (options : ℕ) → Plain options
-      → (text : List ℕ) (records others : List (List ℕ)) → All (IsRecord options text) records → List·Permᴰ records others
-      → (call other : Call) → call .batch ≡ batchOf options text records → other .batch ≡ batchOf options text others
-      → Taken options call → NoShorter (call .lent) (other .lent)
-      → Accepted (gave other) × SameButOrder (gave call) (gave other)
+  -- and the records of such a batch may come in any other order
+  pub reordered : (options : ℕ) → Plain options → (call : Call) → Taken options call → Reordered call
+
+reorder : (options : ℕ) → Plain options → (call : Call) → Taken options call → Reordered call
+reorder options plain call a =
+    let s = apart (call .batch) (call .lent) (gave call) (is call) (a .taken) in
+    record {
+      split = s;
+      again = λ others perm other e long.
+          again options plain (call .batch) (other .batch) (call .lent) (other .lent) (gave call) (gave other)
+          (is call) (is other) (a .under) (took a) (s .records) others (s .are) perm e long;
+    }
 
 pub demand-3 : Demand3
 demand-3 =
@@ -167,7 +190,13 @@ demand-3 =
       equal = λ options plain call other a b.
           alike options plain (call .batch) (other .batch) (call .lent) (other .lent) (gave call) (gave other)
           (is call) (is other) (a .under) (b .under) (took a) (took b);
-      reordered = λ options plain text records others are perm call other e f a long.
-          again options plain (call .batch) (other .batch) (call .lent) (other .lent) (gave call) (gave other)
-          (is call) (is other) text records others are perm e f (took a) long;
+      reordered = reorder;
     }
+
+-- ---- Soundings
+-- P1 to P12 of document 01, of every call that is handed one of their batches, with buffers long enough
+pub p1-to-p12 : All (λ (s : Sounding). (call : Call) → call .batch ≡ batch s → Roomy (call .lent) → outcome (gave call) ≡ s .gives)
+    soundings
+p1-to-p12 =
+    all-map _ _ soundings
+    (λ s h call e roomy. ap outcome (is call ∙ ap (λ (b : Batch). answer b (call .lent)) e) ∙ h (call .lent) roomy) sounded

@@ -1,7 +1,8 @@
 // The lines that list field records: level, type, nullable, strategy, variant, children, name (document 01, "Soundings").
+ghost use mathlib.Core.Path.{_≡_};
 ghost use Prim.Native.Nat.{_+_, _<_, _≤_};
 ghost use lib.ListN.{length};
-ghost use Rattle.io.specs.Counts.{Counts};
+ghost use Rattle.listing.specs.Levels.{levelAfter, oneFewer, nextLevel, nextDue};
 use libc::STDOUT_FILENO;
 
 // A number, and what follows it.
@@ -10,42 +11,16 @@ pub fn print_number(n: usize, after: &[u8]) {
     io::write_all(STDOUT_FILENO, after);
 }
 
-fn wide(byte: u8) -> usize
-    ensures { λ r. ⌜ r < 256 ⌝ }
-{
-    byte as usize
-}
-
-// Two bytes, low byte first.
-pub fn two_bytes(bytes: &[u8], at: usize) -> usize
-    requires { ⌜ at + 1 < length (now bytes) ⌝ }
-    ensures { λ r. ⌜ r < 65536 ⌝ }
-{
-    wide(bytes[at]) + wide(bytes[at + 1]) * 256
-}
-
-// So many bytes from an offset on end here: with the buffer, if it has not as many.
-pub fn end_of(buffer: &[u8], at: usize, bytes: usize) -> usize
-    requires { ⌜ at ≤ length (now buffer) ⌝ }
-    ensures { λ r. ⌜ (at ≤ r) × Counts r (now (buffer .entry)) ⌝ }
-{
-    if buffer.len() - at < bytes {
-        buffer.len()
-    } else {
-        at + bytes
-    }
-}
-
 // The line of the field record at an offset: level, type, nullable, strategy, variant, children, name.
 fn print_record(level: usize, fields: &[u8], at: usize, name: &[u8])
     requires { ⌜ at + 8 ≤ length (now fields) ⌝ }
 {
     print_number(level, b" ");
-    print_number(wide(fields[at]), b" ");
-    print_number(wide(fields[at + 1]), b" ");
-    print_number(wide(fields[at + 2]), b" ");
-    print_number(wide(fields[at + 3]), b" ");
-    print_number(two_bytes(fields, at + 6), b" ");
+    print_number(files::wide(fields[at]), b" ");
+    print_number(files::wide(fields[at + 1]), b" ");
+    print_number(files::wide(fields[at + 2]), b" ");
+    print_number(files::wide(fields[at + 3]), b" ");
+    print_number(files::two_bytes(fields, at + 6), b" ");
     io::write_all(STDOUT_FILENO, name);
     io::write_all(STDOUT_FILENO, b"\n");
 }
@@ -54,7 +29,7 @@ fn print_record(level: usize, fields: &[u8], at: usize, name: &[u8])
 // nearest record above it after which one is.
 fn climb(due: &mut [u16; 8193], level: usize) -> usize
     requires { ⌜ level < 8193 ⌝ }
-    ensures { λ r. ⌜ r ≤ level ⌝ }
+    ensures { λ r. ⌜ (r ≡ levelAfter (now (due .entry)) level) × (now (due .exit) ≡ oneFewer (now (due .entry)) r) × (r ≤ level) ⌝ }
 {
     let mut level = level;
     while 0 < level {
@@ -72,7 +47,8 @@ fn climb(due: &mut [u16; 8193], level: usize) -> usize
 // fields, the one in hand among them.
 fn next_level(due: &mut [u16; 8193], level: usize, children: u16) -> usize
     requires { ⌜ level < 8192 ⌝ }
-    ensures { λ r. ⌜ r ≤ level + 1 ⌝ }
+    ensures { λ r. ⌜ (r ≡ nextLevel (now (due .entry)) level children) × (r ≤ level + 1) ⌝ }
+    ensures { λ _. ⌜ now (due .exit) ≡ nextDue (now (due .entry)) level children ⌝ }
 {
     if children == 0 {
         return climb(due, level);
@@ -90,9 +66,9 @@ pub fn print_records(fields: &[u8], names: &[u8])
     let mut name = 0;
     let mut at = 0;
     while at + 8 <= fields.len() {
-        let end = end_of(names, name, two_bytes(fields, at + 4));
+        let end = files::end_of(names, name, files::two_bytes(fields, at + 4));
         print_record(level, fields, at, &names[name..end]);
-        level = next_level(&mut due, level, two_bytes(fields, at + 6) as u16);
+        level = next_level(&mut due, level, files::two_bytes(fields, at + 6) as u16);
         name = end;
         at += 8;
     }

@@ -1,5 +1,5 @@
 -- The words of demand 3: accepted, equal schemas, struct records, a place shown both as struct and as map, records in another order.
-use mathlib.Core.Bool.{Bool, true, false, _&&_, _||_}
+use mathlib.Core.Bool.{Bool, true, false, not, _&&_, _||_}
 use mathlib.Core.List.{List, [], _∷_, flatten}
 use mathlib.Core.Path.{_≡_}
 use Prim.Native.Nat.{ℕ, _*_, _≤_}
@@ -7,7 +7,7 @@ use lib.Dec.{eqb}
 use lib.ListN.{length, take}
 use Rattle.logic.specs.Test.{if_then_else_}
 use Rattle.logic.specs.All.{All}
-use Rattle.datatype.specs.Codes.{struct, noStrategy}
+use Rattle.datatype.specs.Codes.{struct, map, noStrategy}
 use Rattle.options.specs.Word.{allowToString, enumsWithoutDataAsStrings}
 use Rattle.model.specs.Kinds.{structKind, mapKind, mapModeKind, Step}
 use Rattle.model.specs.Reading.{Value, values, isWhole}
@@ -62,9 +62,20 @@ NoPlaceBoth b = (steps : List Step) → (shows asStruct (standing steps (records
 abbrev pub IsRecord : ℕ → List ℕ → List ℕ → Type 0
 IsRecord options text commands = (v : Value) × (values options commands text ≡ v ∷ []) × (isWhole v ≡ true)
 
--- the batch of these records, one after another
-abbrev pub batchOf : ℕ → List ℕ → List (List ℕ) → Batch
-batchOf options text records = batch options (flatten records) text
+-- the batch with these records instead, one after another
+abbrev pub withRecords : Batch → List (List ℕ) → Batch
+withRecords b records = batch (b .options) (flatten records) (b .text)
+
+-- the records of a batch: each is read by itself as one whole record, and one after another they are the batch
+pub record AreRecords (b : Batch) (records : List (List ℕ)) : Type 0 where
+  pub each : All (IsRecord (b .options) (b .text)) records
+  pub together : withRecords b records ≡ b
+
+-- a batch is made up of records in one way only
+pub record Split (b : Batch) : Type 0 where
+  pub records : List (List ℕ)
+  pub are : AreRecords b records
+  pub only : (others : List (List ℕ)) → AreRecords b others → others ≡ records
 
 -- the buffers no shorter
 pub record NoShorter (lent other : Buffers) : Type 0 where
@@ -72,23 +83,26 @@ pub record NoShorter (lent other : Buffers) : Type 0 where
   pub fields : length (lent .fields) ≤ length (other .fields)
   pub names : length (lent .names) ≤ length (other .names)
 
--- a field that is a struct, neither a tuple nor a map traced as one
-abbrev pub isPlain : ℕ → ℕ → Bool
-isPlain type strategy = eqb type struct && eqb strategy noStrategy
+-- a struct whose fields are listed in order of first sight: neither a tuple nor a map traced as one, nor the entries of a map, whose fields
+-- are key and value; `above` is the type of the field that it stands in
+abbrev pub isListed : ℕ → ℕ → ℕ → Bool
+isListed above type strategy = eqb type struct && eqb strategy noStrategy && not (eqb above map)
 
--- the fields of every struct, each with all below it, in the order of their names
+-- "only listed struct order can change, each field moving with all below it": the fields of every such struct, each with all below it, in
+-- the order of their names; all others as they stand
 unfoldable mutual
-  pub inNameOrderOf : Field → Field
-  inNameOrderOf (mk type nullable strategy number name fs) =
-      mk type nullable strategy number name (if isPlain type strategy then byName (inNameOrderBelow fs) else inNameOrderBelow fs)
+  pub inNameOrderOf : ℕ → Field → Field
+  inNameOrderOf above (mk type nullable strategy number name fs) =
+      mk type nullable strategy number name
+      (if isListed above type strategy then byName (inNameOrderBelow type fs) else inNameOrderBelow type fs)
 
-  pub inNameOrderBelow : Fields → Fields
-  inNameOrderBelow no-fields = no-fields
-  inNameOrderBelow (more f fs) = more (inNameOrderOf f) (inNameOrderBelow fs)
+  pub inNameOrderBelow : ℕ → Fields → Fields
+  inNameOrderBelow above no-fields = no-fields
+  inNameOrderBelow above (more f fs) = more (inNameOrderOf above f) (inNameOrderBelow above fs)
 
 -- of a schema: the root is a struct
 unfoldable pub inNameOrder : Fields → Fields
-inNameOrder fs = byName (inNameOrderBelow fs)
+inNameOrder fs = byName (inNameOrderBelow struct fs)
 
 -- the answer holds the fields of a schema
 pub record Holds (schema : Fields) (a : Answer) : Type 0 where

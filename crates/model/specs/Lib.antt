@@ -6,6 +6,7 @@ pub mod Unbounded
 pub mod Emission
 pub mod Answer
 pub mod Census
+pub mod Bound
 pub mod Demand3
 pub mod Soundings
 pub mod laws

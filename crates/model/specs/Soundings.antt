@@ -1,22 +1,11 @@
--- P1 to P12 of document 01's "Soundings", through the whole answer from bytes: one table and one theorem.
-use mathlib.Core.Path.{_≡_, refl}
+-- P1 to P12 of document 01's "Soundings", in one table. The theorem is that every call that is handed one of these batches gives what the
+-- table says (`fasthrom`, Demands).
 use mathlib.Core.List.{List, [], _∷_, _++_}
-use Prim.Native.Nat.{ℕ, _+_}
-use lib.ListN.{take, replicate}
-use Rattle.logic.specs.Test.{if_then_else_}
+use Prim.Native.Nat.{ℕ, zero, suc, _+_, _*_, _≤_}
+use lib.ListN.{length, take}
 use Rattle.datatype.specs.Codes.{uint8, uint64, int64, float32, float64, largeUtf8, timestampUtc, union}
 use Rattle.refusal.specs.Number.{noJoint, tooManySlots}
-use Rattle.text.specs.Name.{eqName, dots}
-use Rattle.text.specs.Utf8 as U
-use Rattle.chrono.specs.Grammar as G
-use Rattle.chrono.specs.Text.{textType, firstFit}
-use Rattle.coerce.specs.Joint as J
-use Rattle.commands.specs.Commands as C
-use Rattle.model.specs.Kinds.{same}
-use Rattle.model.specs.Reading as R
-use Rattle.model.specs.Tracing as T
-use Rattle.model.specs.Emission as E
-use Rattle.model.specs.Answer.{tableWords, Answer, Batch, Buffers, schemaOf, cleared, answerOf, answer}
+use Rattle.model.specs.Answer.{tableWords, recordBytes, Answer, Batch, Buffers}
 
 -- the Rust's default options, and those named
 abbrev default : ℕ
@@ -44,22 +33,37 @@ abbrev records : List (List ℕ) → List ℕ
 records [] = []
 records (v ∷ vs) = (0x15 ∷ 0x16 ∷ 0 ∷ 0 ∷ 1 ∷ 0 ∷ v) ++ (0x17 ∷ records vs)
 
-abbrev batch : Sounding → Batch
+abbrev pub batch : Sounding → Batch
 batch s = record { options = s .options; commands = records (s .shown); text = 120 ∷ s .text }
 
-abbrev lent : Buffers
-lent = record { table = replicate tableWords 0; fields = replicate 2048 0; names = replicate 64 0 }
+-- the most field records and name bytes that one of them has: P11's field and 128 slots; the field's name and the variant's
+abbrev pub mostRecords : ℕ
+mostRecords = 129
 
--- a refusal changes no buffer, so of a refused batch these are zeros
-abbrev outcome : Answer → List ℕ
-outcome a = a .refusal ∷ take 8 (a .left .fields)
+abbrev pub mostBytes : ℕ
+mostBytes = 2
+
+-- buffers with room for each, whatever they hold
+pub record Roomy (lent : Buffers) : Type 0 where
+  pub table : tableWords ≤ length (lent .table)
+  pub fields : recordBytes * mostRecords ≤ length (lent .fields)
+  pub names : mostBytes ≤ length (lent .names)
+
+-- the first of so many field records
+abbrev pub firstOf : ℕ → List ℕ → List ℕ
+firstOf zero fields = []
+firstOf (suc n) fields = take recordBytes fields
+
+-- the refusal, or 0 and the first field's record
+abbrev pub outcome : Answer → List ℕ
+outcome a = a .refusal ∷ firstOf (a .field-records) (a .left .fields)
 
 -- a field record of the field `x`: type, and how many children
 abbrev field : ℕ → ℕ → List ℕ
 field type children = 0 ∷ type ∷ 0 ∷ 0 ∷ 0 ∷ 1 ∷ 0 ∷ children ∷ 0 ∷ []
 
 abbrev refusal : ℕ → List ℕ
-refusal number = number ∷ replicate 8 0
+refusal number = number ∷ []
 
 -- commands: bool, i8, i32, u8, u16, f32
 abbrev bool : List ℕ
@@ -96,7 +100,7 @@ blank-datetime =
 abbrev row : ℕ → List (List ℕ) → List ℕ → List ℕ → Sounding
 row options shown text gives = record { options = options; shown = shown; text = text; gives = gives }
 
-pub soundings : List Sounding
+unfoldable pub soundings : List Sounding
 soundings =
     row default (u8 ∷ u8 ∷ []) [] (field uint8 0) ∷
     row coerce (u8 ∷ u16 ∷ []) [] (field uint64 0) ∷
@@ -111,15 +115,3 @@ soundings =
     row default (variant 127 ∷ []) [] (field union 128) ∷
     row default (variant 128 ∷ []) [] (refusal tooManySlots) ∷
     []
-
-abbrev outcomes : List Sounding → List (List ℕ)
-outcomes [] = []
-outcomes (s ∷ ss) = outcome (answer (batch s) lent) ∷ outcomes ss
-
-abbrev given : List Sounding → List (List ℕ)
-given [] = []
-given (s ∷ ss) = s .gives ∷ given ss
-
-pub sounded : outcomes soundings ≡ given soundings
-unfolding soundings if_then_else_ cleared eqName dots textType firstFit same schemaOf answerOf answer U.within U.dueIn U.reads U.fits G.leadsMany G.leads G.fits J.numberJoint J.jointOfNumbers J.jointWithString J.jointOfTimestamps J.jointOfUnequal J.joint C.formOf C.operands C.made C.nameIn C.badCommand C.badName C.readCommand R.shapeOf R.nextPart R.recordsFrom R.values R.readValue R.readShape R.readParts T.meet T.stepsOf T.has T.kidAt T.put T.clashes T.room T.made T.make T.holds T.tally T.observeAll T.trace T.observe T.observeParts E.insertVariant E.byNumber E.datalessFrom E.typeOf E.strategyOf E.insertField E.byName E.gaps E.arranged E.toSchema E.placeOf E.placesOf E.walk E.walks E.fieldOf E.fieldsOf E.recordsOf E.recordsIn E.namesOf E.namesIn E.columnsOf E.columnsIn E.countOf E.countIn
-sounded = refl

@@ -57,29 +57,15 @@ fn trace(options: u16, commands: &[u8], text: &[u8], table: &mut [u32])
     }
 }
 
-fn wide(byte: u8) -> usize
-    ensures { λ r. ⌜ r < 256 ⌝ }
-{
-    byte as usize
-}
-
-// Two bytes, low byte first.
-fn two_bytes(batches: &[u8], at: usize) -> usize
-    requires { ⌜ at + 1 < length (now batches) ⌝ }
-    ensures { λ r. ⌜ r < 65536 ⌝ }
-{
-    wide(batches[at]) + wide(batches[at + 1]) * 256
-}
-
 // A batch is the options word, the lengths of commands and text, and both. One that is cut off is the last.
 fn trace_all(batches: &[u8], table: &mut [u32])
     requires { ⌜ IsTable (now table) ⌝ }
 {
     let mut at = 0;
     while batches.len() - at >= 6 {
-        let options = two_bytes(batches, at) as u16;
-        let commands = two_bytes(batches, at + 2);
-        let text = two_bytes(batches, at + 4);
+        let options = files::two_bytes(batches, at) as u16;
+        let commands = files::two_bytes(batches, at + 2);
+        let text = files::two_bytes(batches, at + 4);
         let start = at + 6;
         if batches.len() - start < commands + text {
             return;
@@ -98,6 +84,9 @@ fn trace_all(batches: &[u8], table: &mut [u32])
 fn main() {
     let mut buffer = [0u8; 65536];
     let mut table = [0u32; words::WORDS];
-    let n = replay::load(b"batches.bin", &mut buffer);
+    let loaded = files::load(b"batches.bin", &mut buffer);
+    let n = loaded.bytes;
     trace_all(&buffer[..n], &mut table);
+    io::print_decimal(STDOUT_FILENO, n as u64);
+    io::write_all(STDOUT_FILENO, b" bytes\n");
 }

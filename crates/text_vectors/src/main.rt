@@ -1,8 +1,12 @@
 // Replays names.bin: whether byte strings are UTF-8, against the answers of Rust's from_utf8.
+ghost use mathlib.Core.Path.{_≡_};
+ghost use Rattle.text_vectors.specs.Agrees.{agrees};
 use text::Name;
 
 // A record: 1 for UTF-8 and 0 else, the byte string. The record is the text, and the string a name in it.
-fn agrees(record: &[u8]) -> bool {
+fn agrees(record: &[u8]) -> bool
+    ensures { λ r. ⌜ r ≡ agrees (now («record» .entry)) ⌝ }
+{
     if record.len() == 0 {
         return false;
     }
@@ -30,11 +34,12 @@ fn replay_all(vectors: &[u8]) {
         differ += replay::differs(records, agrees(&vectors[start..at]));
         records += 1;
     }
-    replay::report(records, b" byte strings, ", differ);
+    replay::report(records, b" byte strings", vectors.len(), differ);
 }
 
 fn main() {
     let mut buffer = [0u8; 262144];
-    let n = replay::load(b"names.bin", &mut buffer);
+    let loaded = files::load(b"names.bin", &mut buffer);
+    let n = loaded.bytes;
     replay_all(&buffer[..n]);
 }

@@ -3,10 +3,9 @@ use mathlib.Core.Path.{_≡_}
 use mathlib.Core.List.{List, List·Permᴰ}
 use mathlib.Core.Logic.{_↔_}
 use Prim.Native.Nat.{ℕ}
-use Rattle.logic.specs.All.{All}
 use Rattle.model.specs.Answer.{Batch, Buffers, Answer, answer}
 use Rattle.model.specs.Census.{SameCensus}
-use Rattle.model.specs.Demand3.{Plain, Accepted, SameSchema, StructRecords, NoPlaceBoth, IsRecord, NoShorter, SameButOrder, batch, batchOf, recordsOf}
+use Rattle.model.specs.Demand3.{Plain, Accepted, SameSchema, StructRecords, NoPlaceBoth, AreRecords, Split, NoShorter, SameButOrder, batch, withRecords, recordsOf}
 use Rattle.equality.specs.Demand3.{demand-3}
 
 -- struct records that were accepted
@@ -21,9 +20,11 @@ module _ (options : ℕ) (plain : Plain options) (b c : Batch) (lent other : Buf
       rw (x-is, y-is, u, v)
       (demand-3 .equal options plain (b .commands) (b .text) lent (h′ .0) (h′ .1) (h′ .2) (c .commands) (c .text) other (k′ .0) (k′ .1) (k′ .2))
 
-  pub again : (text : List ℕ) (records others : List (List ℕ)) → All (IsRecord options text) records → List·Permᴰ records others →
-      b ≡ batchOf options text records → c ≡ batchOf options text others → Took b x → NoShorter lent other →
-      Accepted y × SameButOrder x y
-  again text records others are perm u v h long =
-      let h′ : Took (batchOf options text records) (answer (batchOf options text records) lent) = rw (x-is, u) at h in
-      rw (x-is, y-is, u, v) (demand-3 .reordered options plain text records others are perm lent (h′ .0) (h′ .1) (h′ .2) other long)
+  pub again : b .options ≡ options → Took b x → (records others : List (List ℕ)) → AreRecords b records → List·Permᴰ records others →
+      c ≡ withRecords b others → NoShorter lent other → Accepted y × SameButOrder x y
+  again u h records others are perm v long =
+      let h′ : Took b (answer b lent) = rw x-is at h in
+      rw (x-is, y-is, v) (demand-3 .reordered b (rw u plain) lent (h′ .0) (h′ .1) (h′ .2) records others are perm other long)
+
+pub apart : (b : Batch) (lent : Buffers) (x : Answer) → x ≡ answer b lent → Accepted x → Split b
+apart b lent x x-is a = demand-3 .split b lent (rw x-is at a)

@@ -2,3 +2,4 @@ pub mod Standing
 pub mod Kind
 pub mod View
 pub mod Equal
+pub mod Room

@@ -4,3 +4,4 @@ pub mod InOrder
 pub mod Records
 pub mod Accepted
 pub mod Answers
+pub mod Bounded

@@ -6,3 +6,6 @@ pub mod Refusals
 pub mod Kinds
 pub mod Acceptance
 pub mod Place
+pub mod Needs
+pub mod Ascending
+pub mod Held

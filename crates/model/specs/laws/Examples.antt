@@ -4,10 +4,11 @@ use mathlib.Core.Bool.{true, false}
 use mathlib.Core.List.{List, [], _∷_}
 use mathlib.Core.Option.{Option, some}
 use Prim.Native.Nat.{ℕ}
+use native.Mathlib.Omega.{arith}
 use lib.ListN.{replicate}
 use Rattle.logic.specs.Test.{if_then_else_}
 use Rattle.logic.specs.All.{has}
-use Rattle.datatype.specs.Codes.{uint8}
+use Rattle.datatype.specs.Codes.{uint8, struct, map, noStrategy}
 use Rattle.refusal.specs.Number.{tooDeep, nullRoot, nullField}
 use Rattle.text.specs.Name.{dot, eqName, ltName, dots}
 use Rattle.text.specs.Utf8 as U
@@ -19,8 +20,11 @@ use Rattle.model.specs.Kinds.{field, same}
 use Rattle.model.specs.Reading as R
 use Rattle.model.specs.Tracing as T
 use Rattle.model.specs.Emission as E
+use Rattle.model.specs.Unbounded as N
 use Rattle.model.specs.Census as S
+use Rattle.model.specs.Bound as B
 use Rattle.model.specs.Answer.{schemaOf}
+use Rattle.model.specs.Demand3.{inNameOrderOf, inNameOrder}
 
 abbrev pub refusalOf : Result E.Fields → List ℕ
 refusalOf (accepted schema) = 0 ∷ 0 ∷ []
@@ -62,3 +66,58 @@ said commands = S.census 30 (field (97 ∷ []) ∷ []) false (R.values 30 comman
 pub lacking-null : said (0x15 ∷ 0x16 ∷ 0 ∷ 0 ∷ 1 ∷ 0 ∷ 0x06 ∷ 0x17 ∷ 0x15 ∷ 0x17 ∷ []) ≡ some (record { null = true; kind = uint8; children = [] })
 unfolding said
 lacking-null = refl
+
+-- ---- which commands need places
+unfoldable pub needing : ℕ → List ℕ → List ℕ
+unfolding if_then_else_ eqName dots same C.formOf C.operands C.made C.nameIn C.badCommand C.badName C.readCommand R.shapeOf R.nextPart R.recordsFrom R.values R.readValue R.readShape R.readParts T.meet T.stepsOf T.has T.kidAt T.put T.clashes T.made T.holds T.tally N.makeAll N.allowed N.see N.seeParts B.needed B.needs B.needsIn B.needsAll J.numberJoint J.jointOfNumbers J.jointWithString J.jointOfTimestamps J.jointOfUnequal J.joint
+needing options commands = B.needsAll options (R.values options commands []) T.fresh
+
+-- a tuple of two and one of three: the first needs both its positions at its own command, the second its third at that position's value
+pub tuples-need : needing 30 (0x13 ∷ 2 ∷ 0 ∷ 1 ∷ 1 ∷ 0x13 ∷ 3 ∷ 0 ∷ 1 ∷ 1 ∷ 1 ∷ []) ≡ 0 ∷ 0 ∷ 10 ∷ []
+unfolding needing
+tuples-need = refl
+
+-- behind a refusal (bool and u8 have no joint) nothing is needed
+pub refused-needs : needing 0 (0x01 ∷ 0x06 ∷ 0x13 ∷ 2 ∷ 0 ∷ 1 ∷ 1 ∷ []) ≡ []
+unfolding needing
+refused-needs = refl
+
+-- ---- nothing changed but the order of struct fields
+abbrev leaf : List ℕ → E.Field
+leaf name = E.mk uint8 false noStrategy 0 name E.no-fields
+
+abbrev alone : E.Field → E.Fields
+alone f = E.more f E.no-fields
+
+-- a struct with two fields, by their names
+abbrev pair : List ℕ → E.Field → E.Field → E.Field
+pair name f g = E.mk struct false noStrategy 0 name (E.more f (alone g))
+
+-- the schema of one field, a map with these entries
+abbrev mapOf : E.Field → E.Field → E.Fields
+mapOf f g = alone (E.mk map false noStrategy 0 (109 ∷ []) (alone (pair E.entriesName f g)))
+
+-- the fields `a` and `b` of a struct, in both orders
+abbrev ab : List ℕ → E.Field
+ab name = pair name (leaf (97 ∷ [])) (leaf (98 ∷ []))
+
+abbrev ba : List ℕ → E.Field
+ba name = pair name (leaf (98 ∷ [])) (leaf (97 ∷ []))
+
+-- a struct's fields in two orders are the same, below a map's value too
+pub struct-reordered : inNameOrder (alone (ba (115 ∷ []))) ≡ inNameOrder (alone (ab (115 ∷ [])))
+unfolding inNameOrder inNameOrderOf E.byName E.insertField ltName if_then_else_
+struct-reordered = refl
+
+pub below-map-reordered : inNameOrder (mapOf (leaf E.keyName) (ba E.valueName)) ≡ inNameOrder (mapOf (leaf E.keyName) (ab E.valueName))
+unfolding inNameOrder inNameOrderOf E.byName E.insertField ltName if_then_else_
+below-map-reordered = refl
+
+-- a map's key and value in two orders are not: each stands as it was
+pub map-kept : inNameOrder (mapOf (leaf E.valueName) (leaf E.keyName)) ≡ mapOf (leaf E.valueName) (leaf E.keyName)
+unfolding inNameOrder inNameOrderOf E.byName E.insertField ltName if_then_else_
+map-kept = refl
+
+pub map-not-reordered : inNameOrder (mapOf (leaf E.keyName) (leaf E.valueName)) ≡ inNameOrder (mapOf (leaf E.valueName) (leaf E.keyName)) → ⊥
+unfolding inNameOrder inNameOrderOf E.byName E.insertField ltName if_then_else_
+map-not-reordered e = let z : _≡_ {A = ℕ} 0 1 = cc in omega arith

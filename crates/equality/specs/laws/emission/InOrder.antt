@@ -161,7 +161,7 @@ precedes-named : (r s : Step) → r ≡ field (nameOf r) → s ≡ field (nameOf
 unfolding ltName
 precedes-named r s p q = ap₂ precedes p q
 
-pub name-plain : (options : ℕ) (x : List ℕ) (v : ℕ) (p : Place) → nameIn (plainField options x v p) ≡ x
+name-plain : (options : ℕ) (x : List ℕ) (v : ℕ) (p : Place) → nameIn (plainField options x v p) ≡ x
 unfolding plainField
 name-plain options x v (shown admits kind ps) = refl
 

@@ -1,14 +1,20 @@
 -- Batches one after another: the values of commands that are read through, and then of those that follow, with their offsets moved on.
-use mathlib.Core.Path.{_≡_, refl, sym, ap, _∙_}
+use mathlib.Core.Path.{_≡_, refl, sym, ap, ap₂, _∙_}
 use mathlib.Core.Bool.{true, true≢false}
 use mathlib.Core.List.{List, [], _∷_, _++_, flatten, List·Permᴰ, List·Permᴰ·nil, List·Permᴰ·cons, List·Permᴰ·swap, List·Permᴰ·trans, Permᴰ·refl}
 use mathlib.Core.Option.{none, some}
 use Prim.Native.Nat.{ℕ, zero, suc, _+_, _≤_, _<_}
 use native.Mathlib.Nat.{le-refl}
 use native.Mathlib.Omega.{arith}
+use lib.Dec.{ltb}
 use lib.ListN.{length, length-append, take, drop, take-append-drop, length-drop}
-use lib.Seq.{length-take-le}
+use lib.Seq.{length-take-le, take-at, drop-at}
+use borrow.Author.Tests.{ltb-true, ltb-false}
+use Rattle.logic.specs.laws.Test.{cases}
+use Rattle.logic.specs.All.{All}
 use Rattle.model.specs.Reading.{Value, Got, enough, recordsFrom, values, isWhole, allWhole}
+use Rattle.model.specs.Answer.{Batch}
+use Rattle.model.specs.Demand3.{IsRecord, Split, batch, recordsOf}
 use Rattle.equality.specs.laws.Base.{and-left, and-right, and-both}
 use Rattle.equality.specs.laws.reading.Commands.{agree-further, agree-earlier}
 use Rattle.equality.specs.laws.reading.Values.{done, value-whole, value-on}
@@ -156,12 +162,12 @@ module _ (options : ℕ) (cs text : List ℕ) (b : ℕ) (e : record-at options c
       one-record options (take b cs) text (length (take b cs)) (omega arith) (le-refl (length (take b cs))) (ap (λ (got : Got Value). got .1) same ∙ e ∙ ap some h)
       ∙ ap (λ (got : Got Value). got .0 ∷ []) same
 
-pub split-records : (options : ℕ) (text : List ℕ) (n : ℕ) (cs : List ℕ) → length cs ≤ n → allWhole (values options cs text) ≡ true →
-    (rs : List (List ℕ)) × (vs : List Value) × (flatten rs ≡ cs) × Records options text rs vs
+split-records : (options : ℕ) (text : List ℕ) (n : ℕ) (cs : List ℕ) → length cs ≤ n → allWhole (values options cs text) ≡ true →
+    (rs : List (List ℕ)) × All (IsRecord options text) rs × (flatten rs ≡ cs)
 unfolding flatten values
-split-records options text zero [] h w = ([], [], refl, no-records)
+split-records options text zero [] h w = ([], tt, refl)
 split-records options text zero (c ∷ cs) h w = absurd (omega arith)
-split-records options text (suc n) [] h w = ([], [], refl, no-records)
+split-records options text (suc n) [] h w = ([], tt, refl)
 split-records options text (suc n) (c ∷ cs) h w =
     let all : List ℕ = c ∷ cs in
     record-cases options all text 0 (λ l. absurd (omega arith))
@@ -175,7 +181,65 @@ split-records options text (suc n) (c ∷ cs) h w =
     let both : values options all text ≡ v ∷ movedAll (length (take b all)) (values options (drop b all) text) = rw joined at (values-record options (take b all) (drop b all) text v one whole) in
     let others : allWhole (values options (drop b all) text) ≡ true = sym (allWhole-moved (length (take b all)) (values options (drop b all) text)) ∙ tail-whole v _ (rw both at w) in
     let rest = split-records options text n (drop b all) (rw length-drop (omega arith)) others in
-    (take b all ∷ rest .0, v ∷ rest .1, ap (λ (x : List ℕ). take b all ++ x) (rest .2) ∙ joined, one-more one whole (rest .3)))
+    (take b all ∷ rest .0, ((v, one, whole), rest .1), ap (λ (x : List ℕ). take b all ++ x) (rest .2) ∙ joined))
+
+-- ---- in one way only
+records-some : {P : Type 0} (options : ℕ) (commands text : List ℕ) (f at : ℕ) → at < length commands → length commands ≤ f + at →
+    recordsFrom f options commands text at ≡ [] → P
+records-some options commands text zero at l h e = absurd (omega arith)
+records-some options commands text (suc f) at l h e =
+    record-cases options commands text at (λ k. absurd (omega arith))
+    (λ _ n. let more = records-cut options commands text f at l n in absurd (let z : _≡_ {A = ℕ} 0 1 = cc in omega arith))
+    (λ b _ n. let more = records-more options commands text f at b l n in absurd (let z : _≡_ {A = ℕ} 0 1 = cc in omega arith))
+
+-- the value of a record that stands alone ends where the record does
+record-ends : (options : ℕ) (r text : List ℕ) → IsRecord options text r → record-at options r text 0 .1 ≡ some (length r)
+unfolding values recordsFrom
+record-ends options [] text (v, e, w) = absurd (let z : _≡_ {A = ℕ} 0 1 = cc in omega arith)
+record-ends options (c ∷ cs) text (v, e, w) =
+    let r : List ℕ = c ∷ cs in
+    record-cases options r text 0 (λ l. absurd (omega arith))
+    (λ l n. cut-whole options r text 0 [] n (rw (records-cut options r text (length cs) 0 l n) at (record-whole options r text v e w)))
+    (λ b l n.
+    let on = value-on options r text (enough r) 0 b n in
+    let more = records-more options r text (length cs) 0 b l n in
+    let none-left : recordsFrom (length cs) options r text b ≡ [] = cc in
+    cases (ltb b (length r))
+    (λ t. records-some options r text (length cs) b (ltb-true b (length r) t) (omega arith) none-left)
+    (λ t. let k : length r ≤ b = ltb-false b (length r) t in let z : b ≡ length r = omega arith in n ∙ ap some z))
+
+module _ (options : ℕ) (text : List ℕ) where
+  first-ends : (r : List ℕ) (rs : List (List ℕ)) → IsRecord options text r → record-at options (r ++ flatten rs) text 0 .1 ≡ some (length r)
+  first-ends r rs h =
+      let e = record-ends options r text h in
+      ap (λ (got : Got Value). got .1) (record-stays options r (flatten rs) text 0 (length r) e) ∙ e
+
+  no-record : {P : Type 0} (r : List ℕ) (rs : List (List ℕ)) → IsRecord options text r → [] ≡ r ++ flatten rs → P
+  no-record r rs h e =
+      let on = value-on options r text (enough r) 0 (length r) (record-ends options r text h) in
+      absurd (omega (arith, rw length-append at (ap length e)))
+
+  same-records : (rs qs : List (List ℕ)) → All (IsRecord options text) rs → All (IsRecord options text) qs → flatten rs ≡ flatten qs → rs ≡ qs
+  unfolding flatten
+  same-records [] [] h k e = refl
+  same-records [] (q ∷ qs) h k e = no-record q qs (k .0) e
+  same-records (r ∷ rs) [] h k e = no-record r rs (h .0) (sym e)
+  same-records (r ∷ rs) (q ∷ qs) h k e =
+      let a = first-ends r rs (h .0) in
+      let b = first-ends q qs (k .0) in
+      let l : length q ≡ length r = cc in
+      let first : r ≡ q = sym (take-at r (flatten rs) (length r) refl) ∙ ap (take (length r)) e ∙ take-at q (flatten qs) (length r) l in
+      let others : flatten rs ≡ flatten qs = sym (drop-at r (flatten rs) (length r) refl) ∙ ap (drop (length r)) e ∙ drop-at q (flatten qs) (length r) l in
+      ap₂ (λ (x : List ℕ) (xs : List (List ℕ)). x ∷ xs) first (same-records rs qs (h .1) (k .1) others)
+
+pub split : (b : Batch) → allWhole (recordsOf b) ≡ true → Split b
+split b w =
+    let s = split-records (b .options) (b .text) (length (b .commands)) (b .commands) (le-refl (length (b .commands))) w in
+    record {
+      records = s .0;
+      are = record { each = s .1; together = ap (λ (commands : List ℕ). batch (b .options) commands (b .text)) (s .2) };
+      only = λ others are. same-records (b .options) (b .text) others (s .0) (are .each) (s .1) (ap (λ (c : Batch). c .commands) (are .together) ∙ sym (s .2));
+    }
 
 -- ---- records in another order
 uncons : (options : ℕ) (text : List ℕ) (P : List Value → Type 0) (r : List ℕ) (rs : List (List ℕ)) (vs : List Value) → Records options text (r ∷ rs) vs →

@@ -150,10 +150,7 @@ module _ (xs ys : List ℕ) (limit : ℕ) (agree : Agree xs ys limit) (at : ℕ)
         ends = rw first (g .ends);
       })
 
--- commands agree with themselves, with those that go on, and those that end earlier
-pub agree-itself : (r : List ℕ) → Agree r r (length r)
-agree-itself r = record { inside = le-refl (length r); bytes = λ k h. refl }
-
+-- commands agree with those that go on, and with those that end earlier
 pub agree-further : (r cs : List ℕ) → Agree r (r ++ cs) (length r)
 agree-further r cs = record { inside = rw length-append (omega arith); bytes = λ k h. List·getD-append r cs 0 k h }
 

@@ -5,7 +5,7 @@ use mathlib.Core.Bool.{Bool, false, _&&_}
 use mathlib.Core.List.{List, [], _∷_, _++_}
 use mathlib.Core.Option.{Option, none, some}
 use Prim.Native.Nat.{ℕ, zero, suc, _+_, _-_, _*_, _%_, _≤_, _<_}
-use native.Mathlib.Nat.{le-refl, le-of-suc-le-suc, not-suc-le-zero}
+use native.Mathlib.Nat.{le-of-suc-le-suc, not-suc-le-zero}
 use native.Mathlib.Omega.{arith}
 use lib.Dec.{eqb, ltb}
 use lib.ListN.{length, getD}
@@ -20,7 +20,7 @@ use Rattle.commands.specs.declared.Read.the-variants as R
 use Rattle.commands.specs.Commands.{readCommand, endByte, formOf, width}
 use Rattle.model.specs.Kinds.{sequenceKind, structKind, mapKind, mapModeKind, Step, field, element, position, key, value}
 use Rattle.model.specs.Reading.{Value, val, cut, Parts, no-parts, cut-off, part, Shape, leaf, follows, parts, chosen, no-value, shapeOf, Next, ended, next, bad, valueNext, fieldNext, nextPart, Got, marked, rest, andThen, readValue, readShape, readParts}
-use Rattle.equality.specs.laws.reading.Commands.{Agree, agree-itself, agree-further, moveRead, good, reads-on, reads-inside, command-kept, name-kept, field-width, key-width, command-moves, first-moved, name-moved}
+use Rattle.equality.specs.laws.reading.Commands.{Agree, moveRead, good, reads-on, reads-inside, command-kept, name-kept, field-width, key-width, command-moves, first-moved, name-moved}
 use Rattle.equality.specs.laws.reading.Values.{next-inside, none-behind, rest-on, value-on, shape-on, parts-on}
 use Rattle.equality.specs.laws.reading.Proper.{layers, few-layers}
 use Rattle.equality.specs.laws.reading.Steps.{read-cases, next-cases, value-command, value-refused, parts-ended, parts-next, parts-bad}
@@ -144,17 +144,6 @@ module _ (options : ℕ) (text xs ys : List ℕ) (limit : ℕ) (agree : Agree xs
         (value-kept f a g (le-of-suc-le-suc h) m (omega arith) p) p (parts-kept f kind n (i + 1) m g (le-of-suc-le-suc h) b l q)
         ∙ sym (parts-next options xs text f kind n i at t a k))
         (λ m p k. none-behind (rw (parts-bad options xs text f kind n i at m p k) at e))
-
--- so a larger bound changes nothing
-pub value-more : (options : ℕ) (commands text : List ℕ) (f g at b : ℕ) → f ≤ g → readValue f options commands text at .1 ≡ some b →
-    readValue g options commands text at ≡ readValue f options commands text at
-value-more options commands text f g at b h e =
-    value-kept options text commands commands (length commands) (agree-itself commands) f at g h b (value-on options commands text f at b e .1) e
-
--- nor do further commands behind
-pub value-extends : (options : ℕ) (r cs text : List ℕ) (f at b : ℕ) → readValue f options r text at .1 ≡ some b → readValue f options (r ++ cs) text at ≡ readValue f options r text at
-value-extends options r cs text f at b e =
-    value-kept options text r (r ++ cs) (length r) (agree-further r cs) f at f (le-refl f) b (value-on options r text f at b e .1) e
 
 -- ---- the bound does not matter where it is above what any reading needs
 rest-same : (o : Option ℕ) (more other : ℕ → Got Parts) → ((b : ℕ) → o ≡ some b → more b ≡ other b) → rest o more ≡ rest o other

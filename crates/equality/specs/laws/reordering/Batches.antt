@@ -1,5 +1,5 @@
 -- A batch's records in another order: it is accepted again, and its schema differs in the order of struct fields alone.
-use mathlib.Core.Path.{_≡_, refl, ap, ap₂, sym, _∙_}
+use mathlib.Core.Path.{_≡_, refl, ap, ap₂, sym, _∙_, subst}
 use mathlib.Core.Bool.{Bool, true, false, _&&_, _||_}
 use mathlib.Core.List.{List, [], _∷_, _++_, flatten, List·Permᴰ, List·Permᴰ·nil, List·Permᴰ·cons, List·Permᴰ·swap, List·Permᴰ·trans}
 use mathlib.Core.Option.{none}
@@ -9,14 +9,14 @@ use lib.ListN.{length, length-append}
 use Rattle.logic.specs.Test.{if_then_else_}
 use Rattle.logic.specs.laws.Test.{cases}
 use Rattle.logic.specs.All.{All}
-use Rattle.model.specs.Result.{Result, accepted, refused, _>>=_}
+use Rattle.model.specs.Result.{Result, accepted, refused}
 use Rattle.model.specs.Kinds.{Step, same}
 use Rattle.model.specs.Reading.{Value, val, cut, Parts, no-parts, cut-off, part}
 use Rattle.model.specs.Tracing.{Tree, fresh, placeLimit}
 use Rattle.model.specs.Emission.{Fields, placeOf, walk, fieldOf, rootFields, rootName, toSchema, countIn, namesIn}
 use Rattle.model.specs.Answer.{Batch, Buffers, Answer, schemaOf, answer}
 use Rattle.model.specs.Census.{kindIn, partsOf, partsAt, below, standing}
-use Rattle.model.specs.Demand3.{Plain, Accepted, NoPlaceBoth, NoShorter, IsRecord, SameButOrder, batchOf, recordsOf, shows, asStruct, asMap, inNameOrder}
+use Rattle.model.specs.Demand3.{Plain, Accepted, NoPlaceBoth, NoShorter, IsRecord, AreRecords, Split, SameButOrder, batch, withRecords, recordsOf, shows, asStruct, asMap, inNameOrder}
 use Rattle.equality.specs.laws.Base.{not-refused}
 use Rattle.model.specs.Unbounded.{seeAll, size}
 use Rattle.equality.specs.laws.Proper.{isProper, areProper, allProper, kindFits}
@@ -24,7 +24,7 @@ use Rattle.equality.specs.laws.tracing.Count.{trace-fits}
 use Rattle.equality.specs.laws.tracing.Place.{see-all-whole}
 use Rattle.equality.specs.laws.reading.Records.{values-proper}
 use Rattle.equality.specs.laws.reading.Offsets.{forget, forgets, forgetAll, blur, all-forget, forgetAll-append}
-use Rattle.equality.specs.laws.reading.Batches.{Records, no-records, one-more, batches-permuted}
+use Rattle.equality.specs.laws.reading.Batches.{Records, no-records, one-more, split, batches-permuted}
 use Rattle.equality.specs.laws.tracing.Fitting.{tree-fits, tree-ascends}
 use Rattle.equality.specs.laws.reordering.Sorted.{sortedPlace}
 use Rattle.equality.specs.laws.reordering.Places.{reordered}
@@ -115,10 +115,10 @@ schema-of b tree schema s l w r =
 
 module _ (o : ℕ) (off : Plain o) (text : List ℕ) (rs qs : List (List ℕ)) (records : All (IsRecord o text) rs) (perm : List·Permᴰ rs qs) where
   abbrev first : Batch
-  first = batchOf o text rs
+  first = batch o (flatten rs) text
 
   abbrev second : Batch
-  second = batchOf o text qs
+  second = batch o (flatten qs) text
 
   -- the places of the second batch
   other-tree : NoPlaceBoth first → (t : Tree) → seeAll o 0 (recordsOf first) fresh ≡ accepted t → allProper o (recordsOf first) ≡ true
@@ -159,7 +159,7 @@ module _ (o : ℕ) (off : Plain o) (text : List ℕ) (rs qs : List (List ℕ)) (
         ordered = r .2;
       }
 
-  pub ordered-again : (lent lent′ : Buffers) → Accepted (answer first lent) → NoPlaceBoth first → NoShorter lent lent′
+  ordered-again : (lent lent′ : Buffers) → Accepted (answer first lent) → NoPlaceBoth first → NoShorter lent lent′
       → Accepted (answer second lent′) × SameButOrder (answer first lent) (answer second lent′)
   ordered-again lent lent′ a both long =
       let x = took first lent a in
@@ -170,3 +170,19 @@ module _ (o : ℕ) (off : Plain o) (text : List ℕ) (rs qs : List (List ℕ)) (
         ap (λ (w : Answer). w .refusal) (answers second lent′ (y .schema) passes (y .gives)),
         (x .schema, y .schema, holds first lent x, holds second lent′ z, y .ordered),
       )
+
+-- ---- of any batch
+pub accepted-split : (b : Batch) (lent : Buffers) → Accepted (answer b lent) → Split b
+accepted-split b lent a =
+    let x = took b lent a in
+    let t = traced-schema b (x .schema) (x .gives) in
+    split b (see-all-whole (b .options) 0 (recordsOf b) fresh (t .tree) (t .seen))
+
+pub batch-again : (b : Batch) → Plain (b .options) → (lent : Buffers) → Accepted (answer b lent) → NoPlaceBoth b → (records others : List (List ℕ)) → AreRecords b records
+    → List·Permᴰ records others → (lent′ : Buffers) → NoShorter lent lent′
+    → Accepted (answer (withRecords b others) lent′) × SameButOrder (answer b lent) (answer (withRecords b others) lent′)
+batch-again b off lent a both records others are perm lent′ long =
+    let again : Answer = answer (withRecords b others) lent′ in
+    subst (λ (c : Batch). Accepted again × SameButOrder (answer c lent) again) (are .together)
+    (ordered-again (b .options) off (b .text) records others (are .each) perm lent lent′
+    (subst (λ (c : Batch). Accepted (answer c lent)) (sym (are .together)) a) (subst NoPlaceBoth (sym (are .together)) both) long)

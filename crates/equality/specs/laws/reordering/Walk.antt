@@ -1,4 +1,4 @@
--- Reordering: neither the refusals of the walk, 12 to 14, nor the fields, once those of every plain struct are sorted by name, depend on the
+-- Reordering: neither the refusals of the walk, 12 to 14, nor the fields, once those of every listed struct are sorted by name, depend on the
 -- order of places below a struct.
 use mathlib.Core.Path.{_≡_, refl, ap, ap₂, sym, _∙_}
 use mathlib.Core.Logic.{_↔_}
@@ -12,19 +12,20 @@ use lib.ListN.{length, length-append}
 use borrow.Author.Tests.{eqb-true}
 use Rattle.logic.specs.Test.{if_then_else_}
 use Rattle.logic.specs.laws.Test.{cases, both}
-use Rattle.datatype.specs.Codes.{null, struct, noStrategy}
-use Rattle.options.specs.Word.{allowNullFields, enumsWithoutDataAsStrings}
+use Rattle.datatype.specs.Codes.{null, utf8, largeUtf8, struct, map, noStrategy}
+use Rattle.options.specs.Word.{allowNullFields, sequenceAsLargeList, stringAsLargeUtf8, stringDictionaryEncoding, enumsWithoutDataAsStrings}
 use Rattle.refusal.specs.Number.{nullField, datalessUnion}
 use Rattle.text.specs.Name.{ltName}
 use Rattle.model.specs.Result.{accepted}
-use Rattle.model.specs.Kinds.{structKind, mapKind, unionKind, mapModeKind, isStruct, Step, key, value, variantOf}
+use Rattle.model.specs.Kinds.{sequenceKind, structKind, mapKind, unionKind, tupleKind, mapModeKind, isStruct, Step, variantOf}
 use Rattle.model.specs.Emission.{Place, shown, Places, none-below, below, datalessFrom, dataless, slotLimit, firstOf, walk, walks, Field, mk, Fields, no-fields, more, typeOf, strategyOf, entriesName, nameOf, nameIn, insertField, byName, gap, gaps, arranged, fieldOf, fieldsOf, rootFields, rootName, childCount, namesOf, namesIn, columnsOf, columnsIn, countOf, countIn}
-use Rattle.model.specs.Demand3.{isPlain, inNameOrderOf, inNameOrderBelow, inNameOrder}
-use Rattle.equality.specs.laws.Proper.{kindFits, stepFits, stepsBelow, fits, fitBelow}
+use Rattle.model.specs.Demand3.{isListed, inNameOrderOf, inNameOrderBelow, inNameOrder}
+use Rattle.equality.specs.laws.Base.{choice}
+use Rattle.equality.specs.laws.Proper.{kindFits, stepsBelow, fits, fitBelow}
 use Rattle.equality.specs.laws.emission.Canon.{insertPlace, inOrder}
 use Rattle.equality.specs.laws.reordering.Sorted.{sortedPlace, sortedBelow, steps-sorted}
 use Rattle.equality.specs.laws.reordering.Sorting.{precedes, rising}
-use Rattle.equality.specs.laws.emission.InOrder.{ascends, ascendBelow, wrapped, plainField, plainFields, fit-more, stepBack, step-back, struct-other, Named, named-fits, name-plain, by-name-plain, order-fits, Off, field-arranged}
+use Rattle.equality.specs.laws.emission.InOrder.{ascends, ascendBelow, wrapped, plainField, plainFields, fit-more, struct-other, Named, named-fits, by-name-plain, order-fits, Off, field-arranged}
 use Rattle.equality.specs.laws.emission.Fields.{kindBack, kind-back, root-field}
 
 -- of any container but a struct they are so already
@@ -150,111 +151,107 @@ pub walk-reordered : (options : ℕ) (c d : Place) → fits options c ≡ true �
 walk-reordered options c d f g a b e h =
     walk-ok options d .1 (sym (ok-sorted options d g b) ∙ ap (okPlace options) (sym e) ∙ ok-sorted options c f a ∙ walk-ok options c .0 h)
 
-name-kept : (f : Field) → nameIn (inNameOrderOf f) ≡ nameIn f
+-- ---- the fields in order of names; `above` is the type of the field that they stand in
+name-kept : (above : ℕ) (f : Field) → nameIn (inNameOrderOf above f) ≡ nameIn f
 unfolding inNameOrderOf
-name-kept (mk type nullable strategy number name fs) = refl
+name-kept above (mk type nullable strategy number name fs) = refl
 
-order-insert : (f : Field) (fs : Fields) → inNameOrderBelow (insertField f fs) ≡ insertField (inNameOrderOf f) (inNameOrderBelow fs)
+order-insert : (above : ℕ) (f : Field) (fs : Fields) → inNameOrderBelow above (insertField f fs) ≡ insertField (inNameOrderOf above f) (inNameOrderBelow above fs)
 unfolding inNameOrderBelow insertField if_then_else_
-order-insert f no-fields = refl
-order-insert f (more g fs) =
+order-insert above f no-fields = refl
+order-insert above f (more g fs) =
     cases (ltName (nameIn g) (nameIn f))
-    (λ e. rw (insertField, e, inNameOrderBelow, insertField, name-kept g, name-kept f, e) (ap (more (inNameOrderOf g)) (order-insert f fs)))
-    (λ e. rw (insertField, e, inNameOrderBelow, insertField, name-kept g, name-kept f, e))
+    (λ e. rw (insertField, e, inNameOrderBelow, insertField, name-kept above g, name-kept above f, e) (ap (more (inNameOrderOf above g)) (order-insert above f fs)))
+    (λ e. rw (insertField, e, inNameOrderBelow, insertField, name-kept above g, name-kept above f, e))
 
-order-by-name : (fs : Fields) → inNameOrderBelow (byName fs) ≡ byName (inNameOrderBelow fs)
+order-by-name : (above : ℕ) (fs : Fields) → inNameOrderBelow above (byName fs) ≡ byName (inNameOrderBelow above fs)
 unfolding inNameOrderBelow byName
-order-by-name no-fields = refl
-order-by-name (more f fs) = order-insert f (byName fs) ∙ ap (insertField (inNameOrderOf f)) (order-by-name fs)
+order-by-name above no-fields = refl
+order-by-name above (more f fs) = order-insert above f (byName fs) ∙ ap (insertField (inNameOrderOf above f)) (order-by-name above fs)
 
-order-gaps : (slot n : ℕ) (fs : Fields) → inNameOrderBelow (gaps slot n fs) ≡ gaps slot n (inNameOrderBelow fs)
+order-gaps : (above slot n : ℕ) (fs : Fields) → inNameOrderBelow above (gaps slot n fs) ≡ gaps slot n (inNameOrderBelow above fs)
 unfolding inNameOrderBelow gaps if_then_else_
-order-gaps slot zero fs = refl
-order-gaps slot (suc n) fs = ap (more (gap slot)) (order-gaps (slot + 1) n fs)
+order-gaps above slot zero fs = refl
+order-gaps above slot (suc n) fs = ap (more (gap slot)) (order-gaps above (slot + 1) n fs)
 
--- only a struct is plain
-not-plain : (options kind : ℕ) → kindFits options kind ≡ true → eqb kind structKind ≡ false → isPlain (typeOf options kind) (strategyOf kind) ≡ false
+-- only a struct is listed
+not-listed : (above options kind : ℕ) → kindFits options kind ≡ true → eqb kind structKind ≡ false → isListed above (typeOf options kind) (strategyOf kind) ≡ false
 unfolding kindBack if_then_else_
-not-plain options kind f n =
-    cases (isPlain (typeOf options kind) (strategyOf kind))
+not-listed above options kind f n =
+    cases (eqb (typeOf options kind) struct && eqb (strategyOf kind) noStrategy)
     (λ e. both (eqb (typeOf options kind) struct) (eqb (strategyOf kind) noStrategy) e λ a b.
     let z : structKind ≡ kind = sym (ap₂ (kindBack options) (eqb-true (typeOf options kind) struct a) (eqb-true (strategyOf kind) noStrategy b)) ∙ kind-back options kind f in
     absurd (true≢false (rw (← z) at n)))
-    (λ e. e)
+    (λ e. rw e)
 
--- a map's key and value are in order of their names
-two-by-name : (f g : Field) (x y : List ℕ) → nameIn f ≡ x → nameIn g ≡ y → ltName y x ≡ false → byName (more f (more g no-fields)) ≡ more f (more g no-fields)
-unfolding byName insertField if_then_else_
-two-by-name f g x y p q h = rw (byName, insertField, p, q, h)
+-- the type of a map, and of nothing else, is Map
+not-map : (options kind : ℕ) → eqb kind mapKind ≡ false → eqb (typeOf options kind) map ≡ false
+unfolding typeOf
+not-map options kind n =
+    let P : ℕ → Type 0 = λ type. eqb type map ≡ false in
+    choice P (eqb kind sequenceKind) (λ _. choice P (sequenceAsLargeList options) (λ _. refl) (λ _. refl)) λ _.
+    choice P (isStruct kind || eqb kind tupleKind) (λ _. refl) λ _.
+    choice P ((eqb kind utf8 || eqb kind largeUtf8) && stringDictionaryEncoding options) (λ _. choice P (stringAsLargeUtf8 options) (λ _. refl) (λ _. refl)) λ _. n
 
-map-by-name : (options : ℕ) (ps : Places) → fitBelow options mapKind 0 ps ≡ true → byName (plainFields options mapKind 0 (sortedBelow ps)) ≡ plainFields options mapKind 0 (sortedBelow ps)
-unfolding sortedBelow byName insertField plainFields gaps stepBack ltName if_then_else_
-map-by-name options none-below f = refl
-map-by-name options (below s p none-below) f = refl
-map-by-name options (below s p (below r q none-below)) f =
-    fit-more options mapKind 0 s p (below r q none-below) f λ a _ _ d.
-    fit-more options mapKind 1 r q none-below d λ b _ _ _.
-    let x : nameOf s ≡ nameOf key = ap nameOf (sym (step-back mapKind 0 s a)) in
-    let y : nameOf r ≡ nameOf value = ap nameOf (sym (step-back mapKind 1 r b)) in
-    two-by-name (plainField options (nameOf s) (variantOf s) (sortedPlace p)) (plainField options (nameOf r) (variantOf r) (sortedPlace q)) (nameOf key) (nameOf value)
-    (name-plain options (nameOf s) (variantOf s) (sortedPlace p) ∙ x) (name-plain options (nameOf r) (variantOf r) (sortedPlace q) ∙ y) refl
-map-by-name options (below s p (below r q (below t c ps))) f =
-    fit-more options mapKind 0 s p (below r q (below t c ps)) f λ _ _ _ d.
-    fit-more options mapKind 1 r q (below t c ps) d λ _ _ _ e.
-    fit-more options mapKind 2 t c ps e λ a _ _ _.
-    absurd (false≢true (ap (stepFits mapKind 2) (step-back mapKind 2 t a) ∙ a))
+map-type : (options kind : ℕ) → eqb (typeOf options kind) map ≡ eqb kind mapKind
+unfolding typeOf if_then_else_
+map-type options kind = cases (eqb kind mapKind) (λ e. rw (eqb-true kind mapKind e)) (λ e. not-map options kind e ∙ sym e)
+
+-- fields that stand in no map, in order of names, whatever else they stand in
+abbrev Ordered : Fields → Fields → Type 0
+Ordered fs gs = (above : ℕ) → eqb above map ≡ false → inNameOrderBelow above fs ≡ gs
 
 -- the fields below a place, in order of names
-order-arranged : (options kind : ℕ) (ps : Places) → kindFits options kind ≡ true → fitBelow options kind 0 ps ≡ true → (not (eqb kind unionKind) || rising (stepsBelow ps)) ≡ true →
-    inNameOrderBelow (fieldsOf options kind 0 ps) ≡ plainFields options kind 0 (sortedBelow ps) → eqb kind structKind ≡ false →
-    inNameOrderBelow (arranged kind (fieldsOf options kind 0 ps)) ≡ wrapped kind (plainFields options kind 0 (inOrder (sortedBelow ps)))
+order-arranged : (options kind : ℕ) (ps : Places) (above : ℕ) → eqb above map ≡ eqb kind mapKind → fitBelow options kind 0 ps ≡ true →
+    (not (eqb kind unionKind) || rising (stepsBelow ps)) ≡ true → Ordered (fieldsOf options kind 0 ps) (plainFields options kind 0 (sortedBelow ps)) → eqb kind structKind ≡ false →
+    inNameOrderBelow above (arranged kind (fieldsOf options kind 0 ps)) ≡ wrapped kind (plainFields options kind 0 (inOrder (sortedBelow ps)))
 unfolding arranged wrapped inNameOrderBelow if_then_else_
-order-arranged options kind ps h f u e n =
+order-arranged options kind ps above t f u e n =
     cases (eqb kind mapModeKind)
     (λ b.
     let z : kind ≡ mapModeKind = eqb-true kind mapModeKind b in
     let m : Named (stepsBelow (sortedBelow ps)) = rw (steps-sorted ps) (named-fits options mapModeKind 0 ps refl (rw z at f)) in
-    rw z (order-by-name (fieldsOf options mapModeKind 0 ps) ∙ ap byName (rw z at e) ∙ by-name-plain options mapModeKind (sortedBelow ps) refl m))
+    rw z (order-by-name above (fieldsOf options mapModeKind 0 ps) ∙ ap byName ((rw z at e) above (rw z at t)) ∙ by-name-plain options mapModeKind (sortedBelow ps) refl m))
     (λ b.
     rw (sorted-already options kind ps (rw (n, b)) f u) (
     cases (eqb kind mapKind)
     (λ c.
     let z : kind ≡ mapKind = eqb-true kind mapKind c in
-    rw z (ap (λ (fs : Fields). more (mk struct false noStrategy 0 entriesName fs) no-fields) (ap byName (rw z at e) ∙ map-by-name options ps (rw z at f))))
-    (λ c. rw (arranged, wrapped, b, c) e)))
+    rw (z, t ∙ c) (ap (λ (fs : Fields). more (mk struct false noStrategy 0 entriesName fs) no-fields) ((rw z at e) struct refl)))
+    (λ c. rw (arranged, wrapped, b, c) (e above (t ∙ c)))))
 
 order-struct : (options : ℕ) (ps : Places) → fitBelow options structKind 0 ps ≡ true →
-    inNameOrderBelow (fieldsOf options structKind 0 ps) ≡ plainFields options structKind 0 (sortedBelow ps) →
-    byName (inNameOrderBelow (fieldsOf options structKind 0 ps)) ≡ plainFields options structKind 0 (inOrder (sortedBelow ps))
+    Ordered (fieldsOf options structKind 0 ps) (plainFields options structKind 0 (sortedBelow ps)) →
+    byName (inNameOrderBelow struct (fieldsOf options structKind 0 ps)) ≡ plainFields options structKind 0 (inOrder (sortedBelow ps))
 order-struct options ps f e =
-    ap byName e ∙ by-name-plain options structKind (sortedBelow ps) refl (rw (steps-sorted ps) (named-fits options structKind 0 ps refl f))
+    ap byName (e struct refl) ∙ by-name-plain options structKind (sortedBelow ps) refl (rw (steps-sorted ps) (named-fits options structKind 0 ps refl f))
 
 mutual
   unfolding fieldOf plainField sortedPlace inNameOrderOf fits ascends typeOf strategyOf arranged wrapped if_then_else_
 
   -- a field in order of names is the sorted place's, emitted in order
   pub order-field : (options : ℕ) (x : List ℕ) (v : ℕ) (c : Place) → Off options → fits options c ≡ true → ascends c ≡ true →
-      inNameOrderOf (fieldOf options x v c) ≡ plainField options x v (sortedPlace c)
-  order-field options x v (shown admits kind ps) o f u =
+      (above : ℕ) → eqb above map ≡ false → inNameOrderOf above (fieldOf options x v c) ≡ plainField options x v (sortedPlace c)
+  order-field options x v (shown admits kind ps) o f u above m =
       both (kindFits options kind) (fitBelow options kind 0 ps) f λ h g.
       both (not (eqb kind unionKind) || rising (stepsBelow ps)) (ascendBelow ps) u λ a b.
-      let k = order-fields options kind 0 0 ps o g b in
-      ap inNameOrderOf (field-arranged options x v admits kind ps o)
+      let k : Ordered (fieldsOf options kind 0 ps) (plainFields options kind 0 (sortedBelow ps)) = λ type t. order-fields options kind 0 0 ps o g b type t in
+      ap (inNameOrderOf above) (field-arranged options x v admits kind ps o)
       ∙ cases (eqb kind structKind)
       (λ e.
       let z : kind ≡ structKind = eqb-true kind structKind e in
-      rw z (ap (mk struct admits noStrategy v x) (order-struct options ps (rw z at g) (rw z at k))))
-      (λ e. rw (not-plain options kind h e) (ap (mk (typeOf options kind) admits (strategyOf kind) v x) (order-arranged options kind ps h g a k e)))
+      rw (z, m) (ap (mk struct admits noStrategy v x) (order-struct options ps (rw z at g) (rw z at k))))
+      (λ e. rw (not-listed above options kind h e) (ap (mk (typeOf options kind) admits (strategyOf kind) v x) (order-arranged options kind ps (typeOf options kind) (map-type options kind) g a k e)))
 
   order-fields : (options kind slot i : ℕ) (ps : Places) → Off options → fitBelow options kind i ps ≡ true → ascendBelow ps ≡ true →
-      inNameOrderBelow (fieldsOf options kind slot ps) ≡ plainFields options kind slot (sortedBelow ps)
-  order-fields options kind slot i none-below o f u = refl
-  order-fields options kind slot i (below s p ps) o f u =
+      Ordered (fieldsOf options kind slot ps) (plainFields options kind slot (sortedBelow ps))
+  order-fields options kind slot i none-below o f u above m = refl
+  order-fields options kind slot i (below s p ps) o f u above m =
       fit-more options kind i s p ps f λ _ _ g h.
       both (ascends p) (ascendBelow ps) u λ a b.
-      order-gaps slot (if eqb kind unionKind then variantOf s - slot else 0) (more (fieldOf options (nameOf s) (variantOf s) p) (fieldsOf options kind (variantOf s + 1) ps))
+      order-gaps above slot (if eqb kind unionKind then variantOf s - slot else 0) (more (fieldOf options (nameOf s) (variantOf s) p) (fieldsOf options kind (variantOf s + 1) ps))
       ∙ ap (gaps slot (if eqb kind unionKind then variantOf s - slot else 0))
-      (ap₂ more (order-field options (nameOf s) (variantOf s) p o g a) (order-fields options kind (variantOf s + 1) (suc i) ps o h b))
+      (ap₂ more (order-field options (nameOf s) (variantOf s) p o g a above m) (order-fields options kind (variantOf s + 1) (suc i) ps o h b above m))
 
 -- ---- the root
 -- the fields of a root in order
@@ -262,15 +259,15 @@ unfoldable rootNames : ℕ → Place → Fields
 rootNames options (shown admits kind ps) = if eqb kind structKind then plainFields options kind 0 ps else byName (wrapped kind (plainFields options kind 0 ps))
 
 root-order : (options : ℕ) (admits : Bool) (kind : ℕ) (ps : Places) → Off options → fits options (shown admits kind ps) ≡ true → ascends (shown admits kind ps) ≡ true →
-    inNameOrder (arranged kind (fieldsOf options kind 0 ps)) ≡ rootNames options (sortedPlace (shown admits kind ps))
+    typeOf options kind ≡ struct → inNameOrder (arranged kind (fieldsOf options kind 0 ps)) ≡ rootNames options (sortedPlace (shown admits kind ps))
 unfolding inNameOrder rootNames sortedPlace fits ascends arranged if_then_else_
-root-order options admits kind ps o f u =
-    both (kindFits options kind) (fitBelow options kind 0 ps) f λ h g.
+root-order options admits kind ps o f u t =
+    both (kindFits options kind) (fitBelow options kind 0 ps) f λ _ g.
     both (not (eqb kind unionKind) || rising (stepsBelow ps)) (ascendBelow ps) u λ a b.
-    let k = order-fields options kind 0 0 ps o g b in
+    let k : Ordered (fieldsOf options kind 0 ps) (plainFields options kind 0 (sortedBelow ps)) = order-fields options kind 0 0 ps o g b in
     cases (eqb kind structKind)
     (λ e. let z : kind ≡ structKind = eqb-true kind structKind e in rw z (order-struct options ps (rw z at g) (rw z at k)))
-    (λ e. rw e (ap byName (order-arranged options kind ps h g a k e)))
+    (λ e. rw e (ap byName (order-arranged options kind ps struct (sym (ap (λ (type : ℕ). eqb type map) t) ∙ map-type options kind) g a k e)))
 
 -- what is accepted of a root is accepted of one that differs in order only, with the same fields in order of names
 pub root-reordered : (options end end′ : ℕ) (c d : Place) (fs : Fields) → Off options → fits options c ≡ true → fits options d ≡ true → ascends c ≡ true → ascends d ≡ true →
@@ -285,7 +282,7 @@ root-reordered options end end′ (shown a k ps) (shown b l qs) fs o f g u w e h
     let t : typeOf options l ≡ struct = ap (typeOf options) (sym m) ∙ p .1 in (
       arranged l (fieldsOf options l 0 qs),
       rw (field-arranged options rootName 0 b l qs o, x, t),
-      (ap inNameOrder (sym (p .2)) ∙ root-order options a k ps o f u ∙ ap (rootNames options) e ∙ sym (root-order options b l qs o g w)),
+      (ap inNameOrder (sym (p .2)) ∙ root-order options a k ps o f u (p .1) ∙ ap (rootNames options) e ∙ sym (root-order options b l qs o g w t)),
     )
 
 -- ---- counts do not depend on the order
@@ -319,31 +316,32 @@ unfolding byName
 count-by-name no-fields = refl
 count-by-name (more f fs) = count-insert f (byName fs) ∙ ap suc (count-by-name fs)
 
-count-order : (fs : Fields) → childCount (inNameOrderBelow fs) ≡ childCount fs
+count-order : (above : ℕ) (fs : Fields) → childCount (inNameOrderBelow above fs) ≡ childCount fs
 unfolding inNameOrderBelow
-count-order no-fields = refl
-count-order (more f fs) = ap suc (count-order fs)
+count-order above no-fields = refl
+count-order above (more f fs) = ap suc (count-order above fs)
 
 mutual
   unfolding totalIn inNameOrderBelow if_then_else_
 
-  total-field : (weight : List ℕ → ℕ → ℕ) (f : Field) → totalOf weight (inNameOrderOf f) ≡ totalOf weight f
-  total-field weight (mk type nullable strategy number name fs) =
-      let h = total-fields weight fs in
-      cases (isPlain type strategy)
-      (λ e. rw e (ap₂ _+_ (ap (weight name) (count-by-name (inNameOrderBelow fs) ∙ count-order fs)) (total-by-name weight (inNameOrderBelow fs) ∙ h)))
-      (λ e. rw e (ap₂ _+_ (ap (weight name) (count-order fs)) h))
+  total-field : (weight : List ℕ → ℕ → ℕ) (above : ℕ) (f : Field) → totalOf weight (inNameOrderOf above f) ≡ totalOf weight f
+  total-field weight above (mk type nullable strategy number name fs) =
+      let h = total-fields weight type fs in
+      let n = count-order type fs in
+      cases (isListed above type strategy)
+      (λ e. rw e (ap₂ _+_ (ap (weight name) (count-by-name (inNameOrderBelow type fs) ∙ n)) (total-by-name weight (inNameOrderBelow type fs) ∙ h)))
+      (λ e. rw e (ap₂ _+_ (ap (weight name) n) h))
 
-  total-fields : (weight : List ℕ → ℕ → ℕ) (fs : Fields) → totalIn weight (inNameOrderBelow fs) ≡ totalIn weight fs
-  total-fields weight no-fields = refl
-  total-fields weight (more f fs) = ap₂ _+_ (total-field weight f) (total-fields weight fs)
+  total-fields : (weight : List ℕ → ℕ → ℕ) (above : ℕ) (fs : Fields) → totalIn weight (inNameOrderBelow above fs) ≡ totalIn weight fs
+  total-fields weight above no-fields = refl
+  total-fields weight above (more f fs) = ap₂ _+_ (total-field weight above f) (total-fields weight above fs)
 
 same-total : (weight : List ℕ → ℕ → ℕ) (fs gs : Fields) → inNameOrder fs ≡ inNameOrder gs → totalIn weight fs ≡ totalIn weight gs
 unfolding inNameOrder
 same-total weight fs gs e = sym (kept fs) ∙ ap (totalIn weight) e ∙ kept gs
   where
-    kept : (hs : Fields) → totalIn weight (byName (inNameOrderBelow hs)) ≡ totalIn weight hs
-    kept hs = total-by-name weight (inNameOrderBelow hs) ∙ total-fields weight hs
+    kept : (hs : Fields) → totalIn weight (byName (inNameOrderBelow struct hs)) ≡ totalIn weight hs
+    kept hs = total-by-name weight (inNameOrderBelow struct hs) ∙ total-fields weight struct hs
 
 mutual
   unfolding totalIn countIn

@@ -1,17 +1,21 @@
 -- Tracer::from_samples has no bound on places: the bound changes nothing but where it is met (refusal 11).
 use mathlib.Core.Path.{_≡_, refl, sym, _∙_}
 use mathlib.Core.List.{List, [], _∷_}
-use mathlib.Core.Bool.{true, not, true≢false}
-use Prim.Native.Nat.{ℕ, _+_}
+use mathlib.Core.Bool.{true, false, not, true≢false}
+use mathlib.Core.Option.{Option, none, some}
+use Prim.Native.Nat.{ℕ, _+_, _≤_}
+use native.Mathlib.Omega.{arith}
 use lib.Dec.{ltb}
+use borrow.Author.Tests.{ltb-false}
 use Rattle.logic.specs.Test.{if_then_else_}
 use Rattle.logic.specs.laws.Test.{cases}
-use Rattle.refusal.specs.Number.{twoNames, tooManyPlaces}
-use Rattle.model.specs.Result.{Result, accepted, refused, _>>=_}
+use Rattle.refusal.specs.Number.{twoNames, noJoint, tooManyPlaces}
+use Rattle.coerce.specs.Joint.{joint}
+use Rattle.model.specs.Result.{Result, accepted, refused, _>>=_, orRefused}
 use Rattle.model.specs.Kinds.{Step, isVariant}
 use Rattle.model.specs.Reading.{Value, val, cut, Parts, no-parts, cut-off, part}
 use Rattle.model.specs.Tracing.{Tree, Kids, kindOf, kidsOf, fresh, dotsOf, placeLimit, meet, stepsOf, has, kidAt, put, clashes, room, made, make, observe, observeParts, observeAll, trace}
-use Rattle.equality.specs.laws.Base.{and-left, and-right, not-refused}
+use Rattle.equality.specs.laws.Base.{and-left, and-right, not-refused, choice}
 use Rattle.model.specs.Unbounded.{allowed, see, seeParts, seeAll}
 use Rattle.equality.specs.laws.tracing.Count.{noVariants, made-no-variants, no-clash, counted-make, counted, room-ok}
 
@@ -20,18 +24,18 @@ same-refusal : {A B : Type 0} {n at m p : ℕ} → _≡_ {A = Result A} (refused
 same-refusal {n = n} {at = at} {m = m} {p = p} e = let a : n ≡ m = cc in let b : at ≡ p = cc in rw (a, b) refl
 
 -- what is refused was refused at first, or after it
-bind-no : {A B P : Type 0} (r : Result A) (f : A → Result B) (m p : ℕ) → (r >>= f) ≡ refused m p → (r ≡ refused m p → P) → ((a : A) → r ≡ accepted a → f a ≡ refused m p → P) → P
+pub bind-no : {A B P : Type 0} (r : Result A) (f : A → Result B) (m p : ℕ) → (r >>= f) ≡ refused m p → (r ≡ refused m p → P) → ((a : A) → r ≡ accepted a → f a ≡ refused m p → P) → P
 bind-no (accepted a) f m p e h k = k a refl e
 bind-no (refused n at) f m p e h k = h (same-refusal e)
 
-not-accepted : {A P : Type 0} {n at : ℕ} {a : A} → accepted a ≡ refused n at → P
+pub not-accepted : {A P : Type 0} {n at : ℕ} {a : A} → accepted a ≡ refused n at → P
 not-accepted e = not-refused (sym e)
 
-abbrev Other : ℕ → Type 0
+abbrev pub Other : ℕ → Type 0
 Other m = m ≡ tooManyPlaces → ⊥
 
 -- room is refused for two names, or for the bound
-room-no : {P : Type 0} (at : ℕ) (s : Step) (n : ℕ) (ks : Kids) (m p : ℕ) → room at s n ks ≡ refused m p → Other m → (clashes s (stepsOf ks) ≡ true → allowed at s ks ≡ refused m p → P) → P
+pub room-no : {P : Type 0} (at : ℕ) (s : Step) (n : ℕ) (ks : Kids) (m p : ℕ) → room at s n ks ≡ refused m p → Other m → (clashes s (stepsOf ks) ≡ true → allowed at s ks ≡ refused m p → P) → P
 unfolding room allowed if_then_else_
 room-no at s n ks m p e o k =
     cases (clashes s (stepsOf ks))
@@ -44,8 +48,44 @@ room-no at s n ks m p e o k =
     (λ h. let q : accepted (n + 1) ≡ refused m p = rw (f, g, h) at e in not-accepted q)
     (λ h. let q : _≡_ {A = Result ℕ} (refused tooManyPlaces at) (refused m p) = rw (f, g, h) at e in absurd (o (let z : tooManyPlaces ≡ m = cc in sym z)))))
 
+-- for the bound, where it is reached, and the place is not there
+pub eleven-room : {P : Type 0} (at : ℕ) (s : Step) (n : ℕ) (ks : Kids) (p : ℕ) → room at s n ks ≡ refused tooManyPlaces p
+    → (clashes s (stepsOf ks) ≡ false → has s (stepsOf ks) ≡ false → placeLimit ≤ n → at ≡ p → P) → P
+unfolding room if_then_else_
+eleven-room at s n ks p e k =
+    cases (clashes s (stepsOf ks))
+    (λ f. let q : _≡_ {A = Result ℕ} (refused twoNames at) (refused tooManyPlaces p) = rw f at e in absurd (let z : twoNames ≡ tooManyPlaces = cc in omega arith))
+    (λ f.
+    cases (has s (stepsOf ks))
+    (λ g. let q : accepted n ≡ refused tooManyPlaces p = rw (f, g) at e in not-accepted q)
+    (λ g.
+    cases (ltb n placeLimit)
+    (λ h. let q : accepted (n + 1) ≡ refused tooManyPlaces p = rw (f, g, h) at e in not-accepted q)
+    (λ h. let q : _≡_ {A = Result ℕ} (refused tooManyPlaces at) (refused tooManyPlaces p) = rw (f, g, h) at e in k f g (ltb-false n placeLimit h) cc)))
+
+-- kinds that meet are not refused for it
+abbrev Apart : {A : Type 0} → Result A → Type 0
+Apart (accepted a) = Unit {0}
+Apart (refused n at) = Other n
+
+or-apart : {A : Type 0} (at : ℕ) (r : Option A) → Apart (orRefused noJoint at r)
+or-apart at none = λ e. omega arith
+or-apart at (some a) = tt
+
+meet-apart : (o d at k h : ℕ) → Apart (meet o d at k h)
+unfolding meet
+meet-apart o d at k h =
+    choice Apart _ (λ _ e. omega arith) λ _.
+    choice Apart _ (λ _. or-apart at (joint o k h)) λ _.
+    choice Apart _ (λ _. tt) λ _.
+    choice Apart _ (λ _. tt) λ _.
+    choice Apart _ (λ _. tt) (λ _ e. omega arith)
+
+pub eleven-meet : {P : Type 0} (o d at k h p : ℕ) → meet o d at k h ≡ refused tooManyPlaces p → P
+eleven-meet o d at k h p e = absurd (let f : Other tooManyPlaces = rw e at (meet-apart o d at k h) in f refl)
+
 -- of places that are no variants, for the bound alone
-make-no : {P : Type 0} (at : ℕ) (ss : List Step) (n : ℕ) (ks : Kids) (m p : ℕ) → noVariants ss ≡ true → make at ss n ks ≡ refused m p → Other m → P
+pub make-no : {P : Type 0} (at : ℕ) (ss : List Step) (n : ℕ) (ks : Kids) (m p : ℕ) → noVariants ss ≡ true → make at ss n ks ≡ refused m p → Other m → P
 unfolding make
 make-no at [] n ks m p v e o = not-accepted e
 make-no at (s ∷ ss) n ks m p v e o =
@@ -56,7 +96,7 @@ make-no at (s ∷ ss) n ks m p v e o =
 mutual
   unfolding observe see allowed if_then_else_
 
-  value-no : (o d : ℕ) (v : Value) (n : ℕ) (t : Tree) (m p : ℕ) → observe o d v n t ≡ refused m p → Other m → see o d v t ≡ refused m p
+  pub value-no : (o d : ℕ) (v : Value) (n : ℕ) (t : Tree) (m p : ℕ) → observe o d v n t ≡ refused m p → Other m → see o d v t ≡ refused m p
   value-no o d (cut n′ at) n t m p e x = same-refusal e
   value-no o d (val at b k l ps) n t m p e x =
       bind-no (meet o d at (kindOf t) k) _ m p e (λ f. rw f refl) λ j e₁ f.
@@ -66,7 +106,7 @@ mutual
       (λ h. rw (e₁, made-all, parts-no o d ps (q .places) (q .what) m p h x) refl)
       (λ r e₃ h. not-accepted h)
 
-  parts-no : (o d : ℕ) (ps : Parts) (n : ℕ) (ks : Kids) (m p : ℕ) → observeParts o d ps n ks ≡ refused m p → Other m → seeParts o d ps ks ≡ refused m p
+  pub parts-no : (o d : ℕ) (ps : Parts) (n : ℕ) (ks : Kids) (m p : ℕ) → observeParts o d ps n ks ≡ refused m p → Other m → seeParts o d ps ks ≡ refused m p
   parts-no o d no-parts n ks m p e x = not-accepted e
   parts-no o d (cut-off n′ at) n ks m p e x = same-refusal e
   parts-no o d (part at s v ps) n ks m p e x =

@@ -23,7 +23,7 @@ abbrev pub new : Step → Kids → ℕ
 new s kids = one (not (has s (stepsOf kids)))
 
 -- ---- sizes
-size-put : (s : Step) (t : Tree) (ks : Kids) → sizes (put s t ks) + size (kidAt s ks) ≡ sizes ks + (new s ks + size t)
+pub size-put : (s : Step) (t : Tree) (ks : Kids) → sizes (put s t ks) + size (kidAt s ks) ≡ sizes ks + (new s ks + size t)
 unfolding size put kidAt stepsOf has if_then_else_
 size-put s t no-kids = omega arith
 size-put s t (kid r n u ks) =
@@ -31,7 +31,7 @@ size-put s t (kid r n u ks) =
     (λ e. rw e (omega arith))
     (λ e. rw e (omega (arith, size-put s t ks)))
 
-size-tally : (ps : Parts) (ks : Kids) → sizes (tally ps ks) ≡ sizes ks
+pub size-tally : (ps : Parts) (ks : Kids) → sizes (tally ps ks) ≡ sizes ks
 unfolding size tally
 size-tally ps no-kids = refl
 size-tally ps (kid s n t ks) = ap (λ (m : ℕ). size t + m) (size-tally ps ks)

@@ -1,0 +1,1 @@
+"""An executable account of document 01: see README.md."""

@@ -1,8 +1,0 @@
--- `end_of` stays within the buffer.
-use borrow.Author.Needs.{needs}
-use Rattle.io.proofs.Counting.{counts}
-use Rattle.listing.proofs.end_of.Statement.{statement}
-use Rattle.listing.proofs.end_of.Tie as tie
-
-pub end-of-spec : {M : Type 1} → statement M
-end-of-spec = tie.close (tie.spec (λ c. search needs) (λ c. search needs) (λ c. (search needs, counts _ _ (search needs))) (λ c. (search needs, counts _ _ (search needs))))

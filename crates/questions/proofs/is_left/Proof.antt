@@ -1,0 +1,34 @@
+-- `is_left` looks at the words that a call uses, and at the others.
+use borrow.Author.Needs.{needs}
+use borrow.Author.Tests.{not-true, not-false}
+use mathlib.Core.Path.{_≡_, sym}
+use mathlib.Core.List.{List}
+use Prim.Native.Nat.{ℕ, _≤_}
+use lib.ListN.{length, take}
+use lib.Seq.{length-take-le}
+use Rattle.words.specs.Word.{tableWords}
+use Rattle.questions.specs.laws.Left.{left-early, left-short, left-used, left-by-rest}
+use Rattle.questions.proofs.is_left.Statement.{statement}
+use Rattle.questions.proofs.is_left.Tie as tie
+
+used : (table : List ℕ) → tableWords ≤ length table → tableWords ≡ length (take tableWords table)
+used table h = sym (length-take-le tableWords table h)
+
+pub is-left-spec : {M : Type 1} → statement M
+is-left-spec =
+    tie.close
+    (tie.spec
+    (λ c κs. search needs)
+    (λ c κs. search needs)
+    (λ c. search (left-early, needs))
+    (λ c. search (left-short, needs))
+    (λ c. search (used, needs))
+    (λ c κs. search needs)
+    (λ c. left-used _ _ _ (c .before .before .before .before .before .is-early .ensures) (c .before .before .before .before .if1 .left) (search needs) _ (c .before .is-all2 .ensures) (not-true _ (c .if3 .taken)))
+    (λ c. search needs)
+    (λ c. search needs)
+    (λ c. search needs)
+    (λ c κs. search needs)
+    (λ c.
+    left-by-rest _ _ _ (c .before .before .before .before .before .before .before .is-early .ensures) (c .before .before .before .before .before .before .if1 .left) (search needs) _ (c .before .before .before .is-all2 .ensures) (not-false _ (c .before .before .if3 .left)) _
+    (c .is-all3 .ensures)))

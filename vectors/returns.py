@@ -1,0 +1,126 @@
+"""The returns that the gate lists with `schema_list`. Run in any folder, with the oracle built:
+
+    python3 vectors/returns.py
+
+Writes crates/schema_list/data (the returns' files), crates/schema_list/args (which three files each return is, one after
+another) and crates/schema_list/stdout (what the oracle lists for each: nothing where a file is missing or the options word is
+not two bytes long, which the program says on standard error). A second run writes the same bytes.
+"""
+
+import pathlib
+import shutil
+import subprocess
+import tempfile
+
+TOP = pathlib.Path(__file__).resolve().parent.parent
+ORACLE = TOP / "oracle" / "target" / "release" / "oracle"
+PROGRAM = TOP / "crates" / "schema_list"
+DEFAULT, ALLOW_NULL_FIELDS, COERCE_NUMBERS, GUESS_DATES = 30, 1, 64, 256
+# one byte more than the call takes
+TOO_LONG = 65_536
+
+BOOL, U8, U32, F64, END = b"\x01", b"\x06", b"\x08", b"\x0b", b"\x17"
+
+
+def u16(n):
+    return n.to_bytes(2, "little")
+
+
+class Return:
+    """Commands and text of a return: each record is a struct, given as a dict of values."""
+
+    def __init__(self, *records):
+        self.text = b""
+        self.commands = b"".join(map(self.value, records))
+
+    def name(self, s):
+        s = s.encode()
+        if s not in self.text:
+            self.text += s
+        return u16(self.text.index(s)) + u16(len(s))
+
+    def value(self, v):
+        """Bytes are a command, a string is a text, a list a sequence, a tuple a tuple, an int and a string a unit variant."""
+        if isinstance(v, bytes):
+            return v
+        if isinstance(v, str):
+            return b"\x0d" + self.name(v)
+        if isinstance(v, list):
+            return b"\x12" + b"".join(map(self.value, v)) + END
+        if isinstance(v, dict):
+            return b"\x15" + b"".join(b"\x16" + self.name(k) + self.value(x) for k, x in v.items()) + END
+        if isinstance(v[0], int):
+            return b"\x18" + u16(v[0]) + self.name(v[1])
+        return b"\x13" + u16(len(v)) + b"".join(map(self.value, v))
+
+
+# levels that rise and fall, a gap among variants, a field that a record lacks
+DECKS = Return(
+    {
+        "length": F64,
+        "name": "name",
+        "decks": [{"lanes": [U8, U8], "open": BOOL}],
+        "berth": {"quay": {"bollards": U8}, "side": (1, "Port")},
+        "calls": (U8, F64),
+    },
+    {"length": U32},
+)
+
+# dates, a name and a child count above 255, and levels that fall by several at once: 4 to 2, and 3 to 0
+LONG_NAME = "quays" * 60
+BERTHS = {f"berth{i}": {"free": BOOL, "since": {"day": "2026-03-01", "at": "08:15:00"}} if i % 100 == 50 else U8 for i in range(300)}
+DATES = Return(
+    {
+        "departs": "2026-03-01T08:15:00Z",
+        LONG_NAME: {"north": {"first": {"depth": {"low": F64, "high": F64}}, "second": U8}, "south": [[U8]]},
+        "berths": BERTHS,
+        "arrives": "2026-03-01T09:30:00",
+    },
+)
+
+FILES = {
+    "decks/options.bin": u16(DEFAULT | ALLOW_NULL_FIELDS | COERCE_NUMBERS),
+    "decks/commands.bin": DECKS.commands,
+    "decks/text.bin": DECKS.text,
+    "dates/options.bin": u16(DEFAULT | GUESS_DATES),
+    "dates/commands.bin": DATES.commands,
+    "dates/text.bin": DATES.text,
+    "wrong/one.bin": b"\x5f",
+    "wrong/three.bin": b"\x5f\0\0",
+    "wrong/commands.bin": b"\x15\x17" * (TOO_LONG // 2),
+    "wrong/text.bin": b"t" * TOO_LONG,
+}
+
+# each return by its three files; those that are turned down stand between others, so that the run goes on after them
+RETURNS = [
+    ("decks/options.bin", "decks/commands.bin", "decks/text.bin"),
+    ("wrong/three.bin", "decks/commands.bin", "decks/text.bin"),
+    ("wrong/one.bin", "decks/commands.bin", "decks/text.bin"),
+    ("decks/options.bin", "decks/commands.bin", "wrong/none.bin"),
+    ("dates/options.bin", "dates/commands.bin", "dates/text.bin"),
+    ("decks/options.bin", "wrong/commands.bin", "decks/text.bin"),
+    ("decks/options.bin", "decks/commands.bin", "wrong/text.bin"),
+]
+
+
+def listed(files):
+    """What the oracle lists; nothing for a return that is none."""
+    if any(name not in FILES for name in files) or len(FILES[files[0]]) != 2:
+        return b""
+    with tempfile.TemporaryDirectory() as folder:
+        for name, source in zip(("options.bin", "commands.bin", "text.bin"), files):
+            pathlib.Path(folder, name).write_bytes(FILES[source])
+        return subprocess.run([ORACLE, "list", folder], capture_output=True, check=True).stdout
+
+
+def main():
+    shutil.rmtree(PROGRAM / "data", ignore_errors=True)
+    for name, content in FILES.items():
+        path = PROGRAM / "data" / name
+        path.parent.mkdir(parents=True, exist_ok=True)
+        path.write_bytes(content)
+    (PROGRAM / "args").write_text("".join(f"{name}\n" for files in RETURNS for name in files))
+    (PROGRAM / "stdout").write_bytes(b"".join(map(listed, RETURNS)))
+
+
+main()
