@@ -1,4 +1,4 @@
--- Texts that are dates and times, and some that are none.
+-- Texts that are dates and times, and some that are none. No proof cites them: they show that the grammars take what document 01 says.
 use mathlib.Core.Path.{_≡_, refl}
 use mathlib.Core.Bool.{true, false}
 use mathlib.Core.List.{List, [], _∷_, _++_}

@@ -1,9 +1,9 @@
--- Laws of the joint. Types that meet at a place one after the other give the same in any order, and, where they give a type,
--- the one that the census reads off the set of them.
-use mathlib.Core.Path.{_≡_, refl, sym, _∙_, ap, ap₂, subst}
+-- Laws of the joint. Where types that meet at a place one after the other give a type, it is the one that the census reads off
+-- the set of them.
+use mathlib.Core.Path.{_≡_, refl, sym, _∙_, ap, subst}
 use mathlib.Core.Bool.{Bool, true, false, _&&_, _||_, or-assoc, or-false, false≢true}
-use mathlib.Core.Option.{Option, none, some, Option·some-injective}
-use mathlib.Core.List.{List, [], _∷_, _++_, List·Permᴰ, List·Permᴰ·nil, List·Permᴰ·cons, List·Permᴰ·swap, List·Permᴰ·trans, List·Permᴰ·append-comm}
+use mathlib.Core.Option.{some, Option·some-injective}
+use mathlib.Core.List.{List, [], _∷_}
 use Prim.Native.Nat.{ℕ, _≤_, _<_}
 use native.Mathlib.Omega.{arith}
 use lib.Dec.{eqb}
@@ -11,15 +11,15 @@ use borrow.Author.Tests.{eqb-true, eq-eqb, not-true, not-false}
 use Rattle.logic.specs.Test.{if_then_else_}
 use Rattle.logic.specs.laws.Test.{cases, neither, if-passed, if-failed}
 use Rattle.logic.specs.laws.Flag.{if-either}
-use Rattle.logic.specs.All.{All, has, Within, Same}
-use Rattle.logic.specs.laws.All.{all-append, all-map, all-both, has-none, all-has, all-perm, all-within, has-or}
+use Rattle.logic.specs.All.{All, has}
+use Rattle.logic.specs.laws.All.{all-map, all-both, has-none, all-has, has-or}
 use Rattle.logic.specs.Maybe.{andThen, OnSome}
-use Rattle.logic.specs.laws.Maybe.{then-some, then-agree, then-assoc}
+use Rattle.logic.specs.laws.Maybe.{then-some, then-agree}
 use Rattle.datatype.specs.Codes.{null, int64, uint64, float64, dictionaryUtf8}
 use Rattle.options.specs.Word.{coerceNumbers, allowToString, stringAsLargeUtf8, stringType}
 use Rattle.coerce.specs.Joint.{isString, isTimestamp, isNumber, isFloat, isSigned, yieldsToString, numberJoint, jointOfNumbers, jointWithString, jointOfTimestamps, jointOfUnequal, joint, joinedFrom, joined}
 use Rattle.coerce.specs.Census.{isOther, isStringOrTimestamp, severalSeen, typeSeen, nonNull, Fits}
-use Rattle.coerce.specs.laws.Rules.{Joins, isSignedOrFloat, null-fits, joint-swap, joint-joins}
+use Rattle.coerce.specs.laws.Rules.{Joins, isSignedOrFloat, joint-swap, joint-joins}
 
 -- ---- under any options
 
@@ -55,12 +55,6 @@ joint-among P word a b u pa pb pf pi pu ps e =
 pub joint-below : (n word a b u : ℕ) → dictionaryUtf8 ≤ n → a < n → b < n → joint word a b ≡ some u → u < n
 joint-below n word a b u h p q e =
     joint-among (λ t. t < n) word a b u p q (omega arith) (omega arith) (omega arith) (if-either (λ t. t < n) (stringAsLargeUtf8 word) (omega arith) (omega arith)) e
-
-pub joined-append : (word t : ℕ) (xs ys : List ℕ) → joinedFrom word t (xs ++ ys) ≡ andThen (joinedFrom word t xs) (λ u. joinedFrom word u ys)
-unfolding joinedFrom andThen
-joined-append word t [] ys = refl
-joined-append word t (x ∷ xs) ys =
-    then-agree (joint word t x) _ _ (λ v p. joined-append word v xs ys) ∙ sym (then-assoc (joint word t x) (λ v. joinedFrom word v xs) (λ u. joinedFrom word u ys))
 
 -- the Nulls observed change nothing
 pub joined-nonNull : (word t : ℕ) (xs : List ℕ) → joinedFrom word t (nonNull xs) ≡ joinedFrom word t xs
@@ -102,7 +96,11 @@ same-several string xs ys p q r =
     (has isSigned zs) in
     rw (p, q, e, sym (signed xs (q ∙ e)) ∙ r ∙ signed ys e))
 
--- the census depends on the set alone
+-- No proof cites this: that the type which the census reads off a list depends on the set alone, as document 01 says it. Lists hold the same
+-- if no test tells them apart.
+abbrev Same : List ℕ → List ℕ → Type 0
+Same xs ys = (p : ℕ → Bool) → has p xs ≡ has p ys
+
 one-seen : (x y : ℕ) (xs ys : List ℕ) → Same (x ∷ xs) (y ∷ ys) → has (isOther x) xs ≡ false → (x ≡ y) × (has (isOther y) ys ≡ false)
 unfolding has
 one-seen x y xs ys s e =
@@ -150,34 +148,6 @@ module _ (word : ℕ) (off : allowToString word ≡ false) where
       then-some (joint word t x) (λ v. joinedFrom word v xs) u e λ v p q.
       let j = joint-joins word off t x v f (h .0) p in
       (keeps v u x xs (j .fits) (h .0) (h .1) (j .absorbs) q, joined-absorbs v u xs (j .fits) (h .1) q)
-
-  -- reordering changes nothing
-  pub joined-perm : (t : ℕ) {xs ys : List ℕ} → List·Permᴰ xs ys → Fits word t → All (Fits word) xs → joinedFrom word t xs ≡ joinedFrom word t ys
-  unfolding joinedFrom
-  joined-perm t List·Permᴰ·nil f h = refl
-  joined-perm t (List·Permᴰ·cons {a = a} {l₂ = l₂} e d) f h =
-      then-agree (joint word t a) _ _ (λ v p. joined-perm v d (joint-joins word off t a v f (h .0) p .fits) (h .1)) ∙ ap (λ (x : ℕ). joinedFrom word t (x ∷ l₂)) e
-  joined-perm t (List·Permᴰ·swap {a = a} {b = b} {l = l} e g) f h =
-      let rest : ℕ → Option ℕ = λ v. joinedFrom word v l in
-      sym (then-assoc (joint word t a) (λ v. joint word v b) rest) ∙ ap (λ (o : Option ℕ). andThen o rest)
-      (joint-swap word off t a b f (h .0) (h .1 .0)) ∙ then-assoc (joint word t b) (λ v. joint word v a) rest ∙ ap₂
-      (λ (x y : ℕ). joinedFrom word t (x ∷ y ∷ l)) g e
-  joined-perm t (List·Permᴰ·trans d e) f h = joined-perm t d f h ∙ joined-perm t e f (all-perm (Fits word) d h)
-
-  -- types seen before change nothing
-  joined-more : (xs ys : List ℕ) → Within xs ys → All (Fits word) ys → joined word (ys ++ xs) ≡ joined word ys
-  unfolding andThen
-  joined-more xs ys w h = joined-append word null ys xs ∙ go (joined word ys) refl
-    where
-      go : (o : Option ℕ) → joined word ys ≡ o → andThen o (λ u. joinedFrom word u xs) ≡ o
-      go none e = refl
-      go (some u) e = joined-absorbed word u xs (all-within (λ x. joint word u x ≡ some u) xs ys w (joined-absorbs null u ys (null-fits word) h e))
-
-  -- the set of types decides
-  pub joined-same : (xs ys : List ℕ) → Same xs ys → All (Fits word) xs → joined word xs ≡ joined word ys
-  joined-same xs ys s h =
-      let k : All (Fits word) ys = all-within (Fits word) ys xs (λ p e. s p ∙ e) h in
-      sym (joined-more ys xs (λ p e. s p ∙ e) h) ∙ joined-perm null (List·Permᴰ·append-comm xs ys) (null-fits word) (all-append (Fits word) xs ys h k) ∙ joined-more xs ys (λ p e. sym (s p) ∙ e) k
 
   -- what came of all types is of a family where one of them is
   joined-shows : (p : ℕ → Bool) → ((a b u : ℕ) → Joins word a b u → p u ≡ (p a || p b)) → (t u : ℕ) (xs : List ℕ) → Fits word t → All (Fits word) xs →

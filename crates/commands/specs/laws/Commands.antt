@@ -226,13 +226,6 @@ module _ (commands text : List ℕ) (at : ℕ) (due : Due) (answer : Read) (comm
   pub next-within : next ≤ length commands
   next-within = read-good .within
 
-  -- an arm for a command that cannot stand there is never reached
-  pub never : (which : Command) → command ≡ which → (stands due (byteOf which) && not (badKey due (byteOf which))) ≡ false → ⊥
-  never which w n =
-      let s : stands due (byteOf which) ≡ true = rw (← w) (read-good .standing) in
-      let k : badKey due (byteOf which) ≡ false = rw (← w) (read-good .key) in
-      true≢false (rw (s, k) at n)
-
   -- the name in a command is inside the text and UTF-8
   name-good : (which : Command) (name : Name) → command ≡ which → nameOf which ≡ some name → (inside text name && isUtf8 (bytesOf text name)) ≡ true
   unfolding badName

@@ -37,6 +37,6 @@ decoded-code D.Struct = refl
 decoded-code D.Map = refl
 decoded-code D.Union = refl
 
--- types that have one code are one type
+-- No proof cites this: types that have one code are one type, so that a contract which says a type's code determines the type.
 pub code-injective : (t u : DataType) → codeOf t ≡ codeOf u → t ≡ u
 code-injective t u e = cc (decoded-code t, decoded-code u, ap decoded e)

@@ -2,7 +2,6 @@ pub mod Canon
 pub mod Fields
 pub mod InOrder
 pub mod Records
-pub mod Variants
 pub mod Accepted
 pub mod Answers
 pub mod Bounded

@@ -1,16 +1,10 @@
 -- Laws of what holds of every element, and of tests on elements.
-use mathlib.Core.Path.{_≡_, refl, sym, _∙_, ap, ap₂, subst}
-use mathlib.Core.Bool.{Bool, true, false, not, _||_, or-true, or-assoc, or-comm, false≢true}
-use mathlib.Core.List.{List, [], _∷_, _++_, List·Permᴰ, List·Permᴰ·nil, List·Permᴰ·cons, List·Permᴰ·swap, List·Permᴰ·trans}
-use Prim.Native.Nat.{ℕ}
-use lib.Dec.{eqb}
-use borrow.Author.Tests.{eqb-true, eq-eqb, not-false}
+use mathlib.Core.Path.{_≡_, refl, sym, subst}
+use mathlib.Core.Bool.{Bool, true, false, not, _||_, or-true, false≢true}
+use mathlib.Core.List.{List, [], _∷_, List·Permᴰ, List·Permᴰ·nil, List·Permᴰ·cons, List·Permᴰ·swap, List·Permᴰ·trans}
+use borrow.Author.Tests.{not-false}
 use Rattle.logic.specs.laws.Test.{cases, neither}
-use Rattle.logic.specs.All.{All, Within, has}
-
-pub all-append : {A : Type 0} (P : A → Type 0) (xs ys : List A) → All P xs → All P ys → All P (xs ++ ys)
-all-append P [] ys h k = k
-all-append P (x ∷ xs) ys h k = (h .0, all-append P xs ys (h .1) k)
+use Rattle.logic.specs.All.{All, has}
 
 pub all-map : {A : Type 0} (P Q : A → Type 0) (xs : List A) → ((x : A) → P x → Q x) → All P xs → All Q xs
 all-map P Q [] f h = tt
@@ -46,20 +40,3 @@ has-or p q (x ∷ xs) =
     cases (p x)
     (λ e. rw e)
     (λ e. cases (q x) (λ f. rw (e, f) (sym (or-true (has p xs)))) (λ f. rw (e, f) (has-or p q xs)))
-
-pub all-within : (P : ℕ → Type 0) (xs ys : List ℕ) → Within xs ys → All P ys → All P xs
-unfolding has
-all-within P [] ys w h = tt
-all-within P (x ∷ xs) ys w h = (
-  all-has P (λ y. eqb y x) ys h (w (λ y. eqb y x) (rw (eq-eqb x x refl) refl)) (λ y k e. subst P (eqb-true y x e) k),
-  all-within P xs ys (λ p e. w p (rw e (or-true (p x)))) h,
-)
-
--- what has an element that passes is the same after reordering
-pub has-perm : {A : Type 0} (p : A → Bool) {xs ys : List A} → List·Permᴰ xs ys → has p xs ≡ has p ys
-unfolding has
-has-perm p List·Permᴰ·nil = refl
-has-perm p (List·Permᴰ·cons e d) = ap₂ _||_ (ap p e) (has-perm p d)
-has-perm p (List·Permᴰ·swap {a = a} {b = b} {l = l} e f) = sym (or-assoc (p a) (p b) (has p l)) ∙ ap (λ (t : Bool). t || has p l)
-    (or-comm (p a) (p b)) ∙ or-assoc (p b) (p a) (has p l) ∙ ap₂ (λ (s t : Bool). s || (t || has p l)) (ap p f) (ap p e)
-has-perm p (List·Permᴰ·trans d e) = has-perm p d ∙ has-perm p e

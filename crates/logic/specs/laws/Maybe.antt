@@ -18,11 +18,6 @@ unfolding andThen
 then-agree none f g h = refl
 then-agree (some a) f g h = h a refl
 
-pub then-assoc : {A B C : Type 0} (o : Option A) (f : A → Option B) (g : B → Option C) → andThen (andThen o f) g ≡ andThen o (λ a. andThen (f a) g)
-unfolding andThen
-then-assoc none f g = refl
-then-assoc (some a) f g = refl
-
 pub same-maybe : (x y : Option ℕ) → sameMaybe x y ≡ true → x ≡ y
 unfolding sameMaybe
 same-maybe none none e = refl

@@ -1,4 +1,4 @@
--- An unknown bit, read off the word's size, is a bit above 9.
+-- An unknown bit, read off the word's size, is a bit above 9. No proof cites this: it says that the definition is refusal 1's.
 use mathlib.Core.Path.{_≡_, refl, sym}
 use mathlib.Core.Bool.{Bool, true, false, _||_}
 use Prim.Native.Nat.{ℕ, _/_, _%_, _^_, _<_}

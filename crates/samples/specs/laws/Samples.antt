@@ -53,11 +53,13 @@ module _ (commands text : List ℕ) (options at n : ℕ) (t : List ℕ) (r : Out
           sym (goes-on (recordTurn commands text options) recordStop (leftState commands) (records-fall commands text options) (length commands + 1) (state 0 at n t) (state 0 behind m u) (omega arith)
           (rw (lt-ltb at (length commands) inside, ← q, e) refl)) ∙ whole
 
-      record-behind : (suc at ≤ behind) × (behind ≤ length commands)
-      record-behind = moved-at (suc at) (length commands) behind m u (rw (← q, e) at (readers-on commands text options levelLimit 0 N.Value 0 at 0 n t (omega arith)))
-
-      pub records-less : length commands - behind < length commands - at
-      records-less = let a : suc at ≤ behind = record-behind .0 in let b : behind ≤ length commands = record-behind .1 in omega arith
+-- fewer bytes are left behind a record, however many levels it was read with
+pub records-less : (commands text : List ℕ) (options levels at n : ℕ) (t : List ℕ) (traced : Traced) (u : List ℕ) → at < length commands →
+    out traced u ≡ valueAt commands text options levels at 0 n t → (behind m : ℕ) → traced ≡ T.Next behind m →
+    length commands - behind < length commands - at
+records-less commands text options levels at n t traced u inside q behind m e =
+    let on = moved-at (suc at) (length commands) behind m u (rw (← q, e) at (readers-on commands text options levels 0 N.Value 0 at 0 n t (omega arith))) in
+    omega (arith, on .0, on .1)
 
 -- ---- the root
 pub root-ready : (text t : List ℕ) → Sound text t 1 → Ready text t 1 0

@@ -17,12 +17,9 @@ use Rattle.text.specs.Name.{bytesOf, tagOf}
 use Rattle.text.specs.laws.Name.{eqName-true}
 use Rattle.text.specs.Utf8.{isUtf8}
 use Rattle.model.specs.Tracing.{placeLimit}
-use Rattle.shapes.specs.declared.Step.{Step}
-use Rattle.shapes.specs.declared.Step.the-variants as S
-use Rattle.shapes.specs.Steps.{fieldCode, noName, unpackedName}
+use Rattle.shapes.specs.Steps.{fieldCode, unpackedName}
 use Rattle.places.specs.Layout.{firstWord, blockWord, nextWord, stepWord, nameWord, tagWord, Tagged, Sound, turnLimit}
-use Rattle.search.specs.Search.{isAt, findTurn, findFrom, findIn, inBlock, childAt, Past}
-use Rattle.search.specs.laws.Tree.{seek-below}
+use Rattle.search.specs.Search.{isAt, findTurn, findFrom, findIn, inBlock, Past}
 use Rattle.places.specs.laws.Layout.{first-below, next-below}
 
 -- ---- the search for a child
@@ -172,13 +169,3 @@ any-name text t place code name other no-field = ap (λ turn. turns turn (λ c. 
 pub in-block : (place i n : ℕ) (t : List ℕ) → inBlock place i n t ≡ true → word t place firstWord + i < n
 unfolding inBlock
 in-block place i n t e = both (ltb i (word t place blockWord)) _ e λ a b. ltb-true (word t place firstWord + i) n b
-
--- and so is the child at any step, where what the search finds is one
-pub child-below : (text t : List ℕ) (n place : ℕ) → place < n → n ≤ placeLimit → ((code : ℕ) (name : Name) → findIn text place code name t < n) → (step : Step) → childAt text place step n t < n
-unfolding childAt if_then_else_
-child-below text t n place h m found S.Element = found _ noName
-child-below text t n place h m found S.Key = found _ noName
-child-below text t n place h m found S.Value = found _ noName
-child-below text t n place h m found (S.Field name) = found _ name
-child-below text t n place h m found (S.Position i) = cases (inBlock place i n t) (λ e. rw e (in-block place i n t e)) (λ e. rw e (seek-below _ n t place h m))
-child-below text t n place h m found (S.Variant number name) = seek-below _ n t place h m

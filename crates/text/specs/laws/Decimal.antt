@@ -1,17 +1,14 @@
--- Laws of decimal numerals: how they are made, their value, their length, their digits.
+-- Laws of decimal numerals: how they are made, and their length.
 use mathlib.Core.Path.{_≡_, refl, sym, ap, _∙_}
 use Prim.Native.Nat.{ℕ, zero, suc, _+_, _-_, _*_, _/_, _%_, _^_, _≤_, _<_}
 use native.Mathlib.Nat.{le-refl, not-suc-le-zero, pow-suc, one-le-pow}
 use native.Mathlib.Omega.{arith}
-use mathlib.Core.Bool.{true, _&&_}
 use mathlib.Core.List.{List, [], _∷_, _++_}
-use lib.Dec.{leb, ltb}
+use lib.Dec.{ltb}
 use lib.ListN.{length, length-append}
-use borrow.Author.Tests.{ltb-true, ltb-false, lt-ltb, le-ltb, leb-true, le-leb}
-use Rattle.logic.specs.laws.Test.{cases, both}
-use Rattle.text.specs.Name.{dots}
-use Rattle.text.specs.laws.Name.{dots-no}
-use Rattle.text.specs.Decimal.{zeroDigit, numeral, decimal, valueAfter, value, areDigits}
+use borrow.Author.Tests.{ltb-true, ltb-false, lt-ltb, le-ltb}
+use Rattle.logic.specs.laws.Test.{cases}
+use Rattle.text.specs.Decimal.{zeroDigit, numeral, decimal}
 
 -- a numeral with digits to spare
 numeral-small : (fuel n : ℕ) → n < 10 → numeral (suc fuel) n ≡ (zeroDigit + n) ∷ []
@@ -52,21 +49,6 @@ by-digits P small step n = go (suc n) n (le-refl (suc n))
         cases (ltb n 10) (λ e. small n (ltb-true n 10 e))
         (λ e. let g : 10 ≤ n = ltb-false n 10 e in step n g (go fuel (n / 10) (omega arith)))
 
-value-last : (n b : ℕ) (bytes : List ℕ) → valueAfter n (bytes ++ (b ∷ [])) ≡ valueAfter n bytes * 10 + (b - zeroDigit)
-unfolding valueAfter
-value-last n b [] = refl
-value-last n b (d ∷ bytes) = value-last (n * 10 + (d - zeroDigit)) b bytes
-
--- a numeral stands for its number
-pub value-decimal : (n : ℕ) → value (decimal n) ≡ n
-unfolding valueAfter
-value-decimal =
-    by-digits (λ n. value (decimal n) ≡ n) (λ n h. rw (decimal-small n h) (omega arith))
-    (λ n h e. rw (decimal-step n h, value-last 0 (zeroDigit + n % 10) (decimal (n / 10)), e) (omega arith))
-
-pub decimal-injective : (m n : ℕ) → decimal m ≡ decimal n → m ≡ n
-decimal-injective m n e = sym (value-decimal m) ∙ ap value e ∙ value-decimal n
-
 -- a digit more
 pub length-step : (n : ℕ) → 10 ≤ n → length (decimal n) ≡ length (decimal (n / 10)) + 1
 length-step n h = rw (decimal-step n h, length-append)
@@ -95,34 +77,7 @@ length-least (suc k) n h =
 pub length-u16 : (n : ℕ) → n < 2 ^ 16 → length (decimal n) ≤ 5
 length-u16 n h = length-most 4 n (omega arith)
 
--- its bytes are digits
-digits-append : (x y : List ℕ) → areDigits x ≡ true → areDigits y ≡ true → areDigits (x ++ y) ≡ true
-unfolding areDigits
-digits-append [] y p q = q
-digits-append (b ∷ x) y p q = both (leb zeroDigit b && ltb b (zeroDigit + 10)) (areDigits x) p λ r s. rw (r, digits-append x y s q)
-
-digit-is : (n : ℕ) → n < 10 → areDigits ((zeroDigit + n) ∷ []) ≡ true
-unfolding areDigits
-digit-is n h = rw (le-leb zeroDigit (zeroDigit + n) (omega arith), lt-ltb (zeroDigit + n) (zeroDigit + 10) (omega arith))
-
-pub decimal-digits : (n : ℕ) → areDigits (decimal n) ≡ true
-decimal-digits =
-    by-digits (λ n. areDigits (decimal n) ≡ true) (λ n h. rw (decimal-small n h) (digit-is n h))
-    (λ n h e. rw (decimal-step n h) (digits-append (decimal (n / 10)) _ e (digit-is (n % 10) (omega arith))))
-
--- it has no dots
-digits-dots : (bytes : List ℕ) → areDigits bytes ≡ true → dots bytes ≡ 0
-unfolding areDigits dots
-digits-dots [] e = refl
-digits-dots (b ∷ bytes) e =
-    both (leb zeroDigit b && ltb b (zeroDigit + 10)) (areDigits bytes) e
-    λ p q.
-    both (leb zeroDigit b) (ltb b (zeroDigit + 10)) p
-    λ r s. let h : zeroDigit ≤ b = leb-true zeroDigit b r in dots-no b bytes (omega arith) ∙ digits-dots bytes q
-
-pub dots-decimal : (n : ℕ) → dots (decimal n) ≡ 0
-dots-decimal n = digits-dots (decimal n) (decimal-digits n)
-
+-- No proof cites these: the numerals of the least and of the greatest position.
 zero-is : decimal 0 ≡ 0x30 ∷ []
 unfolding decimal numeral
 zero-is = refl

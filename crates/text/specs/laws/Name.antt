@@ -1,10 +1,9 @@
--- Laws of names: equality is equality of bytes, the order is strict and total, dots add up; and what a tag is, by the length.
+-- Laws of names: equality is equality of bytes, the order is strict and total; dots, a byte at a time; and what a tag is, by the length.
 use mathlib.Core.Path.{_≡_, refl, sym, ap, _∙_}
 use Prim.Native.Nat.{ℕ, suc, _+_, _*_, _-_, _%_, _≤_, _<_}
-use native.Mathlib.Nat.{le-refl}
 use native.Mathlib.Omega.{arith}
 use mathlib.Core.Bool.{true, false, false≢true, true≢false}
-use mathlib.Core.List.{List, [], _∷_, _++_}
+use mathlib.Core.List.{List, [], _∷_}
 use lib.Dec.{ltb, eqb}
 use lib.ListN.{length, getD, length-take, length-drop}
 use lib.Seq.{getD-drop, getD-take}
@@ -125,15 +124,3 @@ dots-yes b x e = if-passed (dots x) (eq-eqb b dot e)
 pub dots-no : (b : ℕ) (x : List ℕ) → (b ≡ dot → ⊥) → dots (b ∷ x) ≡ dots x
 unfolding dots
 dots-no b x e = if-failed (suc (dots x)) (ne-eqb b dot e)
-
-pub dots-append : (x y : List ℕ) → dots (x ++ y) ≡ dots x + dots y
-unfolding dots if_then_else_
-dots-append [] y = omega arith
-dots-append (b ∷ x) y = cases (eqb b dot) (λ e. rw (e, dots-append x y) (omega arith)) (λ e. rw (e, dots-append x y))
-
-pub dots-length : (x : List ℕ) → dots x ≤ length x
-unfolding dots if_then_else_
-dots-length [] = le-refl 0
-dots-length (b ∷ x) =
-    let h : dots x ≤ length x = dots-length x in
-    cases (eqb b dot) (λ e. rw e (omega arith)) (λ e. rw e (omega arith))

@@ -140,7 +140,8 @@ isUtf8-next k (low to high ∷ due) (b ∷ bytes) more e f =
     within-bounds low high b p
     λ r t. reads-first b due (bytes ++ more) (due-at k b low high due e r t) ∙ reads-fits due bytes more q
 
--- what the table says is UTF-8 passes the test
+-- No proof cites this, nor `isUtf8-sound` below: with it, it says that the computed test, with which contracts are stated, is the table.
+-- What the table says is UTF-8 passes the test
 pub isUtf8-complete : {bytes : List ℕ} → Utf8 bytes → isUtf8 bytes ≡ true
 unfolding reads
 isUtf8-complete empty = refl
@@ -178,7 +179,7 @@ none-due (b ∷ s) t bytes e f u = absurd (false≢true f)
 pub isUtf8-sound : (bytes : List ℕ) → isUtf8 bytes ≡ true → Utf8 bytes
 isUtf8-sound bytes e = let r = reads-sound [] bytes e in none-due (r .0) (r .1) bytes (r .2) (r .3) (r .4)
 
--- a surrogate, overlong forms, and the ends of the last row
+-- No proof cites these examples: a surrogate, overlong forms, and the ends of the last row.
 surrogate : isUtf8 (0xED ∷ 0xA0 ∷ 0x80 ∷ []) ≡ false
 unfolding reads dueIn within if_then_else_
 surrogate = refl

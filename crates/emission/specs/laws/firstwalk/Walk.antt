@@ -264,7 +264,8 @@ first-walk options text t n u missing name number levels l g r f e s i =
     walk-says (walk options (placeOf missing (erase u))) (fieldsOfField (fieldOf options name number (placeOf missing (erase u)))) (sizeS u)
     (place-says options text t n u missing name number levels l g r f e s i)
 
--- and where nothing is refused, no count comes near 32 bits
+-- No proof cites this: where nothing is refused, no count comes near 32 bits, and a host that lends 2 MiB of field records and 128 MiB of
+-- names lends enough.
 says-few : (o : Option ℕ) (fs : Fields) (size : ℕ) {w : Walked} → size ≤ placeLimit → o ≡ none → Says o 0 0 0 fs 129 69993 size w →
     (countIn fs < 2 ^ 18) × (length (namesIn fs) < 2 ^ 27) × (columnsIn fs < 2 ^ 18)
 says-few o fs size l e (turned d) = let z : _≡_ {A = ℕ} 0 1 = cc in absurd (omega arith)

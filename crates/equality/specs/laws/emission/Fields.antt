@@ -1,6 +1,6 @@
 -- The field that is emitted for a place tells the place, up to the order that is not said; and places that agree so have one field.
 use mathlib.Core.Path.{_≡_, refl, ap, ap₂, sym, _∙_}
-use mathlib.Core.Bool.{Bool, true, false, not, _||_}
+use mathlib.Core.Bool.{Bool, true, false, _||_}
 use mathlib.Core.List.{List}
 use Prim.Native.Nat.{ℕ, zero, suc, _+_, _-_, _<_}
 use native.Mathlib.Omega.{arith}
@@ -12,13 +12,12 @@ use Rattle.datatype.specs.Codes.{null, dictionaryUtf8, dictionaryLargeUtf8, lar
 use Rattle.options.specs.Word.{sequenceAsLargeList, stringAsLargeUtf8, stringDictionaryEncoding, stringType, binaryType, listType, dictionaryType}
 use Rattle.coerce.specs.Joint.{isString}
 use Rattle.model.specs.Result.{accepted}
-use Rattle.model.specs.Kinds.{sequenceKind, structKind, mapKind, unionKind, tupleKind, mapModeKind, isStruct, Step, variantOf}
+use Rattle.model.specs.Kinds.{sequenceKind, structKind, mapKind, unionKind, tupleKind, mapModeKind, isStruct, variantOf}
 use Rattle.model.specs.Emission.{Place, shown, Places, none-below, below, Field, mk, Fields, no-fields, more, typeOf, strategyOf, entriesName, nameOf, gap, gaps, arranged, fieldOf, fieldsOf, rootFields, rootName}
-use Rattle.equality.specs.laws.Base.{and-left, and-both, not-refused}
-use Rattle.equality.specs.laws.Proper.{isBinary, typeFits, kindFits, stepsBelow, fits, fitBelow}
-use Rattle.equality.specs.laws.emission.Canon.{insertPlace, inOrder, canon, canons}
-use Rattle.equality.specs.laws.reordering.Sorting.{precedes, rising, in-order-twice}
-use Rattle.equality.specs.laws.emission.InOrder.{Off, ascendBelow, ascends, canons-in-order, field-arranged, field-plain, fit-more, fits-canon, plainField, plainFields, step-back, stepBack, steps-canons, struct-other, wrapped}
+use Rattle.equality.specs.laws.Base.{and-left, not-refused}
+use Rattle.equality.specs.laws.Proper.{isBinary, typeFits, kindFits, fits, fitBelow}
+use Rattle.equality.specs.laws.emission.Canon.{canon}
+use Rattle.equality.specs.laws.emission.InOrder.{Off, ascends, field-arranged, field-plain, fit-more, fits-canon, plainField, plainFields, step-back, stepBack, wrapped}
 
 -- ---- a kind, read back from a type and a strategy
 unfoldable pub kindBack : ℕ → ℕ → ℕ → ℕ
@@ -141,64 +140,6 @@ same-field options x y v w c d o f g a b e =
 pub same-canon : (options : ℕ) (x : List ℕ) (v : ℕ) (c d : Place) → Off options → fits options c ≡ true → fits options d ≡ true → ascends c ≡ true → ascends d ≡ true →
     canon c ≡ canon d → fieldOf options x v c ≡ fieldOf options x v d
 same-canon options x v c d o f g a b e = field-plain options x v c o f a ∙ ap (plainField options x v) e ∙ sym (field-plain options x v d o g b)
-
--- ---- a canon is its own canon
-canons-insert : (s : Step) (p : Place) (ps : Places) → canons (insertPlace s p ps) ≡ insertPlace s (canon p) (canons ps)
-unfolding canons insertPlace if_then_else_
-canons-insert s p none-below = refl
-canons-insert s p (below r q ps) = cases (precedes r s) (λ e. rw (e, canons, insertPlace) (ap (below r (canon q)) (canons-insert s p ps))) (λ e. rw (e, canons))
-
-canons-order : (ps : Places) → canons (inOrder ps) ≡ inOrder (canons ps)
-unfolding canons inOrder
-canons-order none-below = refl
-canons-order (below s p ps) = canons-insert s p (inOrder ps) ∙ ap (insertPlace s (canon p)) (canons-order ps)
-
-mutual
-  unfolding canon if_then_else_
-
-  pub canon-twice : (c : Place) → canon (canon c) ≡ canon c
-  canon-twice (shown admits kind ps) =
-      let h = canons-twice ps in
-      cases (eqb kind structKind) (λ e. rw e (ap (shown admits kind) h))
-      (λ e. rw e (ap (shown admits kind) (ap inOrder (canons-order (canons ps)) ∙ in-order-twice (canons (canons ps)) ∙ ap inOrder h)))
-
-  canons-twice : (ps : Places) → canons (canons ps) ≡ canons ps
-  canons-twice none-below = refl
-  canons-twice (below s p ps) = ap₂ (below s) (canon-twice p) (canons-twice ps)
-
-ascend-insert : (s : Step) (p : Place) (ps : Places) → ascends p ≡ true → ascendBelow ps ≡ true → ascendBelow (insertPlace s p ps) ≡ true
-unfolding ascendBelow insertPlace if_then_else_
-ascend-insert s p none-below h k = and-both h k
-ascend-insert s p (below r q ps) h k =
-    cases (precedes r s)
-    (λ e. rw (e, ascendBelow) (both (ascends q) (ascendBelow ps) k λ a b. and-both a (ascend-insert s p ps h b)))
-    (λ e. rw (e, ascendBelow) (and-both h k))
-
-ascend-in-order : (ps : Places) → ascendBelow ps ≡ true → ascendBelow (inOrder ps) ≡ true
-unfolding ascendBelow inOrder
-ascend-in-order none-below h = h
-ascend-in-order (below s p ps) h = both (ascends p) (ascendBelow ps) h λ a b. ascend-insert s p (inOrder ps) a (ascend-in-order ps b)
-
-mutual
-  unfolding canon fits ascends if_then_else_
-
-  pub ascends-canon : (options : ℕ) (c : Place) → fits options c ≡ true → ascends c ≡ true → ascends (canon c) ≡ true
-  ascends-canon options (shown admits kind ps) f u =
-      both (kindFits options kind) (fitBelow options kind 0 ps) f λ _ g.
-      both (not (eqb kind unionKind) || rising (stepsBelow ps)) (ascendBelow ps) u λ a b.
-      let k = ascends-canons options kind 0 ps g b in
-      let r : (not (eqb kind unionKind) || rising (stepsBelow (canons ps))) ≡ true = rw (steps-canons ps) a in
-      cases (eqb kind structKind) (λ e. rw e (and-both r k))
-      (λ e. rw e (
-      cases (isStruct kind) (λ n. rw (struct-other kind unionKind n refl) (ascend-in-order (canons ps) k))
-      (λ n. rw (canons-in-order options kind ps n g a) (and-both r k))))
-
-  ascends-canons : (options kind i : ℕ) (ps : Places) → fitBelow options kind i ps ≡ true → ascendBelow ps ≡ true → ascendBelow (canons ps) ≡ true
-  ascends-canons options kind i none-below f u = refl
-  ascends-canons options kind i (below s p ps) f u =
-      fit-more options kind i s p ps f λ _ _ c d.
-      both (ascends p) (ascendBelow ps) u λ v w.
-      and-both (ascends-canon options p c v) (ascends-canons options kind (suc i) ps d w)
 
 -- ---- the root
 abbrev pub kindAt : Place → ℕ
