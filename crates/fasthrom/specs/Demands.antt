@@ -49,8 +49,8 @@ is call = call .contract
 
 -- ---- Demand 1
 -- "Whatever commands, texts, options word and buffers are handed in, the call ends with the whole schema or with one of eighteen refusals
--- and a place. A refusal changes neither output buffer; from refusal 4 on, and on success, the work table's first 16,384 words end as zeros.
--- Callers need test nothing first."
+-- and a place. A refusal changes neither output buffer; from refusal 4 on, and on success, the work table's first 16,384 words end as
+-- zeros. Callers need test nothing first."
 
 -- the whole schema, in buffers that it fits; what stands past it is untouched, and the table is zeroed
 pub record Whole (b : Batch) (lent : Buffers) (a : Answer) : Type 0 where

@@ -246,7 +246,8 @@ module _ (o at : ℕ) (b : Bool) (k n : ℕ) (ps : Parts) where
   unfolding seen stepsSeen
   seen-made before s h w p =
       let there : has s (sights (stepsIn ps) (sights (made k n before) [])) ≡ true =
-          has-sights-is s (stepsIn ps) (sights (made k n before) []) ∙ ap (λ (x : Bool). x || has s (stepsIn ps)) (has-sights-is s (made k n before) [] ∙ ap (λ (x : Bool). has s [] || x) h ∙ or-true (has s [])) in
+          has-sights-is s (stepsIn ps) (sights (made k n before) [])
+          ∙ ap (λ (x : Bool). x || has s (stepsIn ps)) (has-sights-is s (made k n before) [] ∙ ap (λ (x : Bool). has s [] || x) h ∙ or-true (has s [])) in
       and-both (rw (made-fixed o k n ps before [] w p) at there) refl
 
   seen-part : (s : Step) (steps : List Step) → has s (stepsIn ps) ≡ true → seen steps (partsAt s ps) ≡ true → seen (s ∷ steps) (val at b k n ps ∷ []) ≡ true

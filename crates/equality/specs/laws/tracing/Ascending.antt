@@ -96,8 +96,9 @@ module _ (options : ℕ) (commands text : List ℕ) where
         (λ s a r.
         let g : (at ≤ a) × (a ≤ length commands) = rw r at (next-inside commands text at kind n i h) in
         let v : Value = readValue f options commands text a .0 in
+        let over = rw (parts-next options commands text f kind n i at s a r) at e in
         rw (parts-next options commands text f kind n i at s a r)
-        (rest-on (readValue f options commands text a .1) (λ behind. readParts f options commands text kind n (i + 1) behind) b (rw (parts-next options commands text f kind n i at s a r) at e) λ m p q.
+        (rest-on (readValue f options commands text a .1) (λ behind. readParts f options commands text kind n (i + 1) behind) b over λ m p q.
         (le-refl at, (m, spans-from a at m v (g .0) (value-spans f a m p), rw p (parts-span f kind n (i + 1) m (value-on options commands text f a m p .1) b q)))))
         (λ m p r. none-behind (rw (parts-bad options commands text f kind n i at m p r) at e))
 
