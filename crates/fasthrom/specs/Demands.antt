@@ -28,7 +28,7 @@ use Rattle.model.specs.laws.Sounded.{sounded}
 use Rattle.fasthrom.specs.declared.Answer as R
 use Rattle.fasthrom.specs.Called.{said, Called}
 use Rattle.equality.specs.laws.emission.Answers.{Ending, barred, turned, whole, answer-ends}
-use Rattle.equality.specs.laws.emission.Bounded.{read-through, as-unbounded, as-demanded, exactly, past-reading}
+use Rattle.equality.specs.laws.emission.Bounded.{read-through, as-unbounded, as-demanded, exactly, by-census, past-reading}
 use Rattle.call.specs.laws.Demand3.{Took, alike, apart, again}
 
 -- One call: what was handed in and lent, the numbers answered and what was left in the buffers, tied by the function's contract.
@@ -48,9 +48,9 @@ unfolding Called
 is call = call .contract
 
 -- ---- Demand 1
--- "Whatever commands, texts, options word and buffers are handed in, the call ends with the whole schema or with one of eighteen refusals and a
--- place. A refusal changes neither output buffer; from refusal 4 on, and on success, the work table's first 16,384 words end as zeros. Callers
--- need test nothing first."
+-- "Whatever commands, texts, options word and buffers are handed in, the call ends with the whole schema or with one of eighteen refusals
+-- and a place. A refusal changes neither output buffer; from refusal 4 on, and on success, the work table's first 16,384 words end as zeros.
+-- Callers need test nothing first."
 
 -- the whole schema, in buffers that it fits; what stands past it is untouched, and the table is zeroed
 pub record Whole (b : Batch) (lent : Buffers) (a : Answer) : Type 0 where
@@ -111,9 +111,9 @@ pub demand-1 : (call : Call) → Demand1 (call .batch) (call .lent) (gave call)
 demand-1 call = rw (is call) (ends (call .batch) (call .lent) (answer (call .batch) (call .lent)) (answer-ends (call .batch) (call .lent)))
 
 -- ---- Demand 2
--- "Answer, field records and name bytes: on every well-formed batch of at most 1,024 places whose schema fits, given a full-length work table,
--- they equal what Tracer::from_samples and then Tracer::to_schema give, refusal causes included, proved against definitions from Arrow's
--- Schema.fbs, the Serde data model and document 01."
+-- "Answer, field records and name bytes: on every well-formed batch of at most 1,024 places whose schema fits, given a full-length work
+-- table, they equal what Tracer::from_samples and then Tracer::to_schema give, refusal causes included, proved against definitions from
+-- Arrow's Schema.fbs, the Serde data model and document 01."
 
 -- Tracer::from_samples, which has no bound on places
 abbrev pub fromSamples : Batch → Result Tree
@@ -124,12 +124,16 @@ abbrev pub rust : Batch → Result Fields
 rust b = fromSamples b >>= toSchema (b .options) (length (b .commands))
 
 pub record Demand2 (b : Batch) (lent : Buffers) (a : Answer) : Type 0 where
-  -- a batch of at most 1,024 places, read off its census, gets what the Rust gives: its refusal and place, or its schema, which fits or gets 18
+  -- a batch of at most 1,024 places, read off its census, gets what the Rust gives: its refusal and place, or its schema, which fits or
+  -- gets 18
   pub within : AtMost placeLimit (b .options) (recordsOf b) → a ≡ answerOf b lent (rust b)
-  -- so does every other, unless a 1,025th place is needed
-  pub equal : (a .refusal ≡ tooManyPlaces → ⊥) → a ≡ answerOf b lent (rust b)
-  -- which is said at p exactly if the command there is the first that needs it, and the Rust refuses none before p
+  -- so does every other in which no command needs a 1,025th place, or the Rust refuses something before
+  pub equal : ((p : ℕ) → Exceeds (b .options) (recordsOf b) p → ⊥) → a ≡ answerOf b lent (rust b)
+  -- 11 is said at p exactly if the command there is the first that needs a 1,025th place, and the Rust refuses nothing before p
   pub eleven : (p : ℕ) → (a ≡ turnedDown tooManyPlaces p (zeroed lent)) ↔ Exceeds (b .options) (recordsOf b) p
+  -- of what the Rust traces to the end it is said exactly if the census knows more than 1,024 places
+  pub places : (tree : Tree) → fromSamples b ≡ accepted tree
+      → (a .refusal ≡ tooManyPlaces) ↔ (AtMost placeLimit (b .options) (recordsOf b) → ⊥)
   -- a well-formed batch is turned down for none of 1 to 6
   pub read : (a .refusal ≡ 0) ⊎ (7 ≤ a .refusal)
 
@@ -139,7 +143,13 @@ demand-2 call w t =
     let b = call .batch in
     let lent = call .lent in
     rw (is call ∙ read-through b lent w t)
-    (record { within = as-demanded b lent w; equal = as-unbounded b lent; eleven = exactly b lent w; read = past-reading b lent w })
+    (record {
+      within = as-demanded b lent w;
+      equal = as-unbounded b lent w;
+      eleven = exactly b lent w;
+      places = by-census b lent w;
+      read = past-reading b lent w;
+    })
 
 -- ---- Demand 3
 -- "For every options word with allow_to_string and enums_without_data_as_strings off, and every two batches of struct records accepted

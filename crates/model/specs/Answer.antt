@@ -47,7 +47,7 @@ pub record Answer : Type 0 where
   -- what is left in what was lent
   pub left : Buffers
 
--- Tracer::from_samples and then Tracer::to_schema: refusals 4 to 17
+-- Tracer::from_samples with the bound on places, and then Tracer::to_schema: refusals 4 to 17
 unfoldable pub schemaOf : Batch → Result Fields
 schemaOf b =
     trace (b .options) (values (b .options) (b .commands) (b .text))

@@ -1,5 +1,5 @@
--- The bound on places (document 01: "At most 1,024, root counted"; refusal 11: "A 1,025th place is needed"): how many places a batch has, read
--- off its census; and which command needs each of them, where nothing bounds their number.
+-- The bound on places (document 01: "At most 1,024, root counted"; refusal 11: "A 1,025th place is needed"): how many places a batch has,
+-- read off its census; and which command needs each of them, where nothing bounds their number.
 use mathlib.Core.Path.{_≡_}
 use mathlib.Core.Bool.{false}
 use mathlib.Core.Logic.{_⊎_}
@@ -16,7 +16,7 @@ use Rattle.model.specs.Unbounded.{makeAll, see, seeAll}
 use Rattle.model.specs.Census.{Said, census}
 
 -- ---- how many places a batch has
--- to a variant leads its number: steps that differ in a variant's name alone lead to one place (two names for it are refusal 9)
+-- a variant's place is found by its number alone: steps that differ in a variant's name lead to one place (and get refusal 9)
 abbrev pub unnamed : Step → Step
 unnamed (field name) = field name
 unnamed element = element
@@ -29,11 +29,12 @@ unfoldable pub withoutNames : List Step → List Step
 withoutNames [] = []
 withoutNames (s ∷ steps) = unnamed s ∷ withoutNames steps
 
+-- a place is one of these
 unfoldable pub Among : List Step → List (List Step) → Type 0
 Among place [] = ⊥
 Among place (other ∷ places) = (place ≡ other) ⊎ Among place places
 
--- it has at most n places if some n hold all those of which its census says anything
+-- it has at most n places if a list of at most n holds every place of which its census says anything
 pub record AtMost (n options : ℕ) (records : List Value) : Type 0 where
   pub places : List (List Step)
   pub few : length places ≤ n
@@ -74,8 +75,8 @@ unfoldable pub needsAll : ℕ → List Value → Tree → List ℕ
 needsAll options [] tree = []
 needsAll options (v ∷ vs) tree = needs options 0 v tree ++ unlessRefused (see options 0 v tree) (needsAll options vs)
 
--- The command at p is the first that needs a 1,025th place, and none before it is refused: the root and the places that commands need before
--- this one are 1,024, and tracing without the bound, if it is refused at all, is not refused before p.
+-- The command at p is the first that needs a 1,025th place: the root and the places needed before that one are 1,024. Nothing before p is
+-- refused: tracing without the bound is refused at p or later, if at all (which follows, for the list ends where it is refused).
 pub record Exceeds (options : ℕ) (records : List Value) (p : ℕ) : Type 0 where
   pub before : List ℕ
   pub after : List ℕ

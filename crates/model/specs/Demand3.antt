@@ -83,8 +83,8 @@ pub record NoShorter (lent other : Buffers) : Type 0 where
   pub fields : length (lent .fields) ≤ length (other .fields)
   pub names : length (lent .names) ≤ length (other .names)
 
--- a struct whose fields are listed in order of first sight: neither a tuple nor a map traced as one, nor the entries of a map, whose fields
--- are key and value; `above` is the type of the field that it stands in
+-- a struct whose fields are listed in order of first sight: neither a tuple nor a map traced as a struct, nor the entries of a map, whose
+-- fields are key and value; `above` is the type of the field that it stands in
 abbrev pub isListed : ℕ → ℕ → ℕ → Bool
 isListed above type strategy = eqb type struct && eqb strategy noStrategy && not (eqb above map)
 

@@ -124,7 +124,7 @@ rest (some behind) more = more behind
 abbrev pub andThen : ℕ → Step → Got Value → (ℕ → Got Parts) → Got Parts
 andThen at step got more = let others = rest (got .1) more in (part at step (got .0) (others .0), others .1)
 
--- Each takes a bound on how many calls deep it goes; `enough` is above what any reading needs.
+-- Each takes a bound on how many calls deep it goes; `enough` is above what any reading needs (proved in `equality`, reading/Locality).
 unfoldable mutual
   pub readValue : ℕ → ℕ → List ℕ → List ℕ → ℕ → Got Value
   readValue zero options commands text at = cutAt badCommand at

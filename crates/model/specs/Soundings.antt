@@ -25,7 +25,7 @@ pub record Sounding : Type 0 where
   pub options : ℕ
   pub shown : List (List ℕ)
   pub text : List ℕ
-  -- the refusal, or 0 and the field's record
+  -- the refusal and 0, or 0, how many field records there are, and the field's own
   pub gives : List ℕ
 
 -- 15, 16 with the name at offset 0 of length 1, the value, 17
@@ -54,16 +54,16 @@ abbrev pub firstOf : ℕ → List ℕ → List ℕ
 firstOf zero fields = []
 firstOf (suc n) fields = take recordBytes fields
 
--- the refusal, or 0 and the first field's record
+-- the refusal, how many field records there are, and the first of them
 abbrev pub outcome : Answer → List ℕ
-outcome a = a .refusal ∷ firstOf (a .field-records) (a .left .fields)
+outcome a = a .refusal ∷ a .field-records ∷ firstOf (a .field-records) (a .left .fields)
 
--- a field record of the field `x`: type, and how many children
+-- the field `x` with so many children, none of which has any, and its record: type, and how many children
 abbrev field : ℕ → ℕ → List ℕ
-field type children = 0 ∷ type ∷ 0 ∷ 0 ∷ 0 ∷ 1 ∷ 0 ∷ children ∷ 0 ∷ []
+field type children = 0 ∷ (1 + children) ∷ type ∷ 0 ∷ 0 ∷ 0 ∷ 1 ∷ 0 ∷ children ∷ 0 ∷ []
 
 abbrev refusal : ℕ → List ℕ
-refusal number = number ∷ []
+refusal number = number ∷ 0 ∷ []
 
 -- commands: bool, i8, i32, u8, u16, f32
 abbrev bool : List ℕ

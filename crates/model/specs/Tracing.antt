@@ -1,4 +1,5 @@
--- The tree of places that the values of a batch leave, or the refusal, 4 to 11, that they meet (document 01, "Places"; Tracer::from_samples).
+-- The tree of places that the values of a batch leave, or the refusal, 4 to 11, that they meet (document 01, "Places"):
+-- Tracer::from_samples with the bound on places.
 use mathlib.Core.Bool.{Bool, true, false, not, _&&_, _||_}
 use mathlib.Core.List.{List, [], _∷_}
 use Prim.Native.Nat.{ℕ, zero, suc, _+_}
@@ -47,7 +48,7 @@ dotsOf key = 1
 dotsOf value = 1
 dotsOf (variant number name) = 1 + dots name
 
--- no container or variant stands at this depth or below it (refusal 7)
+-- no container or variant is taken at a place this deep or deeper (refusal 7)
 abbrev pub depthLimit : ℕ
 depthLimit = 20
 

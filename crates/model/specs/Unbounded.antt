@@ -1,14 +1,14 @@
--- Tracing without the bound on places, as Tracer::from_samples has none: the same tests but refusal 11, and no count is kept. Demand 2 speaks of
--- it; that it gives what tracing with the bound gives, but for 11, is proved in `equality`.
+-- Tracing without the bound on places, as Tracer::from_samples has none: the same tests but refusal 11, and no count is kept. Demand 2
+-- speaks of it; that it gives what tracing with the bound gives, but for 11, is proved in `equality`.
 use mathlib.Core.Bool.{Bool, true, _||_}
 use mathlib.Core.List.{List, [], _∷_}
-use Prim.Native.Nat.{ℕ, suc, _+_}
+use Prim.Native.Nat.{ℕ, _+_}
 use Rattle.logic.specs.Test.{if_then_else_}
 use Rattle.refusal.specs.Number.{twoNames}
 use Rattle.model.specs.Result.{Result, accepted, refused, _>>=_}
 use Rattle.model.specs.Kinds.{isContainer, Step}
 use Rattle.model.specs.Reading.{Value, val, cut, Parts, no-parts, cut-off, part}
-use Rattle.model.specs.Tracing.{Tree, node, Kids, no-kids, kid, nullOf, kindOf, samplesOf, kidsOf, dotsOf, meet, stepsOf, kidAt, put, clashes, made, one, tally}
+use Rattle.model.specs.Tracing.{Tree, node, Kids, nullOf, kindOf, samplesOf, kidsOf, dotsOf, meet, stepsOf, kidAt, put, clashes, made, one, tally}
 
 unfoldable pub makeAll : List Step → Kids → Kids
 makeAll [] kids = kids
@@ -37,12 +37,3 @@ unfoldable mutual
 unfoldable pub seeAll : ℕ → ℕ → List Value → Tree → Result Tree
 seeAll options depth [] tree = accepted tree
 seeAll options depth (v ∷ vs) tree = see options depth v tree >>= seeAll options depth vs
-
--- ---- the number of places of a tree
-unfoldable mutual
-  pub size : Tree → ℕ
-  size (node null kind samples kids) = suc (sizes kids)
-
-  pub sizes : Kids → ℕ
-  sizes no-kids = 0
-  sizes (kid s held tree kids) = size tree + sizes kids

@@ -3,3 +3,4 @@ pub mod Kind
 pub mod View
 pub mod Equal
 pub mod Room
+pub mod Listed

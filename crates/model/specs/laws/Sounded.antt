@@ -27,8 +27,8 @@ use Rattle.model.specs.Soundings.{Sounding, batch, mostRecords, mostByte
 
 -- what an outcome says in buffers that have room
 abbrev told : Result E.Fields → List ℕ
-told (refused number place) = number ∷ []
-told (accepted schema) = 0 ∷ firstOf (E.countIn schema) (E.recordsIn schema)
+told (refused number place) = number ∷ 0 ∷ []
+told (accepted schema) = 0 ∷ E.countIn schema ∷ firstOf (E.countIn schema) (E.recordsIn schema)
 
 -- a schema that has room
 abbrev hasRoom : Result E.Fields → Bool
@@ -58,7 +58,7 @@ outcome-told b lent roomy (accepted schema) h =
       le-ltb (length (lent .fields)) (recordBytes * E.countIn schema) (omega (arith, leb-true (E.countIn schema) mostRecords a)),
       le-ltb (length (lent .names)) (length (E.namesIn schema)) (omega (arith, leb-true (length (E.namesIn schema)) mostBytes c)),
     )
-    (ap (λ (bytes : List ℕ). 0 ∷ bytes) (written-told schema (lent .fields)))
+    (ap (λ (bytes : List ℕ). 0 ∷ E.countIn schema ∷ bytes) (written-told schema (lent .fields)))
 
 -- none of refusals 1 and 3 applies
 abbrev isTaken : Batch → Bool

@@ -19,10 +19,10 @@ use Rattle.model.specs.Answer.{Batch, Buffers, Answer, schemaOf, answer}
 use Rattle.model.specs.Census.{kindIn, kindsSeen, containerSeen, kindSeen, SameCensus}
 use Rattle.model.specs.Demand3.{Plain, Accepted, SameSchema, StructRecords, Holds, recordsOf}
 use Rattle.equality.specs.laws.Base.{bind-ok, not-refused}
-use Rattle.model.specs.Unbounded.{seeAll, size}
+use Rattle.model.specs.Unbounded.{seeAll}
 use Rattle.equality.specs.laws.Proper.{allProper}
 use Rattle.equality.specs.laws.emission.Canon.{canon}
-use Rattle.equality.specs.laws.tracing.Count.{traced}
+use Rattle.equality.specs.laws.tracing.Count.{size, traced}
 use Rattle.equality.specs.laws.tracing.Place.{see-all-whole}
 use Rattle.equality.specs.laws.reading.Records.{values-proper}
 use Rattle.equality.specs.laws.census.Kind.{kind-seen}

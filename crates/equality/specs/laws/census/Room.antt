@@ -17,7 +17,6 @@ use Rattle.model.specs.Result.{refused}
 use Rattle.model.specs.Kinds.{Step, field, element, position, key, value, variant, same, variantOf, isVariant}
 use Rattle.model.specs.Reading.{Value, val, cut, Parts, no-parts, cut-off, part, isWhole, areWhole, allWhole}
 use Rattle.model.specs.Tracing.{Tree, node, Kids, no-kids, kid, fresh, placeLimit, stepsOf, has, renames, clashes, room, made, trace}
-use Rattle.model.specs.Unbounded.{size, sizes}
 use Rattle.model.specs.Census.{Said, census, below, partsOf, partsAt, stepsIn, stepsSeen, sights, fixedSteps, kindIn, isLacking}
 use Rattle.model.specs.Bound.{unnamed, withoutNames, Among, AtMost}
 use Rattle.equality.specs.laws.Base.{and-right, and-both, or-cases, same-true, same-refl}
@@ -26,6 +25,7 @@ use Rattle.equality.specs.laws.census.Standing.{below-append}
 use Rattle.equality.specs.laws.tracing.Place.{or-true, or-false, has-sights-is, made-fixed}
 use Rattle.equality.specs.laws.tracing.Acceptance.{seen-append}
 use Rattle.equality.specs.laws.tracing.Held.{taken, Below, Held, HeldIn, Covers, CoversIn, crowd-all}
+use Rattle.equality.specs.laws.tracing.Count.{size, sizes}
 
 -- ---- places that are held are no more than the list that holds them
 -- of a list, what stands behind a step, and the others

@@ -1,7 +1,7 @@
 -- The answer to a well-formed batch is what tracing without the bound on places and emission give, or 11, which is said where a 1,025th place
 -- is needed and nowhere else.
 use mathlib.Core.Path.{_≡_, refl, sym, ap, _∙_}
-use mathlib.Core.Bool.{false, _||_}
+use mathlib.Core.Bool.{true, false, _||_}
 use mathlib.Core.List.{List, [], _∷_, _++_}
 use mathlib.Core.Logic.{_⊎_, inl, inr, _↔_}
 use Prim.Native.Nat.{ℕ, suc, _≤_}
@@ -19,14 +19,16 @@ use Rattle.model.specs.Bound.{AtMost, needsAll, Exceeds}
 use Rattle.model.specs.Emission.{Fields, toSchema}
 use Rattle.model.specs.Answer.{tableWords, Batch, Buffers, Answer, WellFormed, inputLimit, schemaOf, turnedDown, zeroed, isShort, answerOf, answer}
 use Rattle.model.specs.Demand3.{recordsOf}
-use Rattle.equality.specs.laws.Base.{choice}
+use Rattle.equality.specs.laws.Base.{choice, not-refused}
 use Rattle.equality.specs.laws.tracing.Refusals.{Between, schemaOf-between, schema-between}
 use Rattle.equality.specs.laws.reading.WellFormed.{ofReading, Past, schemaOf-past}
 use Rattle.equality.specs.laws.tracing.Count.{traced}
 use Rattle.equality.specs.laws.tracing.Bound.{trace-refused}
 use Rattle.equality.specs.laws.tracing.Needs.{trace-reaches, trace-within, accepted-within}
 use Rattle.equality.specs.laws.tracing.Ascending.{trace-first}
+use Rattle.equality.specs.laws.Proper.{allProper}
 use Rattle.equality.specs.laws.census.Room.{room-enough}
+use Rattle.equality.specs.laws.census.Listed.{few-places}
 use Rattle.equality.specs.laws.reading.Records.{values-proper}
 
 -- none of 1 to 3 applies
@@ -50,9 +52,9 @@ module _ (b : Batch) (lent : Buffers) where
   abbrev rust : Result Fields
   rust = seeAll (b .options) 0 (recordsOf b) fresh >>= toSchema (b .options) (length (b .commands))
 
-  pub as-unbounded : (gave (schemaOf b) .refusal ≡ tooManyPlaces → ⊥) → gave (schemaOf b) ≡ gave rust
+  unless-eleven : (gave (schemaOf b) .refusal ≡ tooManyPlaces → ⊥) → gave (schemaOf b) ≡ gave rust
   unfolding schemaOf answerOf
-  as-unbounded h = go (trace (b .options) (recordsOf b)) refl
+  unless-eleven h = go (trace (b .options) (recordsOf b)) refl
     where
       go : (r : Result (Counted Tree)) → r ≡ trace (b .options) (recordsOf b) → gave (schemaOf b) ≡ gave rust
       go (accepted c) e = rw (← e, traced (b .options) (recordsOf b) c (sym e) .0) refl
@@ -80,10 +82,8 @@ module _ (b : Batch) (lent : Buffers) where
           let h′ : n ≡ tooManyPlaces = rw (← e) at h in
           k p (sym e ∙ ap (λ (m : ℕ). refused m p) h′) (rw (← e, h′) refl)
 
-  -- a batch of at most 1,024 places
-  pub as-demanded : WellFormed b → AtMost placeLimit (b .options) (recordsOf b) → gave (schemaOf b) ≡ gave rust
-  as-demanded w few =
-      as-unbounded λ h. eleven-traced h λ p e _. room-enough (b .options) (recordsOf b) p (w .whole) (values-proper (b .options) (b .commands) (b .text) (w .whole)) few e
+  proper : WellFormed b → allProper (b .options) (recordsOf b) ≡ true
+  proper w = values-proper (b .options) (b .commands) (b .text) (w .whole)
 
   -- 11 at p is said exactly where the command at p is the first that needs a 1,025th place
   exceeds : WellFormed b → (p : ℕ) → trace (b .options) (recordsOf b) ≡ refused tooManyPlaces p → Exceeds (b .options) (recordsOf b) p
@@ -124,6 +124,29 @@ module _ (b : Batch) (lent : Buffers) where
       let same-place : q ≡ p = ap (λ (a : Answer). a .place) (sym is ∙ h) in
       rw (← same-place) (exceeds w q e),
       λ x. rw (said w p x) refl)
+
+  -- there is room for a batch of at most 1,024 places
+  not-crowded : WellFormed b → AtMost placeLimit (b .options) (recordsOf b) → gave (schemaOf b) .refusal ≡ tooManyPlaces → ⊥
+  not-crowded w few h = eleven-traced h λ p e _. room-enough (b .options) (recordsOf b) p (w .whole) (proper w) few e
+
+  pub as-demanded : WellFormed b → AtMost placeLimit (b .options) (recordsOf b) → gave (schemaOf b) ≡ gave rust
+  as-demanded w few = unless-eleven (not-crowded w few)
+
+  pub as-unbounded : WellFormed b → ((p : ℕ) → Exceeds (b .options) (recordsOf b) p → ⊥) → gave (schemaOf b) ≡ gave rust
+  as-unbounded w none = unless-eleven λ h. eleven-traced h λ p e _. none p (exceeds w p e)
+
+  -- of what is traced to the end without the bound, 11 is said exactly if the census knows more places
+  pub by-census : WellFormed b → (tree : Tree) → seeAll (b .options) 0 (recordsOf b) fresh ≡ accepted tree
+      → (gave (schemaOf b) .refusal ≡ tooManyPlaces) ↔ (AtMost placeLimit (b .options) (recordsOf b) → ⊥)
+  unfolding schemaOf answerOf
+  by-census w tree seen = (λ h few. not-crowded w few h, λ many. go many (trace (b .options) (recordsOf b)) refl)
+    where
+      go : (AtMost placeLimit (b .options) (recordsOf b) → ⊥) → (r : Result (Counted Tree)) → trace (b .options) (recordsOf b) ≡ r → gave (schemaOf b) .refusal ≡ tooManyPlaces
+      go many (accepted c) e = absurd (many (few-places (b .options) (recordsOf b) c e (proper w)))
+      go many (refused n p) e =
+          cases (eqb n tooManyPlaces)
+          (λ f. rw (e, eqb-true n tooManyPlaces f) refl)
+          (λ f. not-refused (sym (trace-refused (b .options) (recordsOf b) n p e (eqb-false n tooManyPlaces f)) ∙ seen))
 
   read-past : (r : Result Fields) → Past r → Between 4 17 (length (b .commands)) r → (gave r .refusal ≡ 0) ⊎ (7 ≤ gave r .refusal)
   unfolding answerOf

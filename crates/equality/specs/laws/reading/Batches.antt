@@ -97,10 +97,6 @@ unfolding allWhole
 whole-append [] ws p q = q
 whole-append (v ∷ vs) ws p q = and-both (and-left (isWhole v) (allWhole vs) p) (whole-append vs ws (and-right (isWhole v) (allWhole vs) p) q)
 
-pub values-append-whole : (options : ℕ) (r cs text : List ℕ) → allWhole (values options r text) ≡ true → allWhole (values options cs text) ≡ true → allWhole (values options (r ++ cs) text) ≡ true
-values-append-whole options r cs text w z =
-    rw (values-append options r cs text w) (whole-append (values options r text) (movedAll (length r) (values options cs text)) w (rw (allWhole-moved (length r) (values options cs text)) z))
-
 pub values-append-forget : (options : ℕ) (r cs text : List ℕ) → allWhole (values options r text) ≡ true →
     forgetAll (values options (r ++ cs) text) ≡ forgetAll (values options r text) ++ forgetAll (values options cs text)
 values-append-forget options r cs text w =
@@ -122,12 +118,6 @@ record-whole options r text v e w = rw (e, w)
 pub values-record : (options : ℕ) (r cs text : List ℕ) (v : Value) → values options r text ≡ v ∷ [] → isWhole v ≡ true →
     values options (r ++ cs) text ≡ v ∷ movedAll (length r) (values options cs text)
 values-record options r cs text v e w = values-append options r cs text (record-whole options r text v e w) ∙ (rw e)
-
-pub records-whole : (options : ℕ) (text : List ℕ) (rs : List (List ℕ)) (vs : List Value) → Records options text rs vs → allWhole (values options (flatten rs) text) ≡ true
-unfolding flatten values recordsFrom allWhole
-records-whole options text [] [] no-records = refl
-records-whole options text (r ∷ rs) (v ∷ vs) (one-more e w h) =
-    values-append-whole options r (flatten rs) text (record-whole options r text v e w) (records-whole options text rs vs h)
 
 -- the values of records one after another are those of each, but for their offsets
 pub records-values : (options : ℕ) (text : List ℕ) (rs : List (List ℕ)) (vs : List Value) → Records options text rs vs → forgetAll (values options (flatten rs) text) ≡ forgetAll vs

@@ -18,9 +18,9 @@ use Rattle.model.specs.Answer.{Batch, Buffers, Answer, schemaOf, answer}
 use Rattle.model.specs.Census.{kindIn, partsOf, partsAt, below, standing}
 use Rattle.model.specs.Demand3.{Plain, Accepted, NoPlaceBoth, NoShorter, IsRecord, AreRecords, Split, SameButOrder, batch, withRecords, recordsOf, shows, asStruct, asMap, inNameOrder}
 use Rattle.equality.specs.laws.Base.{not-refused}
-use Rattle.model.specs.Unbounded.{seeAll, size}
+use Rattle.model.specs.Unbounded.{seeAll}
 use Rattle.equality.specs.laws.Proper.{isProper, areProper, allProper, kindFits}
-use Rattle.equality.specs.laws.tracing.Count.{trace-fits}
+use Rattle.equality.specs.laws.tracing.Count.{size, trace-fits}
 use Rattle.equality.specs.laws.tracing.Place.{see-all-whole}
 use Rattle.equality.specs.laws.reading.Records.{values-proper}
 use Rattle.equality.specs.laws.reading.Offsets.{forget, forgets, forgetAll, blur, all-forget, forgetAll-append}

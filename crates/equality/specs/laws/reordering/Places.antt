@@ -21,7 +21,7 @@ use Rattle.model.specs.Emission.{placeOf}
 use Rattle.model.specs.Census.{partsOf, kindIn, nullIn, partsAt, below, standing, anyNull, samples, holders, kindsSeen, fixedSteps, stepsIn, sights, stepsSeen}
 use Rattle.model.specs.Demand3.{shows, asStruct, asMap}
 use Rattle.equality.specs.laws.Base.{or-right-false}
-use Rattle.model.specs.Unbounded.{seeAll, size}
+use Rattle.model.specs.Unbounded.{seeAll}
 use Rattle.equality.specs.laws.Proper.{kindFits, isProper, areProper, allProper}
 use Rattle.equality.specs.laws.census.Standing.{placeAt, depthAt, place-fresh, at-place}
 use Rattle.equality.specs.laws.tracing.Place.{togetherAll, isDeep, see-all-whole, standing-proper, all-null, all-kind, has-sights-is}
@@ -30,6 +30,7 @@ use Rattle.equality.specs.laws.census.View.{samples-fresh, held-fresh, s
 use Rattle.equality.specs.laws.reordering.Sorting.{or-swap}
 use Rattle.equality.specs.laws.tracing.Kinds.{Suits, null-suits, together-perm}
 use Rattle.equality.specs.laws.reordering.Sorted.{sortedPlace, Alike, alike-sorted, sorted-size}
+use Rattle.equality.specs.laws.tracing.Count.{size}
 
 -- ---- a reordered batch has reordered values at every place
 pub perm-below : (s : Step) {vs ws : List Value} → List·Permᴰ vs ws → List·Permᴰ (below s vs) (below s ws)

@@ -17,10 +17,10 @@ use Rattle.model.specs.Census.{Said, asSet}
 use Rattle.equality.specs.laws.Proper.{stepsBelow}
 use Rattle.equality.specs.laws.emission.Canon.{insertPlace, inOrder}
 use Rattle.equality.specs.laws.census.Standing.{placeAt}
-use Rattle.model.specs.Unbounded.{size, sizes}
 use Rattle.equality.specs.laws.tracing.Place.{heldAt}
 use Rattle.equality.specs.laws.reordering.Sorting.{precedes, distinct, distinct-set, same-set, steps-in-order, find, find-in-order}
 use Rattle.equality.specs.laws.census.View.{view, find-places, placesIn, find-ordered, set-ordered, Distinct, same-view}
+use Rattle.equality.specs.laws.tracing.Count.{size, sizes}
 
 -- ---- a place with all below it in the order of their steps
 unfoldable mutual

@@ -102,17 +102,6 @@ unfolding asSet ordered
 ordered-set [] = refl
 ordered-set (s ∷ ss) = ordered-insert s (asSet ss) (ordered-set ss)
 
--- what is in order stays as it is
-insert-leads : (s : Step) (ss : List Step) → leads s ss ≡ true → insertStep s ss ≡ s ∷ ss
-unfolding leads insertStep if_then_else_
-insert-leads s [] h = refl
-insert-leads s (r ∷ ss) h = rw (not-is-true (precedes r s) h, insertStep)
-
-pub set-of-ordered : (ss : List Step) → ordered ss ≡ true → asSet ss ≡ ss
-unfolding ordered asSet
-set-of-ordered [] h = refl
-set-of-ordered (s ∷ ss) h = both (leads s ss) (ordered ss) h λ p q. rw (set-of-ordered ss q) (insert-leads s ss p)
-
 -- ---- a set has one list in order
 -- a step that is not preceded by another is not preceded by any that this one does not follow
 leads-on : (s r q : Step) → precedes r s ≡ false → precedes q r ≡ false → precedes q s ≡ false
@@ -177,9 +166,6 @@ unfolding ordered inOrder stepsBelow
 in-order-already none-below h = refl
 in-order-already (below s p ps) h =
     both (leads s (stepsBelow ps)) (ordered (stepsBelow ps)) h λ a b. rw (in-order-already ps b) (insert-first s p ps a)
-
-pub in-order-twice : (ps : Places) → inOrder (inOrder ps) ≡ inOrder ps
-in-order-twice ps = in-order-already (inOrder ps) (rw (steps-in-order ps) (ordered-set (stepsBelow ps)))
 
 -- the place at a step, where there is one
 unfoldable pub find : Step → Places → Option Place

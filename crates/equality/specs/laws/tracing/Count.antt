@@ -15,8 +15,17 @@ use Rattle.model.specs.Kinds.{sequenceKind, mapKind, tupleKind, isContainer, St
 use Rattle.model.specs.Reading.{Value, val, cut, Parts, no-parts, cut-off, part}
 use Rattle.model.specs.Tracing.{Tree, node, Kids, no-kids, kid, nullOf, kindOf, samplesOf, kidsOf, fresh, dotsOf, placeLimit, meet, stepsOf, has, kidAt, put, clashes, room, positionsFrom, made, make, Counted, one, tally, observe, observeParts, observeAll, trace}
 use Rattle.equality.specs.laws.Base.{bind-ok, not-refused, and-left, and-right, not-is-true}
-use Rattle.model.specs.Unbounded.{size, sizes, makeAll, allowed, see, seeParts, seeAll}
+use Rattle.model.specs.Unbounded.{makeAll, allowed, see, seeParts, seeAll}
 use Rattle.equality.specs.laws.census.Standing.{met, part-ok}
+
+-- ---- the number of places of a tree
+unfoldable mutual
+  pub size : Tree → ℕ
+  size (node null kind samples kids) = suc (sizes kids)
+
+  pub sizes : Kids → ℕ
+  sizes no-kids = 0
+  sizes (kid s held tree kids) = size tree + sizes kids
 
 -- 1 where the step is not there yet
 abbrev pub new : Step → Kids → ℕ

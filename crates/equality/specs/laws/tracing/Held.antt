@@ -14,11 +14,11 @@ use Rattle.model.specs.Result.{accepted, refused}
 use Rattle.model.specs.Kinds.{Step, same, isVariant}
 use Rattle.model.specs.Reading.{Value, val, cut, Parts, no-parts, cut-off, part, isWhole, areWhole, allWhole}
 use Rattle.model.specs.Tracing.{Tree, node, Kids, no-kids, kid, kindOf, kidsOf, dotsOf, placeLimit, meet, stepsOf, has, kidAt, put, renames, clashes, room, made, make, tally, observe, observeParts, observeAll}
-use Rattle.model.specs.Unbounded.{size, sizes, makeAll, allowed, see, seeParts}
+use Rattle.model.specs.Unbounded.{makeAll, allowed, see, seeParts}
 use Rattle.model.specs.Census.{sight}
 use Rattle.equality.specs.laws.Base.{or-left-false, or-right-false, bind-ok, not-refused, same-true, same-refl, same-sym}
 use Rattle.equality.specs.laws.census.Standing.{met, no-cut}
-use Rattle.equality.specs.laws.tracing.Count.{new, size-put, size-is, noVariants, made-no-variants, no-clash, room-ok, counted-make, counted, allowed-ok}
+use Rattle.equality.specs.laws.tracing.Count.{size, sizes, new, size-put, size-is, noVariants, made-no-variants, no-clash, room-ok, counted-make, counted, allowed-ok}
 use Rattle.equality.specs.laws.tracing.Bound.{bind-no, not-accepted, eleven-meet, eleven-room}
 use Rattle.equality.specs.laws.tracing.Place.{or-assoc, or-true, or-false, has-snoc, steps-put, steps-tally}
 use Rattle.equality.specs.laws.tracing.Acceptance.{renames-sym}

@@ -12,11 +12,11 @@ use Rattle.model.specs.Result.{accepted, refused}
 use Rattle.model.specs.Kinds.{Step}
 use Rattle.model.specs.Reading.{Value, val, cut, Parts, no-parts, cut-off, part, isWhole, areWhole, allWhole}
 use Rattle.model.specs.Tracing.{Tree, Kids, kindOf, kidsOf, fresh, dotsOf, placeLimit, meet, stepsOf, has, kidAt, put, room, made, make, Counted, observe, observeParts, observeAll, trace}
-use Rattle.model.specs.Unbounded.{size, sizes, makeAll, allowed, see, seeParts, seeAll}
+use Rattle.model.specs.Unbounded.{makeAll, allowed, see, seeParts, seeAll}
 use Rattle.model.specs.Bound.{need, needed, needs, needsIn, needsAll}
 use Rattle.equality.specs.laws.Base.{and-left, and-right, bind-ok}
 use Rattle.equality.specs.laws.census.Standing.{met}
-use Rattle.equality.specs.laws.tracing.Count.{new, size-put, size-tally, size-is, made-no-variants, room-ok, counted-make, counted, allowed-ok, traced}
+use Rattle.equality.specs.laws.tracing.Count.{size, sizes, new, size-put, size-tally, size-is, made-no-variants, room-ok, counted-make, counted, allowed-ok, traced}
 use Rattle.equality.specs.laws.tracing.Bound.{bind-no, not-accepted, Other, eleven-meet, eleven-room, room-no, make-no, value-no}
 
 -- ---- a tree has as many places more as commands needed

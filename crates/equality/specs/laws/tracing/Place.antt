@@ -104,21 +104,10 @@ below-proper o s [] p = refl
 below-proper o s (v ∷ vs) p =
     both (isProper o v) (allProper o vs) p λ q r. rw (proper-append, value-proper o s v q, below-proper o s vs r)
 
-pub below-whole : (s : Step) (vs : List Value) → allWhole vs ≡ true → allWhole (below s vs) ≡ true
-unfolding allWhole below
-below-whole s [] p = refl
-below-whole s (v ∷ vs) p =
-    both (isWhole v) (allWhole vs) p λ q r. rw (whole-append, value-whole s v q, below-whole s vs r)
-
 pub standing-proper : (o : ℕ) (steps : List Step) (vs : List Value) → allProper o vs ≡ true → allProper o (standing steps vs) ≡ true
 unfolding standing
 standing-proper o [] vs p = p
 standing-proper o (s ∷ steps) vs p = standing-proper o steps (below s vs) (below-proper o s vs p)
-
-pub standing-whole : (steps : List Step) (vs : List Value) → allWhole vs ≡ true → allWhole (standing steps vs) ≡ true
-unfolding standing
-standing-whole [] vs p = p
-standing-whole (s ∷ steps) vs p = standing-whole steps (below s vs) (below-whole s vs p)
 
 -- ---- null and samples
 pub all-null : (o d : ℕ) (vs : List Value) (t t′ : Tree) → seeAll o d vs t ≡ accepted t′ → nullOf t′ ≡ (nullOf t || anyNull vs)
