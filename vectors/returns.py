@@ -1,4 +1,4 @@
-"""The returns that the gate lists with `schema_list`. Run in any folder, with the oracle built:
+"""The returns that the gate lists with `schema_list`. Run in any folder; the oracle is brought up to date first:
 
     python3 vectors/returns.py
 
@@ -12,8 +12,9 @@ import shutil
 import subprocess
 import tempfile
 
-TOP = pathlib.Path(__file__).resolve().parent.parent
-ORACLE = TOP / "oracle" / "target" / "release" / "oracle"
+import published
+from published import ORACLE, TOP
+
 PROGRAM = TOP / "crates" / "schema_list"
 DEFAULT, ALLOW_NULL_FIELDS, COERCE_NUMBERS, GUESS_DATES = 30, 1, 64, 256
 # one byte more than the call takes
@@ -123,4 +124,6 @@ def main():
     (PROGRAM / "stdout").write_bytes(b"".join(map(listed, RETURNS)))
 
 
-main()
+if __name__ == "__main__":
+    published.ready()
+    main()
