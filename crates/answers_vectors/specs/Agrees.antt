@@ -1,5 +1,5 @@
--- When a stored question and the call agree: the model's answer, which the call gives, is the one that is stored, and what is left in the table
--- and the buffers, in the parts that were lent and in the others, is what must be.
+-- When a stored question and the call agree: the model's answer, which the call gives, is the one that is stored, and what is left in the
+-- table and the buffers, in the parts that were lent and in the others, is what must be.
 use mathlib.Core.Path.{_≡_}
 use mathlib.Core.List.{List, _++_}
 use Prim.Native.Nat.{ℕ, _-_, _≤_, min}
@@ -10,7 +10,9 @@ use Rattle.questions.specs.Question.{headerBytes, numberAt, textFrom, recordsFr
 use Rattle.questions.specs.Left.{lentWord, lentBuffer, writtenOver, leftTable}
 use Rattle.model.specs.Answer.{Batch, Buffers, Answer, answer}
 use Rattle.model.specs.Demand3.{batch}
-use Rattle.call.specs.Call.{lent}
+use Rattle.call.specs.Call.{lent, lentIn, leftIn}
+use Rattle.fasthrom.specs.declared.Answer as R
+use Rattle.fasthrom.specs.Called.{said}
 
 -- ---- the call over a part of each buffer
 -- the first of a buffer, as many as a number says, or all
@@ -81,9 +83,12 @@ pub record Agrees (question : List ℕ) : Type 0 where
       Gives question (between headerBytes (textFrom question) question) (between (textFrom question) (recordsFrom question) question)
       (between (recordsFrom question) (namesFrom question) question) (drop (namesFrom question) question)
 
--- the same of slices, as contracts have them
-abbrev pub batchOf : Slice → Slice → Slice → Batch
-batchOf question commands text = handed (atEntry question) (atEntry commands) (atEntry text)
+-- ---- the same of slices, as contracts have them
+-- the call, lent as much of the table and the buffers as a question says
+abbrev pub CalledOver : (question commands text table fields names : Slice) → R.Answer → Type 0
+CalledOver question commands text table fields names r =
+    said r (leftIn table fields names)
+    ≡ answerOver (atEntry question) (handed (atEntry question) (atEntry commands) (atEntry text)) (lentIn table fields names)
 
 abbrev pub Met : (question commands text records names : Slice) → Type 0
 Met question commands text records names = Gives (atEntry question) (atEntry commands) (atEntry text) (atEntry records) (atEntry names)

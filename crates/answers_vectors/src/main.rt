@@ -6,9 +6,7 @@ ghost use mathlib.Core.Logic.{_↔_};
 ghost use Prim.Native.Nat.{_≤_, min};
 ghost use lib.ListN.{length};
 ghost use Rattle.questions.specs.Question.{headerBytes};
-ghost use Rattle.call.specs.Call.{lentIn, leftIn};
-ghost use Rattle.fasthrom.specs.Called.{said};
-ghost use Rattle.answers_vectors.specs.Agrees.{batchOf, answerOver, Met, Agrees};
+ghost use Rattle.answers_vectors.specs.Agrees.{CalledOver, Met, Agrees};
 use fasthrom::Answer;
 use questions::BYTE;
 use questions::HEADER;
@@ -34,7 +32,7 @@ fn call(
     names: &mut [u8],
 ) -> Answer
     requires { ⌜ headerBytes ≤ length (now header) ⌝ }
-    ensures { λ r. ⌜ said r (leftIn table fields names) ≡ answerOver (now (header .entry)) (batchOf header commands text) (lentIn table fields names) ⌝ }
+    ensures { λ r. ⌜ CalledOver header commands text table fields names r ⌝ }
 {
     let words = least(questions::number(header, 0), table.len());
     let record_bytes = least(questions::number(header, 3), fields.len());
