@@ -1,16 +1,23 @@
--- When a stored question and the call agree: the model's answer, which the call gives, is the one that is stored, and what is left in the table
--- and the buffers, in the parts that were lent and in the others, is what must be.
+-- When a stored question and the call agree: the model's answer, which the call gives, is the one that is stored, and what is left in the
+-- table and the buffers, in the parts that were lent and in the others, is what must be.
 use mathlib.Core.Path.{_≡_}
+use mathlib.Core.Bool.{Bool, _&&_}
 use mathlib.Core.List.{List, _++_}
-use Prim.Native.Nat.{ℕ, _-_, _≤_, min}
+use Prim.Native.Nat.{ℕ, min}
+use lib.Dec.{eqb, leb}
 use lib.ListN.{length, take, drop, replicate}
 use Rattle.logic.specs.Slices.{Slice, atEntry}
-use Rattle.files.specs.Bytes.{twoBytes}
-use Rattle.questions.specs.Question.{headerBytes, numberAt, textFrom, recordsFrom, namesFrom}
+use Rattle.text.specs.Name.{eqName}
+use Rattle.files.specs.Bytes.{twoBytes, between}
+use Rattle.questions.specs.Question.{numberAt, namesFrom, commandsIn, textIn, recordsIn, namesIn, questionEnd}
 use Rattle.questions.specs.Left.{lentWord, lentBuffer, writtenOver, leftTable}
+use Rattle.replay.specs.declared.Tally.{Tally}
+use Rattle.replay.specs.Tally.{tally}
 use Rattle.model.specs.Answer.{Batch, Buffers, Answer, answer}
 use Rattle.model.specs.Demand3.{batch}
-use Rattle.call.specs.Call.{lent}
+use Rattle.call.specs.Call.{lent, lentIn, leftIn}
+use Rattle.fasthrom.specs.declared.Answer as R
+use Rattle.fasthrom.specs.Called.{said}
 
 -- ---- the call over a part of each buffer
 -- the first of a buffer, as many as a number says, or all
@@ -70,20 +77,32 @@ handed question commands text = batch (twoBytes question 0) commands text
 abbrev pub Gives : (question commands text records names : List ℕ) → Type 0
 Gives question commands text records names = answerOver question (handed question commands text) patterned ≡ stored question records names
 
--- the bytes from an offset up to another
-abbrev pub between : ℕ → ℕ → List ℕ → List ℕ
-between from to bytes = take (to - from) (drop from bytes)
+-- equality as a test (eqName is that of lists)
+abbrev pub sameBuffers : Buffers → Buffers → Bool
+sameBuffers a b = eqName (a .table) (b .table) && (eqName (a .fields) (b .fields) && eqName (a .names) (b .names))
+
+unfoldable pub sameAnswer : Answer → Answer → Bool
+sameAnswer a b =
+    (eqb (a .refusal) (b .refusal) && (eqb (a .place) (b .place) && eqb (a .columns) (b .columns)))
+    && ((eqb (a .field-records) (b .field-records) && eqb (a .name-bytes) (b .name-bytes)) && sameBuffers (a .left) (b .left))
 
 -- the question is whole, and the call gives its answer
-pub record Agrees (question : List ℕ) : Type 0 where
-  pub room : namesFrom question ≤ length question
-  pub same :
-      Gives question (between headerBytes (textFrom question) question) (between (textFrom question) (recordsFrom question) question)
-      (between (recordsFrom question) (namesFrom question) question) (drop (namesFrom question) question)
+unfoldable pub agrees : List ℕ → Bool
+agrees question =
+    leb (namesFrom question) (length question)
+    && sameAnswer (answerOver question (handed question (commandsIn question) (textIn question)) patterned)
+    (stored question (recordsIn question) (namesIn question))
 
--- the same of slices, as contracts have them
-abbrev pub batchOf : Slice → Slice → Slice → Batch
-batchOf question commands text = handed (atEntry question) (atEntry commands) (atEntry text)
+-- the questions of a file: how many there are, and how many do not agree
+abbrev pub questionTally : List ℕ → Tally
+questionTally vectors = tally (length vectors) (questionEnd vectors) (λ at. agrees (between at (questionEnd vectors at) vectors))
+
+-- ---- the same of slices, as contracts have them
+-- the call, lent as much of the table and the buffers as a question says
+abbrev pub CalledOver : (question commands text table fields names : Slice) → R.Answer → Type 0
+CalledOver question commands text table fields names r =
+    said r (leftIn table fields names)
+    ≡ answerOver (atEntry question) (handed (atEntry question) (atEntry commands) (atEntry text)) (lentIn table fields names)
 
 abbrev pub Met : (question commands text records names : Slice) → Type 0
 Met question commands text records names = Gives (atEntry question) (atEntry commands) (atEntry text) (atEntry records) (atEntry names)

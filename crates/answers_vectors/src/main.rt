@@ -6,14 +6,13 @@ ghost use mathlib.Core.Logic.{_↔_};
 ghost use Prim.Native.Nat.{_≤_, min};
 ghost use lib.ListN.{length};
 ghost use Rattle.questions.specs.Question.{headerBytes};
-ghost use Rattle.call.specs.Call.{lentIn, leftIn};
-ghost use Rattle.fasthrom.specs.Called.{said};
-ghost use Rattle.answers_vectors.specs.Agrees.{batchOf, answerOver, Met, Agrees};
+ghost use Rattle.answers_vectors.specs.Agrees.{CalledOver, Met, agrees, questionTally};
 use fasthrom::Answer;
 use questions::BYTE;
 use questions::HEADER;
 use questions::ROOM;
 use questions::WORD;
+use replay::Tally;
 
 // Words of the table, of which a question lends the first.
 const TABLE: usize = 16400;
@@ -34,7 +33,7 @@ fn call(
     names: &mut [u8],
 ) -> Answer
     requires { ⌜ headerBytes ≤ length (now header) ⌝ }
-    ensures { λ r. ⌜ said r (leftIn table fields names) ≡ answerOver (now (header .entry)) (batchOf header commands text) (lentIn table fields names) ⌝ }
+    ensures { λ r. ⌜ CalledOver header commands text table fields names r ⌝ }
 {
     let words = least(questions::number(header, 0), table.len());
     let record_bytes = least(questions::number(header, 3), fields.len());
@@ -86,7 +85,7 @@ fn is_met(question: &[u8], commands: &[u8], text: &[u8], records: &[u8], names: 
 
 // A question: the header, the commands, the text, and the field records and names of the answer.
 fn agrees(question: &[u8]) -> bool
-    ensures { λ r. ⌜ r ≡ true ↔ Agrees (now (question .entry)) ⌝ }
+    ensures { λ r. ⌜ r ≡ agrees (now (question .entry)) ⌝ }
 {
     if question.len() < HEADER {
         return false;
@@ -106,24 +105,27 @@ fn agrees(question: &[u8]) -> bool
     )
 }
 
-fn replay_all(vectors: &[u8], what: &[u8]) {
+fn replay_all(vectors: &[u8]) -> Tally
+    ensures { λ r. ⌜ r ≡ questionTally (now (vectors .entry)) ⌝ }
+{
     let mut at = 0;
-    let mut questions = 0;
+    let mut records = 0;
     let mut differ = 0;
     while at < vectors.len() {
         let end = questions::end_of_question(vectors, at);
-        differ += replay::differs(questions, agrees(&vectors[at..end]));
-        questions += 1;
+        differ += replay::differs(records, agrees(&vectors[at..end]));
+        records += 1;
         at = end;
     }
-    replay::report(questions, what, vectors.len(), differ);
+    Tally { records, differ }
 }
 
 fn replay_file(path: &[u8], what: &[u8]) {
     let mut buffer = [0u8; 262144];
     let loaded = files::load(path, &mut buffer);
     let n = loaded.bytes;
-    replay_all(&buffer[..n], what);
+    let tally = replay_all(&buffer[..n]);
+    replay::report(tally, what, n);
 }
 
 fn main() {

@@ -3,8 +3,10 @@
 ghost use mathlib.Core.Path.{_≡_};
 ghost use Prim.Native.Nat.{_≤_};
 ghost use Rattle.chrono.specs.Text.{textType};
+ghost use Rattle.replay.specs.Tally.{recordTally};
 ghost use Rattle.chrono_vectors.specs.Agrees.{bitOf, matchersOf, agrees};
 use options::TracingOptions;
+use replay::Tally;
 
 const GUESS_DATES: u16 = 256;
 
@@ -51,7 +53,9 @@ fn agrees(record: &[u8]) -> bool
     observed(text, GUESS_DATES + STRING_AS_LARGE_UTF8) == record[2]
 }
 
-fn replay_all(vectors: &[u8]) {
+fn replay_all(vectors: &[u8]) -> Tally
+    ensures { λ r. ⌜ r ≡ recordTally agrees (now (vectors .entry)) ⌝ }
+{
     let mut at = 0;
     let mut records = 0;
     let mut differ = 0;
@@ -61,12 +65,13 @@ fn replay_all(vectors: &[u8]) {
         differ += replay::differs(records, agrees(&vectors[start..at]));
         records += 1;
     }
-    replay::report(records, b" texts", vectors.len(), differ);
+    Tally { records, differ }
 }
 
 fn main() {
     let mut buffer = [0u8; 262144];
     let loaded = files::load(b"texts.bin", &mut buffer);
     let n = loaded.bytes;
-    replay_all(&buffer[..n]);
+    let tally = replay_all(&buffer[..n]);
+    replay::report(tally, b" texts", n);
 }

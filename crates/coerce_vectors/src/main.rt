@@ -2,11 +2,13 @@
 ghost use mathlib.Core.Path.{_≡_};
 ghost use Rattle.datatype.specs.Codes.{codeOf};
 ghost use Rattle.coerce.specs.Joint.{joint};
+ghost use Rattle.replay.specs.Tally.{recordTally};
 ghost use Rattle.coerce_vectors.specs.Agrees.{storedAs, agrees};
 use coerce::Coerced;
 use datatype::DataType;
 use datatype::Decoded;
 use options::TracingOptions;
+use replay::Tally;
 
 // What stands in a record for no joint.
 const NONE: u8 = 255;
@@ -37,7 +39,9 @@ fn agrees(record: &[u8]) -> bool
     joint(first, second, options) == record[4]
 }
 
-fn replay_all(vectors: &[u8]) {
+fn replay_all(vectors: &[u8]) -> Tally
+    ensures { λ r. ⌜ r ≡ recordTally agrees (now (vectors .entry)) ⌝ }
+{
     let mut at = 0;
     let mut records = 0;
     let mut differ = 0;
@@ -47,12 +51,13 @@ fn replay_all(vectors: &[u8]) {
         differ += replay::differs(records, agrees(&vectors[start..at]));
         records += 1;
     }
-    replay::report(records, b" joints", vectors.len(), differ);
+    Tally { records, differ }
 }
 
 fn main() {
     let mut buffer = [0u8; 262144];
     let loaded = files::load(b"joints.bin", &mut buffer);
     let n = loaded.bytes;
-    replay_all(&buffer[..n]);
+    let tally = replay_all(&buffer[..n]);
+    replay::report(tally, b" joints", n);
 }

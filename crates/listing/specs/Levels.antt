@@ -1,6 +1,7 @@
--- At which level a field record stands: 0 for the root's fields, and one more than its parent else. Records stand in preorder, each with its
+-- At which level a field record stands: 0 for the root's fields, else one more than its parent. Records stand in preorder, each with its
 -- child count, so what is still due says where the next one stands. `due` has for each level how many records are due there among the
--- children of one parent, the one passed last among them. At level 0 nothing is counted: what comes when nothing is due below is the root's.
+-- children of one parent, the one passed last among them. At level 0 nothing is counted: what comes when nothing is due below is a field
+-- of the root.
 use mathlib.Core.List.{List}
 use Prim.Native.Nat.{ℕ, zero, suc, _+_, _-_}
 use lib.Dec.{eqb, ltb}

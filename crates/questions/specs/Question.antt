@@ -4,7 +4,7 @@ use Prim.Native.Nat.{ℕ, _+_, _-_, _*_, min}
 use lib.Dec.{ltb}
 use lib.ListN.{length, drop}
 use Rattle.logic.specs.Test.{if_then_else_}
-use Rattle.files.specs.Bytes.{threeBytes}
+use Rattle.files.specs.Bytes.{threeBytes, between}
 
 -- the options word and ten numbers of three bytes
 abbrev pub headerBytes : ℕ
@@ -24,6 +24,19 @@ recordsFrom question = textFrom question + numberAt question 2
 
 abbrev pub namesFrom : List ℕ → ℕ
 namesFrom question = recordsFrom question + numberAt question 7 * 8
+
+-- its parts
+abbrev pub commandsIn : List ℕ → List ℕ
+commandsIn question = between headerBytes (textFrom question) question
+
+abbrev pub textIn : List ℕ → List ℕ
+textIn question = between (textFrom question) (recordsFrom question) question
+
+abbrev pub recordsIn : List ℕ → List ℕ
+recordsIn question = between (recordsFrom question) (namesFrom question) question
+
+abbrev pub namesIn : List ℕ → List ℕ
+namesIn question = drop (namesFrom question) question
 
 -- how many bytes it has
 abbrev pub questionSize : List ℕ → ℕ

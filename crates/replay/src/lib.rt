@@ -7,6 +7,12 @@ ghost use Rattle.logic.specs.Test.{if_then_else_};
 ghost use Rattle.replay.specs.Records.{recordEnd};
 use libc::STDOUT_FILENO;
 
+// How many records there are, and how many of them differ from what is stored.
+pub struct Tally {
+    pub records: usize,
+    pub differ: usize,
+}
+
 // Where the record that begins at an offset ends: with the file, if that is cut off.
 pub fn end_of_record(vectors: &[u8], at: usize) -> usize
     requires { ⌜ at < length (now vectors) ⌝ }
@@ -30,12 +36,12 @@ pub fn differs(record: usize, agrees: bool) -> usize
 }
 
 // The last line: how many records there were, in how many bytes, and how many of them differ.
-pub fn report(records: usize, what: &[u8], bytes: usize, differ: usize) {
-    io::print_decimal(STDOUT_FILENO, records as u64);
+pub fn report(tally: Tally, what: &[u8], bytes: usize) {
+    io::print_decimal(STDOUT_FILENO, tally.records as u64);
     io::write_all(STDOUT_FILENO, what);
     io::write_all(STDOUT_FILENO, b" in ");
     io::print_decimal(STDOUT_FILENO, bytes as u64);
     io::write_all(STDOUT_FILENO, b" bytes, ");
-    io::print_decimal(STDOUT_FILENO, differ as u64);
+    io::print_decimal(STDOUT_FILENO, tally.differ as u64);
     io::write_all(STDOUT_FILENO, b" differ\n");
 }

@@ -1,6 +1,5 @@
 // Traces each batch of batches.bin, and prints the places that it gives: parent, step, kind, null, samples and held.
-ghost use Prim.Native.Nat.{_+_, _<_, _≤_};
-ghost use lib.ListN.{length};
+ghost use Prim.Native.Nat.{_≤_};
 ghost use Rattle.words.specs.Word.{IsTable, IsRow};
 ghost use Rattle.model.specs.Tracing.{placeLimit};
 use leaves::Traced;

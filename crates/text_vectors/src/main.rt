@@ -1,6 +1,8 @@
 // Replays names.bin: whether byte strings are UTF-8, against the answers of Rust's from_utf8.
 ghost use mathlib.Core.Path.{_≡_};
+ghost use Rattle.replay.specs.Tally.{recordTally};
 ghost use Rattle.text_vectors.specs.Agrees.{agrees};
+use replay::Tally;
 use text::Name;
 
 // A record: 1 for UTF-8 and 0 else, the byte string. The record is the text, and the string a name in it.
@@ -24,7 +26,9 @@ fn agrees(record: &[u8]) -> bool
     }
 }
 
-fn replay_all(vectors: &[u8]) {
+fn replay_all(vectors: &[u8]) -> Tally
+    ensures { λ r. ⌜ r ≡ recordTally agrees (now (vectors .entry)) ⌝ }
+{
     let mut at = 0;
     let mut records = 0;
     let mut differ = 0;
@@ -34,12 +38,13 @@ fn replay_all(vectors: &[u8]) {
         differ += replay::differs(records, agrees(&vectors[start..at]));
         records += 1;
     }
-    replay::report(records, b" byte strings", vectors.len(), differ);
+    Tally { records, differ }
 }
 
 fn main() {
     let mut buffer = [0u8; 262144];
     let loaded = files::load(b"names.bin", &mut buffer);
     let n = loaded.bytes;
-    replay_all(&buffer[..n]);
+    let tally = replay_all(&buffer[..n]);
+    replay::report(tally, b" byte strings", n);
 }

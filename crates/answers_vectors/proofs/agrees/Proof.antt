@@ -1,8 +1,6 @@
 -- `agrees` finds the parts of the question, if it is whole.
 use borrow.Author.Needs.{needs}
-use native.Mathlib.Omega.{arith}
-use Rattle.questions.specs.laws.Left.{no}
-use Rattle.answers_vectors.specs.laws.Agrees.{agrees-by}
+use Rattle.answers_vectors.specs.laws.Agrees.{agrees-short, agrees-by}
 use Rattle.answers_vectors.proofs.agrees.Statement.{statement}
 use Rattle.answers_vectors.proofs.agrees.Tie as tie
 
@@ -10,7 +8,7 @@ pub agrees-spec : {M : Type 1} → statement M
 agrees-spec =
     tie.close
     (tie.spec
-    (λ c. no _ (λ whole. omega (arith, whole .room)))
+    (λ c. agrees-short _ (search needs))
     (λ c κs. search needs)
     (λ c. search needs)
     (λ c κs. search needs)
@@ -18,7 +16,7 @@ agrees-spec =
     (λ c κs. search needs)
     (λ c. search needs)
     (λ c. search needs)
-    (λ c. no _ (λ whole. omega (arith, whole .room)))
+    (λ c. agrees-short _ (search needs))
     (λ c. search needs)
     (λ c. search needs)
     (λ c. search needs)

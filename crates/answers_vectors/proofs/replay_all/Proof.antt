@@ -1,15 +1,29 @@
--- `replay_all` goes from question to question, and counts one question and at most one difference for each.
+-- `replay_all` goes from question to question, and what it has counted with what the rest gives is the tally of the file.
 use borrow.Author.Needs.{needs}
+use mathlib.Core.Path.{refl}
 use Prim.Native.Nat.{_≤_, _-_}
 use lib.ListN.{length}
+use Rattle.answers_vectors.specs.Agrees.{questionTally}
+use Rattle.answers_vectors.specs.laws.Agrees.{RestGives, question-on, question-ends}
 use Rattle.answers_vectors.proofs.replay_all.Statement.{statement}
 use Rattle.answers_vectors.proofs.replay_all.Tie as tie
 
 abbrev Inv-loop : tie.InvT-loop
-Inv-loop vectors what at₀ questions₀ differ₀ at questions differ = (at ≤ length vectors) × (questions ≤ at) × (differ ≤ questions)
+Inv-loop vectors at₀ records₀ differ₀ at records differ =
+    (at ≤ length vectors) × (records ≤ at) × (differ ≤ records) × RestGives vectors (questionTally vectors) at records differ
 
 abbrev μ-loop : tie.MeasureT-loop
-μ-loop vectors what at₀ questions₀ differ₀ at questions differ = length vectors - at
+μ-loop vectors at₀ records₀ differ₀ at records differ = length vectors - at
+
+again : tie.Need-loop-again Inv-loop μ-loop
+again c =
+    let ended = c .before .before .before in (
+      search needs,
+      search needs,
+      search needs,
+      question-on _ _ _ _ _ _ _ _ (search needs) (ended .end-of-question .ensures .0) (c .before .agrees .ensures) (c .differs .ensures .0)
+          (ended .before .before .loop .inv .3),
+    )
 
 pub replay-all-spec : {M : Type 1} → statement M
 replay-all-spec =
@@ -17,7 +31,7 @@ replay-all-spec =
     (tie.spec
     Inv-loop
     μ-loop
-    (λ c. search needs)
+    (λ c. (search needs, search needs, search needs, refl))
     (λ c κs. search needs)
     (λ c. search needs)
     (λ c. search needs)
@@ -27,6 +41,5 @@ replay-all-spec =
     (λ c. search needs)
     (λ c. search needs)
     (λ c. search needs)
-    (λ c. search needs)
-    (λ c κs. search needs)
-    (λ c. search needs))
+    again
+    (λ c. question-ends (c .before .before .before .args .vectors .now) _ _ _ _ (c .loop-test .left) (c .before .loop .inv .3)))

@@ -1,6 +1,6 @@
 -- `observed` hands its options word on.
 use borrow.Author.Needs.{needs}
-use mathlib.Core.Path.{_≡_, sym}
+use mathlib.Core.Path.{_≡_}
 use mathlib.Core.List.{List}
 use Prim.Native.Nat.{ℕ}
 use Rattle.datatype.specs.declared.DataType.{DataType}

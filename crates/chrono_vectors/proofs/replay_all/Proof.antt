@@ -1,16 +1,30 @@
--- `chrono_vectors::replay_all` is safe and ends: each turn goes to the end of a record, and counts one record and at most one difference.
--- Assumes nothing.
+-- `replay_all` goes from record to record, and what it has counted with what the rest gives is the tally of the file.
+use borrow.Author.Needs.{needs}
+use mathlib.Core.Path.{refl}
 use Prim.Native.Nat.{_≤_, _-_}
 use lib.ListN.{length}
-use borrow.Author.Needs.{needs}
+use Rattle.replay.specs.Tally.{recordTally}
+use Rattle.replay.specs.laws.Tally.{RestGives, record-on, record-ends}
+use Rattle.chrono_vectors.specs.Agrees.{agrees}
 use Rattle.chrono_vectors.proofs.replay_all.Statement.{statement}
 use Rattle.chrono_vectors.proofs.replay_all.Tie as tie
 
 abbrev Inv-loop : tie.InvT-loop
-Inv-loop vectors at₀ records₀ differ₀ what at records differ = (at ≤ length vectors) × (records ≤ at) × (differ ≤ records)
+Inv-loop vectors at₀ records₀ differ₀ at records differ =
+    (at ≤ length vectors) × (records ≤ at) × (differ ≤ records) × RestGives agrees vectors (recordTally agrees vectors) at records differ
 
 abbrev μ-loop : tie.MeasureT-loop
-μ-loop vectors at₀ records₀ differ₀ what at records differ = length vectors - at
+μ-loop vectors at₀ records₀ differ₀ at records differ = length vectors - at
+
+again : tie.Need-loop-again Inv-loop μ-loop
+again c =
+    let ended = c .before .before .before in (
+      search needs,
+      search needs,
+      search needs,
+      record-on agrees _ _ _ _ _ _ _ _ (search needs) (ended .end-of-record .ensures .0) (c .before .agrees .ensures) (c .differs .ensures .0)
+          (ended .before .before .loop .inv .3),
+    )
 
 pub replay-all-spec : {M : Type 1} → statement M
 replay-all-spec =
@@ -18,18 +32,16 @@ replay-all-spec =
     (tie.spec
     Inv-loop
     μ-loop
-    (λ c. search needs)
-    (λ c. search needs)
-    (λ c κs. search needs)
-    (λ c. search needs)
-    (λ c. search needs)
+    (λ c. (search needs, search needs, search needs, refl))
     (λ c. search needs)
     (λ c κs. search needs)
-    (λ c κs. search needs)
-    (λ c. search needs)
-    (λ c. search needs)
     (λ c. search needs)
     (λ c. search needs)
     (λ c. search needs)
     (λ c κs. search needs)
-    (λ c. search needs))
+    (λ c κs. search needs)
+    (λ c. search needs)
+    (λ c. search needs)
+    (λ c. search needs)
+    again
+    (λ c. record-ends agrees (c .before .before .before .args .vectors .now) _ _ _ _ (c .loop-test .left) (c .before .loop .inv .3)))

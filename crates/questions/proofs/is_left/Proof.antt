@@ -14,6 +14,20 @@ use Rattle.questions.proofs.is_left.Tie as tie
 used : (table : List ℕ) → tableWords ≤ length table → tableWords ≡ length (take tableWords table)
 used table h = sym (length-take-le tableWords table h)
 
+returns-3 : tie.Need-returns-3
+returns-3 c =
+    let first = c .before in
+    let late = first .before .before .before in
+    left-used _ _ _ (late .before .is-early .ensures) (late .if1 .left) (search needs) _ (first .is-all2 .ensures) (not-true _ (c .if3 .taken))
+
+returns-4 : tie.Need-returns-4
+returns-4 c =
+    let zero = c .before .before in
+    let first = zero .before in
+    let late = first .before .before .before in
+    left-by-rest _ _ _ (late .before .is-early .ensures) (late .if1 .left) (search needs) _ (first .is-all2 .ensures) (not-false _ (zero .if3 .left)) _
+    (c .is-all3 .ensures)
+
 pub is-left-spec : {M : Type 1} → statement M
 is-left-spec =
     tie.close
@@ -24,11 +38,9 @@ is-left-spec =
     (λ c. search (left-short, needs))
     (λ c. search (used, needs))
     (λ c κs. search needs)
-    (λ c. left-used _ _ _ (c .before .before .before .before .before .is-early .ensures) (c .before .before .before .before .if1 .left) (search needs) _ (c .before .is-all2 .ensures) (not-true _ (c .if3 .taken)))
+    returns-3
     (λ c. search needs)
     (λ c. search needs)
     (λ c. search needs)
     (λ c κs. search needs)
-    (λ c.
-    left-by-rest _ _ _ (c .before .before .before .before .before .before .before .is-early .ensures) (c .before .before .before .before .before .before .if1 .left) (search needs) _ (c .before .before .before .is-all2 .ensures) (not-false _ (c .before .before .if3 .left)) _
-    (c .is-all3 .ensures)))
+    returns-4)
