@@ -13,7 +13,7 @@ bit k word = eqb (word / 2 ^ k % 2) 1
 abbrev pub knownBits : ℕ
 knownBits = 10
 
--- refusal 1: a bit above 9 is set (Laws has it bit by bit)
+-- refusal 1: a bit above 9 is set (laws/Word has it bit by bit)
 abbrev pub unknownBit : ℕ → Bool
 unknownBit word = leb (2 ^ knownBits) word
 
