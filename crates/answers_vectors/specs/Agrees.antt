@@ -47,10 +47,12 @@ inAll question all a =
           (whole (numberAt question 4) (all .names) (a .left .names));
     }
 
+-- the model's answer where a question lends parts, said of the whole
 unfoldable pub answerOver : List ℕ → Batch → Buffers → Answer
 answerOver question b all = inAll question all (answer b (lentOf question all))
 
 -- ---- a question and its answer
+-- words of the table, of which a question lends the first
 abbrev pub tableLent : ℕ
 tableLent = 16400
 
@@ -74,6 +76,7 @@ stored question records names =
 abbrev pub handed : (question commands text : List ℕ) → Batch
 handed question commands text = batch (twoBytes question 0) commands text
 
+-- the call gives what is stored
 abbrev pub Gives : (question commands text records names : List ℕ) → Type 0
 Gives question commands text records names = answerOver question (handed question commands text) patterned ≡ stored question records names
 

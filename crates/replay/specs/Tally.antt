@@ -30,6 +30,7 @@ pass size ends agrees p =
 unfoldable pub tallyFrom : ℕ → (ℕ → ℕ) → (ℕ → Bool) → Passed → Tally
 tallyFrom size ends agrees p = turns (pass size ends agrees) tallyOf (suc size) p
 
+-- from the file's start
 abbrev pub tally : ℕ → (ℕ → ℕ) → (ℕ → Bool) → Tally
 tally size ends agrees = tallyFrom size ends agrees (record { at = 0; records = 0; differ = 0 })
 

@@ -1,8 +1,10 @@
 // Lists the schema of the return in the folder that it runs in: options.bin, commands.bin and text.bin. A line for each
 // field record, and a last one; or why there is no schema, and where. Arguments name the files of other returns, three
 // for each, which are listed one after another.
+ghost use mathlib.Core.Path.{_≡_};
 ghost use Prim.Native.Nat.{_≤_};
 ghost use lib.ListN.{length};
+ghost use Rattle.schema_list.specs.Call.{outputBytes, TracedInto};
 use fasthrom::Answer;
 use libc::STDERR_FILENO;
 use libc::STDOUT_FILENO;
@@ -24,18 +26,19 @@ fn print_answer(answer: Answer, fields: &[u8], names: &[u8])
     listing::print_number(answer.columns as usize, b"\n");
 }
 
-fn list(options: u16, commands: &[u8], text: &[u8]) {
+// The call, over output buffers as long as document 01 has them.
+fn trace(options: u16, commands: &[u8], text: &[u8], fields: &mut [u8], names: &mut [u8]) -> Answer
+    requires { ⌜ (length (now fields) ≡ outputBytes) × (length (now names) ≡ outputBytes) ⌝ }
+    ensures { λ r. ⌜ TracedInto options commands text fields names r ⌝ }
+{
     let mut table = [0u32; words::WORDS];
+    fasthrom::fasthrom_trace(options, commands, text, &mut table, fields, names)
+}
+
+fn list(options: u16, commands: &[u8], text: &[u8]) {
     let mut fields = [0u8; 65536];
     let mut names = [0u8; 65536];
-    let answer = fasthrom::fasthrom_trace(
-        options,
-        commands,
-        text,
-        &mut table,
-        &mut fields,
-        &mut names,
-    );
+    let answer = trace(options, commands, text, &mut fields, &mut names);
     print_answer(answer, &fields, &names);
 }
 
