@@ -69,7 +69,7 @@ unfoldable mutual
   needsIn options depth (part at s v ps) kids =
       if clashes s (stepsOf kids) then []
       else need at s kids ++ (needs options (depth + dotsOf s) v (kidAt s kids)
-        ++ unlessRefused (see options (depth + dotsOf s) v (kidAt s kids)) λ tree. needsIn options depth ps (put s tree kids))
+      ++ unlessRefused (see options (depth + dotsOf s) v (kidAt s kids)) λ tree. needsIn options depth ps (put s tree kids))
 
 unfoldable pub needsAll : ℕ → List Value → Tree → List ℕ
 needsAll options [] tree = []

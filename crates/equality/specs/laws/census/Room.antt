@@ -176,10 +176,12 @@ held-others : (s : Step) (ks : Kids) (ls : List (List Step)) → taken s (stepsO
 unfolding Held withoutNames stepsOf has clashes
 held-others s no-kids ls x h = tt
 held-others s (kid r n t ks) ls x h =
-    let apart = taken-apart s r (r ∷ stepsOf ks) x (rw same-refl refl) in
-    (among-others (unnamed s) (unnamed r) [] ls apart (h .0), h .1,
-    held-map (Below r (In ls)) (Below r (In (others (unnamed s) ls))) (λ l i. among-others (unnamed s) (unnamed r) (withoutNames l) ls apart i) t (h .2),
-    held-others s ks ls (taken-rest s r (stepsOf ks) x) (h .3))
+    let apart = taken-apart s r (r ∷ stepsOf ks) x (rw same-refl refl) in (
+      among-others (unnamed s) (unnamed r) [] ls apart (h .0),
+      h .1,
+      held-map (Below r (In ls)) (Below r (In (others (unnamed s) ls))) (λ l i. among-others (unnamed s) (unnamed r) (withoutNames l) ls apart i) t (h .2),
+      held-others s ks ls (taken-rest s r (stepsOf ks) x) (h .3),
+    )
 
 mutual
   unfolding Held size withoutNames
@@ -246,8 +248,8 @@ module _ (o at : ℕ) (b : Bool) (k n : ℕ) (ps : Parts) where
   unfolding seen stepsSeen
   seen-made before s h w p =
       let there : has s (sights (stepsIn ps) (sights (made k n before) [])) ≡ true =
-          has-sights-is s (stepsIn ps) (sights (made k n before) [])
-          ∙ ap (λ (x : Bool). x || has s (stepsIn ps)) (has-sights-is s (made k n before) [] ∙ ap (λ (x : Bool). has s [] || x) h ∙ or-true (has s [])) in
+      has-sights-is s (stepsIn ps) (sights (made k n before) [])
+      ∙ ap (λ (x : Bool). x || has s (stepsIn ps)) (has-sights-is s (made k n before) [] ∙ ap (λ (x : Bool). has s [] || x) h ∙ or-true (has s [])) in
       and-both (rw (made-fixed o k n ps before [] w p) at there) refl
 
   seen-part : (s : Step) (steps : List Step) → has s (stepsIn ps) ≡ true → seen steps (partsAt s ps) ≡ true → seen (s ∷ steps) (val at b k n ps ∷ []) ≡ true
@@ -285,9 +287,10 @@ mutual
       → ((steps : List Step) → seen steps (v ∷ []) ≡ true → S steps) → Covers S v
   covers-value S o (cut n at) w p f = tt
   covers-value S o (val at b k n ps) w p f =
-      let proper = and-right (kindFits o k) (areProper o k n 0 ps) p in
-      (λ before s h. f (s ∷ []) (seen-made o at b k n ps before s h w proper),
-      covers-parts S o k n 0 ps w proper (λ s h steps i. f (s ∷ steps) (seen-part o at b k n ps s steps h i)))
+      let proper = and-right (kindFits o k) (areProper o k n 0 ps) p in (
+        λ before s h. f (s ∷ []) (seen-made o at b k n ps before s h w proper),
+        covers-parts S o k n 0 ps w proper (λ s h steps i. f (s ∷ steps) (seen-part o at b k n ps s steps h i)),
+      )
 
   covers-parts : (S : List Step → Type 0) (o k n i : ℕ) (ps : Parts) → areWhole ps ≡ true → areProper o k n i ps ≡ true
       → ((s : Step) → has s (stepsIn ps) ≡ true → (steps : List Step) → seen steps (partsAt s ps) ≡ true → S (s ∷ steps)) → CoversIn S ps
@@ -296,10 +299,11 @@ mutual
   covers-parts S o k n i (part at s v ps) w p f =
       both (isWhole v) (areWhole ps) w λ w₁ w₂.
       both (partFits k i s && isProper o v) (areProper o k n (suc i) ps) p λ p₁ p₂.
-      let there = part-first at s v ps in
-      (f s there [] (seen-here (partsAt s (part at s v ps))),
-      covers-value (Below s S) o v w₁ (and-right (partFits k i s) (isProper o v) p₁) (λ steps e. f s there steps (seen-first at s v ps steps e)),
-      covers-parts S o k n (suc i) ps w₂ p₂ (λ r h steps e. f r (part-later at s v ps r h) steps (seen-later at s v ps r steps e)))
+      let there = part-first at s v ps in (
+        f s there [] (seen-here (partsAt s (part at s v ps))),
+        covers-value (Below s S) o v w₁ (and-right (partFits k i s) (isProper o v) p₁) (λ steps e. f s there steps (seen-first at s v ps steps e)),
+        covers-parts S o k n (suc i) ps w₂ p₂ (λ r h steps e. f r (part-later at s v ps r h) steps (seen-later at s v ps r steps e)),
+      )
 
 covers-all : (S : List Step → Type 0) (o : ℕ) (vs : List Value) → allWhole vs ≡ true → allProper o vs ≡ true
     → ((steps : List Step) → seen steps vs ≡ true → S steps) → All (Covers S) vs

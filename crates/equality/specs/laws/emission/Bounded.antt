@@ -118,12 +118,13 @@ module _ (b : Batch) (lent : Buffers) where
 
   pub exactly : WellFormed b → (p : ℕ) → (gave (schemaOf b) ≡ turnedDown tooManyPlaces p (zeroed lent)) ↔ Exceeds (b .options) (recordsOf b) p
   unfolding schemaOf answerOf
-  exactly w p =
-      (λ h.
-      eleven-traced (ap (λ (a : Answer). a .refusal) h) λ q e is.
-      let same-place : q ≡ p = ap (λ (a : Answer). a .place) (sym is ∙ h) in
-      rw (← same-place) (exceeds w q e),
-      λ x. rw (said w p x) refl)
+  exactly w p = (
+    λ h.
+        eleven-traced (ap (λ (a : Answer). a .refusal) h) λ q e is.
+        let same-place : q ≡ p = ap (λ (a : Answer). a .place) (sym is ∙ h) in
+        rw (← same-place) (exceeds w q e),
+    λ x. rw (said w p x) refl,
+  )
 
   -- there is room for a batch of at most 1,024 places
   not-crowded : WellFormed b → AtMost placeLimit (b .options) (recordsOf b) → gave (schemaOf b) .refusal ≡ tooManyPlaces → ⊥
