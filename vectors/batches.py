@@ -181,7 +181,15 @@ class Batches:
         return f"{self.options():04x} {commands.hex() or '-'} {self.text.hex()}"
 
 
-if __name__ == "__main__":
-    batches = Batches(int(sys.argv[1]))
-    for _ in range(int(sys.argv[2])):
+def main():
+    words = sys.argv[1:]
+    if len(words) != 2 or not all(word.isascii() and word.isdigit() for word in words):
+        print("usage: python3 vectors/batches.py SEED COUNT", file=sys.stderr)
+        sys.exit(2)
+    batches = Batches(int(words[0]))
+    for _ in range(int(words[1])):
         print(batches.line())
+
+
+if __name__ == "__main__":
+    main()

@@ -8,13 +8,13 @@ COUNT` and a line for each place: parent, step, kind, null, samples, held; the l
 has).
 """
 
-import pathlib
 import random
 import sys
 
 import batches
+import published
+from published import TOP
 
-TOP = pathlib.Path(__file__).resolve().parent.parent
 PROGRAM = TOP / "crates" / "samples_vectors"
 WANTED = 160
 LONGEST = 250
@@ -88,6 +88,7 @@ def choose():
 
 
 def main():
+    published.no_arguments()
     chosen, refused = choose()
     made, lines = b"", []
     for options, commands, text in chosen:

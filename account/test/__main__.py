@@ -11,7 +11,11 @@ COUNT = 5000
 
 
 def main():
-    count = int(sys.argv[1]) if len(sys.argv) > 1 else COUNT
+    words = sys.argv[1:]
+    if len(words) > 1 or not all(word.isascii() and word.isdigit() for word in words):
+        print("usage: python3 -m account.test [COUNT]", file=sys.stderr)
+        sys.exit(2)
+    count = int(words[0]) if words else COUNT
     for checks in (examples.check(), stored.check(), demand3.check(count), places.check(count)):
         for what, how_many in checks:
             print(f"{how_many} {what}", flush=True)
