@@ -1,4 +1,6 @@
--- `Reader::byte` and `Reader::operand` meet their contract: one walk of their MIR, by hand, of what is read. The borrow is opened, `byte_at` or `operand_at` is called on the slice and the number that the struct holds, the number is advanced, and the borrow is closed at the struct with the new number.
+-- `Reader::byte` and `Reader::operand` meet their contract: one walk of their MIR, by hand, of what is read. The borrow is opened, `byte_at` or
+-- `operand_at` is called on the slice and the number that the struct holds, the number is advanced, and the borrow is closed at the struct with
+-- the new number.
 -- All that the proof knows of the callee is that it meets its contract.
 --     function      the MIR of the two; that it is what the compiler made of each is seen where `meets` is used
 use mathlib.Core.Path.{_≡_, refl}

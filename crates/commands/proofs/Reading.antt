@@ -1,4 +1,5 @@
--- A byte and an operand are read in one way, which differs in a width, in how far it moves the offset, and in the number found: so what is proved of the functions that read them is proved once, of what is read.
+-- A byte and an operand are read in one way, which differs in a width, in how far it moves the offset, and in the number found: so what is
+-- proved of the functions that read them is proved once, of what is read.
 --     new-clauses     the contract of `Reader::new`
 --     at-clauses      the contract of `byte_at` and `operand_at`, and of `read_byte` and `read_operand`: of the slice and the number
 --     clauses         the contract of `Reader::byte` and `Reader::operand`

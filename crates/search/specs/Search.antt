@@ -48,7 +48,8 @@ pub record Past (tag child here : ℕ) (t : List ℕ) : Type 0 where
       (text : List ℕ) (n : ℕ) (name : Name) → Sound text t n → child < n → (child ≡ 0 → ⊥) → tag ≡ tagOf (bytesOf text name) →
       findFrom text fieldCode name t here ≡ findFrom text fieldCode name t child
 
--- a position in the place's block stands by its number, any other numbered child is found in the search tree, the others from sibling to sibling
+-- a position in the place's block stands by its number, any other numbered child is found in the search tree, the others from sibling to
+-- sibling
 unfoldable pub inBlock : ℕ → ℕ → ℕ → List ℕ → Bool
 inBlock place i n t = ltb i (word t place blockWord) && ltb (word t place firstWord + i) n
 

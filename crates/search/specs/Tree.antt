@@ -1,7 +1,7 @@
--- The numbered children of a place (variants, and positions past its block) in a digital search tree over their codes: from the place's root
--- link on, at each child by its left or right link, by the lowest bit of the code that was not yet used. The codes on one path agree in the
--- bits used, and in their parity, for a place has variants or positions. There are 65,536 codes of each parity, one after another, so sixteen
--- bits tell them apart: at most 17 children are visited.
+-- The numbered children of a place (variants, and positions past its block) in a digital search tree over their codes: from the place's
+-- root link on, at each child by its left or right link, by the lowest bit of the code that was not yet used. The codes on one path agree
+-- in the bits used, and in their parity, for a place has variants or positions. There are 65,536 codes of each parity, one after another,
+-- so sixteen bits tell them apart: at most 17 children are visited.
 use mathlib.Core.Bool.{Bool, _&&_}
 use mathlib.Core.List.{List}
 use Prim.Native.Nat.{ℕ, _/_, _%_}

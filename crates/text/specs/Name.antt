@@ -38,8 +38,8 @@ unfoldable pub dots : List ℕ → ℕ
 dots [] = 0
 dots (b ∷ x) = if eqb b dot then suc (dots x) else dots x
 
--- a name's tag: the lowest byte of its length and its last three bytes, in a word; of a shorter name its length alone. Equal names have equal tags,
--- and most unequal ones have not.
+-- a name's tag: the lowest byte of its length and its last three bytes, in a word; of a shorter name its length alone. Equal names have
+-- equal tags, and most unequal ones have not.
 unfoldable pub tagOf : List ℕ → ℕ
 tagOf bytes =
     if ltb (length bytes) 3 then length bytes
