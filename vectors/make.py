@@ -13,6 +13,8 @@ import subprocess
 import published
 from published import ORACLE, TOP
 
+PROGRAM = TOP / "crates" / "record_vectors"
+
 
 def ask(question, byte_strings=()):
     """The oracle's answers, a line for each byte string."""
@@ -21,13 +23,13 @@ def ask(question, byte_strings=()):
     return done.stdout.splitlines()
 
 
-def store(crate, name, what, records):
-    """The program's data, each record behind a byte that counts it, and the line that it is to write."""
-    path = TOP / "crates" / crate / "data" / name
+def store(name, what, records):
+    """A file of the program's data, each record behind a byte that counts it: gives the line that it is to write."""
+    path = PROGRAM / "data" / name
     path.parent.mkdir(parents=True, exist_ok=True)
     path.write_bytes(b"".join(bytes([len(r)]) + r for r in records))
-    (TOP / "crates" / crate / "stdout").write_text(f"{len(records)} {what} in {path.stat().st_size} bytes, 0 differ\n")
     print(f"{path.relative_to(TOP)}: {len(records)} {what}, {path.stat().st_size} bytes")
+    return f"{len(records)} {what} in {path.stat().st_size} bytes, 0 differ\n"
 
 
 def unique(items):
@@ -114,7 +116,7 @@ def make_texts():
         matchers, utf8, large_utf8 = answer.split()
         bits = sum(1 << i for i, digit in enumerate(matchers) if digit == "1")
         records.append(bytes([bits, int(utf8), int(large_utf8)]) + text)
-    store("chrono_vectors", "texts.bin", "texts", records)
+    return store("texts.bin", "texts", records)
 
 
 # ------------------------------------------------------------------ UTF-8
@@ -165,8 +167,7 @@ def byte_strings():
 def make_byte_strings():
     listed = byte_strings()
     answers = ask("utf8", listed)
-    store("text_vectors", "names.bin", "byte strings",
-          [bytes([int(a)]) + b for b, a in zip(listed, answers, strict=True)])
+    return store("names.bin", "byte strings", [bytes([int(a)]) + b for b, a in zip(listed, answers, strict=True)])
 
 
 # ----------------------------------------------------------------- joints
@@ -180,11 +181,9 @@ def make_joints():
         word, first, second, joint = line.split()
         records.append(int(word).to_bytes(2, "little")
                        + bytes([int(first), int(second), NONE if joint == "-" else int(joint)]))
-    store("coerce_vectors", "joints.bin", "joints", records)
+    return store("joints.bin", "joints", records)
 
 
 if __name__ == "__main__":
     published.ready()
-    make_texts()
-    make_byte_strings()
-    make_joints()
+    (PROGRAM / "stdout").write_text(make_texts() + make_byte_strings() + make_joints())

@@ -16,9 +16,9 @@ GUESS_DATES, LARGE_UTF8 = 256, 8
 NO_JOINT = 255
 
 
-def records(crate, file):
+def records(file):
     """Each record stands behind a byte that counts it."""
-    data = (CRATES / crate / "data" / file).read_bytes()
+    data = (CRATES / "record_vectors" / "data" / file).read_bytes()
     while data:
         yield data[1:1 + data[0]]
         data = data[1 + data[0]:]
@@ -26,7 +26,7 @@ def records(crate, file):
 
 def check_texts():
     count = 0
-    for count, record in enumerate(records("chrono_vectors", "texts.bin"), 1):
+    for count, record in enumerate(records("texts.bin"), 1):
         text = record[3:]
         # the forms that fit, as bits in the order in which they are tried
         fits = sum(1 << i for i, (form, _) in enumerate(FORMS) if form.fullmatch(text))
@@ -37,7 +37,7 @@ def check_texts():
 
 def check_names():
     count = 0
-    for count, record in enumerate(records("text_vectors", "names.bin"), 1):
+    for count, record in enumerate(records("names.bin"), 1):
         assert is_utf8(record[1:]) == bool(record[0]), record
     return count
 
@@ -45,7 +45,7 @@ def check_names():
 def check_joints():
     """Pairs without a string type that the options do not give: no batch shows one."""
     count = 0
-    for record in records("coerce_vectors", "joints.bin"):
+    for record in records("joints.bin"):
         options = Options(int.from_bytes(record[:2], "little"))
         first, second, both = record[2:]
         if {first, second} & STRINGS <= {options.string_type()}:

@@ -1,0 +1,4 @@
+pub mod Texts
+pub mod Names
+pub mod Joints
+pub mod Agrees
