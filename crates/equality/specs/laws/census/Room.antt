@@ -81,21 +81,19 @@ unfolding Among
 some-there [] i = absurd i
 some-there (l ∷ ls) i = omega arith
 
-number-kept : (s : Step) → variantOf (unnamed s) ≡ variantOf s
-number-kept (field name) = refl
-number-kept element = refl
-number-kept (position i) = refl
-number-kept key = refl
-number-kept value = refl
-number-kept (variant number name) = refl
+-- what does not ask for a variant's name is the same of both
+kept : {A : Type 0} (f : Step → A) → ((number : ℕ) (name : List ℕ) → f (variant number []) ≡ f (variant number name)) → (s : Step) → f (unnamed s) ≡ f s
+kept f e (field name) = refl
+kept f e element = refl
+kept f e (position i) = refl
+kept f e key = refl
+kept f e value = refl
+kept f e (variant number name) = e number name
 
-variant-kept : (s : Step) → isVariant (unnamed s) ≡ isVariant s
-variant-kept (field name) = refl
-variant-kept element = refl
-variant-kept (position i) = refl
-variant-kept key = refl
-variant-kept value = refl
-variant-kept (variant number name) = refl
+-- and so the same of two steps that lead to one place
+both-kept : {A : Type 0} (f : Step → A) → ((number : ℕ) (name : List ℕ) → f (variant number []) ≡ f (variant number name)) → (s r : Step) →
+    unnamed s ≡ unnamed r → f s ≡ f r
+both-kept f e s r h = sym (kept f e s) ∙ ap f h ∙ kept f e r
 
 itself : (s : Step) → isVariant s ≡ false → unnamed s ≡ s
 itself (field name) e = refl
@@ -110,10 +108,10 @@ one-place : (s r : Step) → unnamed s ≡ unnamed r → (same s r || renames s 
 one-place s r e = cases (same s r) (λ f. ap (λ (b : Bool). b || renames s r) f) (λ f. ap (λ (b : Bool). same s r || b) (otherwise s r e f) ∙ or-true (same s r))
   where
     numbers : (s r : Step) → unnamed s ≡ unnamed r → variantOf s ≡ variantOf r
-    numbers s r e = sym (number-kept s) ∙ ap variantOf e ∙ number-kept r
+    numbers s r e = both-kept variantOf (λ number name. refl) s r e
 
     alike : (s r : Step) → unnamed s ≡ unnamed r → isVariant s ≡ isVariant r
-    alike s r e = sym (variant-kept s) ∙ ap isVariant e ∙ variant-kept r
+    alike s r e = both-kept isVariant (λ number name. refl) s r e
 
     -- what is no variant is its own place
     both-variants : (s r : Step) → unnamed s ≡ unnamed r → same s r ≡ false → (isVariant s && isVariant r) ≡ true
