@@ -1,17 +1,78 @@
 -- Where code reads and stores a word of a place.
 use mathlib.Core.Path.{_≡_, refl}
+use mathlib.Core.Bool.{true, false}
 use mathlib.Core.List.{List}
-use Prim.Native.Nat.{ℕ, _+_, _*_, _<_}
-use lib.ListN.{getD, set}
+use Prim.Native.Nat.{ℕ, _+_, _-_, _*_, _/_, _%_, _<_, _≤_}
+use native.Mathlib.Omega.{arith}
+use borrow.Author.Tests.{lt-ltb, le-ltb, leb-true, ltb-true, le-leb, eq-eqb, ne-eqb}
+use lib.Dec.{leb, ltb}
+use lib.ListN.{length, getD, set}
 use Rattle.logic.specs.Test.{if_then_else_}
-use Rattle.words.specs.Word.{placeWords, IsRow, indexOf, word, withWord}
-use Rattle.words.specs.laws.Word.{has-word}
+use Rattle.logic.specs.laws.Test.{cases, both}
+use Rattle.words.specs.Word.{placeWords, rowWords, tableWords, linksFrom, linksEnd, linkLimit, IsTable, IsRow, isLink, hasWord, rowWord, indexOf, partOf, withPart, word, withWord}
+use Rattle.words.specs.laws.Word.{has-word, index-inside}
 
-module _ (t : List ℕ) (p f : ℕ) (l : IsRow p) (b : f < placeWords) where
-  pub word-at : word t p f ≡ getD t (p * placeWords + f) 0
-  unfolding word indexOf if_then_else_
-  word-at = rw (has-word p f l b) refl
+-- ---- a whole word
+pub index-before : (p f : ℕ) → f < linksFrom → p * rowWords + f ≡ indexOf p f
+unfolding indexOf rowWord if_then_else_
+index-before p f l = rw (lt-ltb f linksFrom l) refl
 
-  pub with-at : (v : ℕ) → withWord t p f v ≡ set t (p * placeWords + f) v
-  unfolding withWord indexOf if_then_else_
-  with-at v = rw (has-word p f l b) refl
+pub index-behind : (p f : ℕ) → linksFrom ≤ f → isLink f ≡ false → p * rowWords + f - (linksEnd - linksFrom) / 2 ≡ indexOf p f
+unfolding indexOf rowWord if_then_else_
+index-behind p f l e =
+    let d : ltb f linksEnd ≡ false = rw (le-leb linksFrom f l) at e in
+    rw (le-ltb f linksFrom l, d) (omega arith)
+
+-- ---- a link
+pub link-from : (f : ℕ) → isLink f ≡ true → linksFrom ≤ f
+link-from f e = both (leb linksFrom f) (ltb f linksEnd) e λ a b. leb-true linksFrom f a
+
+pub link-end : (f : ℕ) → isLink f ≡ true → f < linksEnd
+link-end f e = both (leb linksFrom f) (ltb f linksEnd) e λ a b. ltb-true f linksEnd b
+
+pub index-link : (p f : ℕ) → IsRow p → isLink f ≡ true → (p * rowWords + linksFrom + (f - linksFrom) / 2 ≡ indexOf p f) × (p * rowWords + linksFrom + (f - linksFrom) / 2 < tableWords)
+unfolding indexOf rowWord if_then_else_
+index-link p f r e =
+    let l : linksFrom ≤ f = link-from f e in
+    let m : f < linksEnd = link-end f e in
+    (rw (le-ltb f linksFrom l, lt-ltb f linksEnd m) (omega arith), omega arith)
+
+-- one of them is the lower half
+module _ (f w : ℕ) (l : isLink f ≡ true) where
+  pub lower-part : f % 2 ≡ 0 → w % linkLimit ≡ partOf f w
+  unfolding partOf if_then_else_
+  lower-part e = rw (l, eq-eqb (f % 2) 0 e) refl
+
+  pub upper-part : (f % 2 ≡ 0 → ⊥) → w / linkLimit ≡ partOf f w
+  unfolding partOf if_then_else_
+  upper-part n = rw (l, ne-eqb (f % 2) 0 n) refl
+
+  pub with-lower : (v : ℕ) → f % 2 ≡ 0 → v < linkLimit → w / linkLimit * linkLimit + v ≡ withPart f w v
+  unfolding withPart if_then_else_
+  with-lower v e i = rw (l, eq-eqb (f % 2) 0 e) (omega arith)
+
+  pub with-upper : (v : ℕ) → (f % 2 ≡ 0 → ⊥) → v * linkLimit + w % linkLimit ≡ withPart f w v
+  unfolding withPart if_then_else_
+  with-upper v n = rw (l, ne-eqb (f % 2) 0 n) refl
+
+-- ---- what stands there
+module _ (t : List ℕ) (p f i : ℕ) (l : IsRow p) (b : f < placeWords) (at : i ≡ indexOf p f) (e : isLink f ≡ false) where
+  pub whole-at : getD t i 0 ≡ word t p f
+  unfolding word partOf if_then_else_
+  whole-at = rw (has-word p f l b, at, e) refl
+
+  pub whole-with : (v : ℕ) → set t i v ≡ withWord t p f v
+  unfolding withWord withPart if_then_else_
+  whole-with v = rw (has-word p f l b, at, e) refl
+
+module _ (t : List ℕ) (p f i w : ℕ) (l : IsRow p) (e : isLink f ≡ true) (at : i ≡ indexOf p f) where
+  has-link : hasWord p f ≡ true
+  has-link = has-word p f l (omega (arith, link-end f e))
+
+  pub link-at : w ≡ partOf f (getD t i 0) → w ≡ word t p f
+  unfolding word if_then_else_
+  link-at d = rw (d, has-link, at) refl
+
+  pub link-with : (v : ℕ) → w ≡ withPart f (getD t i 0) v → set t i w ≡ withWord t p f v
+  unfolding withWord if_then_else_
+  link-with v d = rw (d, has-link, at) refl

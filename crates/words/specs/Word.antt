@@ -1,10 +1,10 @@
 -- The part of the work table that is lent to the tracer, and the words of a place in it. How a word is found is said here alone: what
 -- stands above speaks of a place and a word of it, and goes by the laws.
 use mathlib.Core.Path.{_≡_}
-use mathlib.Core.Bool.{Bool, _&&_}
+use mathlib.Core.Bool.{Bool, true, _&&_}
 use mathlib.Core.List.{List}
-use Prim.Native.Nat.{ℕ, _+_, _*_, _<_}
-use lib.Dec.{ltb}
+use Prim.Native.Nat.{ℕ, _+_, _-_, _*_, _/_, _%_, _^_, _<_}
+use lib.Dec.{eqb, leb, ltb}
 use lib.ListN.{length, getD, set, replicate}
 use Rattle.logic.specs.Test.{if_then_else_}
 
@@ -12,13 +12,13 @@ use Rattle.logic.specs.Test.{if_then_else_}
 abbrev pub tablePlaces : ℕ
 tablePlaces = 1024
 
--- and each so many words
-abbrev pub placeWords : ℕ
-placeWords = 16
+-- and each a row of so many words
+abbrev pub rowWords : ℕ
+rowWords = 16
 
 -- that is, so many in all
 abbrev pub tableWords : ℕ
-tableWords = tablePlaces * placeWords
+tableWords = tablePlaces * rowWords
 
 abbrev pub IsTable : List ℕ → Type 0
 IsTable t = length t ≡ tableWords
@@ -27,21 +27,69 @@ IsTable t = length t ≡ tableWords
 abbrev pub IsRow : ℕ → Type 0
 IsRow place = place < tablePlaces
 
+-- ---- the words of a place
+-- There are so many, by number. Some are links: a place's number is of 16 bits, so that two of them stand in one word of its row.
+abbrev pub placeWords : ℕ
+placeWords = 20
+
+-- the first link, and the first word behind the links
+abbrev pub linksFrom : ℕ
+linksFrom = 6
+
+abbrev pub linksEnd : ℕ
+linksEnd = 14
+
+abbrev pub isLink : ℕ → Bool
+isLink field = leb linksFrom field && ltb field linksEnd
+
+-- what a link can be
+abbrev pub linkLimit : ℕ
+linkLimit = 2 ^ 16
+
+-- there is room for a value: any in a whole word, and what a link can be in a link
+abbrev pub Holds : ℕ → ℕ → Type 0
+Holds field value = isLink field ≡ true → value < linkLimit
+
 -- it has that word of that place
 unfoldable pub hasWord : ℕ → ℕ → Bool
 hasWord place field = ltb place tablePlaces && ltb field placeWords
 
--- where the word stands: one place after another
+-- the word of the row that it is, or in which it stands: links stand two by two
+unfoldable pub rowWord : ℕ → ℕ
+rowWord field =
+    if ltb field linksFrom then field
+    else if ltb field linksEnd then linksFrom + (field - linksFrom) / 2
+    else field - (linksEnd - linksFrom) / 2
+
+-- where that stands: one place after another
 unfoldable pub indexOf : ℕ → ℕ → ℕ
-indexOf place field = place * placeWords + field
+indexOf place field = place * rowWords + rowWord field
+
+-- of the two links in a word, the one with the even number is the lower half
+abbrev pub isLower : ℕ → Bool
+isLower field = eqb (field % 2) 0
+
+-- what a word of a row says of a place's word: a half of it where that is a link
+unfoldable pub partOf : ℕ → ℕ → ℕ
+partOf field w = if isLink field then (if isLower field then w % linkLimit else w / linkLimit) else w
+
+-- the word of a row with a place's word stored in it, the other half as it is
+unfoldable pub withPart : ℕ → ℕ → ℕ → ℕ
+withPart field w value =
+    if isLink field
+    then (if isLower field then w / linkLimit * linkLimit + value % linkLimit else value * linkLimit + w % linkLimit)
+    else value
 
 -- word `field` of a place, and 0 where the table has none
 unfoldable pub word : List ℕ → ℕ → ℕ → ℕ
-word table place field = if hasWord place field then getD table (indexOf place field) 0 else 0
+word table place field = if hasWord place field then partOf field (getD table (indexOf place field) 0) else 0
 
 -- the table with that word stored, if it has it
 unfoldable pub withWord : List ℕ → ℕ → ℕ → ℕ → List ℕ
-withWord table place field value = if hasWord place field then set table (indexOf place field) value else table
+withWord table place field value =
+    if hasWord place field
+    then set table (indexOf place field) (withPart field (getD table (indexOf place field) 0) value)
+    else table
 
 -- a table whose words are all zero
 unfoldable pub zeros : List ℕ

@@ -1,28 +1,98 @@
-// The words of a place in the lent work table. Callers lend the part that has a word for each place, and nothing else.
+// The words of a place in the lent work table, whole words and links. Callers lend the part that has a row for each place, and
+// nothing else.
 ghost use mathlib.Core.Path.{_≡_};
+ghost use mathlib.Core.Bool.{true, false};
 ghost use Prim.Native.Nat.{_<_};
-ghost use Rattle.words.specs.Word.{placeWords, IsTable, IsRow, word, withWord, zeros};
+ghost use Rattle.words.specs.Word.{tableWords, placeWords, linkLimit, IsTable, IsRow, isLink, indexOf, partOf, withPart, word, withWord, zeros};
 
 // So many words: those of all places.
 pub const WORDS: usize = 16384;
 
-// Words of a place, which stand one place after another.
-const PLACE_WORDS: usize = 16;
+// Words of a row: rows stand one after another.
+const ROW_WORDS: usize = 16;
 
-// A word of a place.
-pub fn get(table: &[u32], place: usize, field: usize) -> u32
-    requires { ⌜ IsTable (now table) × IsRow place × (field < placeWords) ⌝ }
-    ensures { λ r. ⌜ r ≡ word (now (table .entry)) place field ⌝ }
+// The first link, and the first word behind the links.
+const LINKS_FROM: usize = 6;
+
+const LINKS_END: usize = 14;
+
+// What a link can be, and what the upper half of a word counts for: the places' numbers need no more than 16 bits.
+const LINK_LIMIT: u32 = 65536;
+
+// Where a whole word stands. Behind the links, two of which share a word, numbers run ahead.
+fn whole_index(place: usize, field: usize) -> usize
+    requires { ⌜ IsRow place × (field < placeWords) × (isLink field ≡ false) ⌝ }
+    ensures { λ r. ⌜ (r ≡ indexOf place field) × (r < tableWords) ⌝ }
 {
-    table[place * PLACE_WORDS + field]
+    if field < LINKS_FROM {
+        return place * ROW_WORDS + field;
+    }
+    place * ROW_WORDS + field - (LINKS_END - LINKS_FROM) / 2
 }
 
-// Stores a word of a place.
+// Where the word stands that has a link in it.
+fn link_index(place: usize, field: usize) -> usize
+    requires { ⌜ IsRow place × (isLink field ≡ true) ⌝ }
+    ensures { λ r. ⌜ (r ≡ indexOf place field) × (r < tableWords) ⌝ }
+{
+    place * ROW_WORDS + LINKS_FROM + (field - LINKS_FROM) / 2
+}
+
+// A whole word of a place.
+pub fn get(table: &[u32], place: usize, field: usize) -> u32
+    requires { ⌜ IsTable (now table) × IsRow place × (field < placeWords) × (isLink field ≡ false) ⌝ }
+    ensures { λ r. ⌜ r ≡ word (now (table .entry)) place field ⌝ }
+{
+    table[whole_index(place, field)]
+}
+
+// Stores a whole word of a place.
 pub fn set(table: &mut [u32], place: usize, field: usize, value: u32)
-    requires { ⌜ IsTable (now table) × IsRow place × (field < placeWords) ⌝ }
+    requires { ⌜ IsTable (now table) × IsRow place × (field < placeWords) × (isLink field ≡ false) ⌝ }
     ensures { λ _. ⌜ now (table .exit) ≡ withWord (now (table .entry)) place field value ⌝ }
 {
-    table[place * PLACE_WORDS + field] = value;
+    table[whole_index(place, field)] = value;
+}
+
+// The link that is a half of a word.
+fn link_in(word: u32, field: usize) -> usize
+    requires { ⌜ isLink field ≡ true ⌝ }
+    ensures { λ r. ⌜ r ≡ partOf field word ⌝ }
+{
+    if field % 2 == 0 {
+        (word % LINK_LIMIT) as usize
+    } else {
+        (word / LINK_LIMIT) as usize
+    }
+}
+
+// A link of a place.
+pub fn link(table: &[u32], place: usize, field: usize) -> usize
+    requires { ⌜ IsTable (now table) × IsRow place × (isLink field ≡ true) ⌝ }
+    ensures { λ r. ⌜ r ≡ word (now (table .entry)) place field ⌝ }
+{
+    link_in(table[link_index(place, field)], field)
+}
+
+// The word with a link stored in it, the other as it is.
+fn with_link(word: u32, field: usize, to: usize) -> u32
+    requires { ⌜ (isLink field ≡ true) × (to < linkLimit) ⌝ }
+    ensures { λ r. ⌜ r ≡ withPart field word to ⌝ }
+{
+    if field % 2 == 0 {
+        word / LINK_LIMIT * LINK_LIMIT + to as u32
+    } else {
+        to as u32 * LINK_LIMIT + word % LINK_LIMIT
+    }
+}
+
+// Stores a link of a place.
+pub fn set_link(table: &mut [u32], place: usize, field: usize, to: usize)
+    requires { ⌜ IsTable (now table) × IsRow place × (isLink field ≡ true) × (to < linkLimit) ⌝ }
+    ensures { λ _. ⌜ now (table .exit) ≡ withWord (now (table .entry)) place field to ⌝ }
+{
+    let at = link_index(place, field);
+    table[at] = with_link(table[at], field, to);
 }
 
 // Zeroes every word.

@@ -1,7 +1,6 @@
 -- `get` reads the word where it stands.
 use borrow.Author.Needs.{needs}
-use mathlib.Core.Path.{sym}
-use Rattle.words.proofs.Index.{word-at}
+use Rattle.words.proofs.Index.{whole-at}
 use Rattle.words.proofs.get.Statement.{statement}
 use Rattle.words.proofs.get.Tie as tie
 
@@ -12,5 +11,4 @@ get-spec =
     (λ c. search needs)
     (λ c. search needs)
     (λ c. search needs)
-    (λ c. search needs)
-    (λ c. sym (word-at _ _ _ (search needs) (search needs))))
+    (λ c. search (whole-at, needs)))

@@ -1,7 +1,6 @@
 -- `set` stores the word where it stands.
 use borrow.Author.Needs.{needs}
-use mathlib.Core.Path.{sym}
-use Rattle.words.proofs.Index.{with-at}
+use Rattle.words.proofs.Index.{whole-with}
 use Rattle.words.proofs.set.Statement.{statement}
 use Rattle.words.proofs.set.Tie as tie
 
@@ -13,5 +12,4 @@ set-spec =
     (λ c. search needs)
     (λ c. search needs)
     (λ c. search needs)
-    (λ c. search needs)
-    (λ c. sym (with-at _ _ _ (search needs) (search needs) _)))
+    (λ c. search (whole-with, needs)))

@@ -1,16 +1,117 @@
 -- Laws of the words of a table: what is read after a store, what stores in turn leave, and a table of zeros. None says where a word stands.
-use mathlib.Core.Path.{_≡_, refl, ap}
-use mathlib.Core.Bool.{true}
+use mathlib.Core.Path.{_≡_, refl, ap, sym, _∙_}
+use mathlib.Core.Bool.{true, false, false≢true}
 use mathlib.Core.List.{List, [], _∷_}
-use Prim.Native.Nat.{ℕ, zero, suc, _<_}
+use Prim.Native.Nat.{ℕ, zero, suc, _+_, _-_, _/_, _%_, _<_, _≤_}
 use native.Mathlib.Omega.{arith}
-use borrow.Author.Tests.{lt-ltb, ltb-true}
-use lib.Dec.{ltb}
+use borrow.Author.Tests.{lt-ltb, le-ltb, le-leb, lt-leb, ltb-true, ltb-false, eqb-true, eqb-false}
+use lib.Dec.{eqb, ltb}
 use lib.ListN.{length, getD, set, replicate, length-set, length-replicate}
-use lib.Seq.{getD-set-same, set-getD, set-set, set-comm}
+use lib.Seq.{getD-set-same, getD-set-other, set-getD, set-comm}
 use Rattle.logic.specs.Test.{if_then_else_}
 use Rattle.logic.specs.laws.Test.{cases, both}
-use Rattle.words.specs.Word.{tablePlaces, placeWords, tableWords, IsTable, IsRow, hasWord, indexOf, word, withWord, zeros}
+use Rattle.words.specs.Word.{tablePlaces, placeWords, tableWords, rowWords, linksFrom, linksEnd, linkLimit, IsTable, IsRow, Holds, isLink, isLower, hasWord, rowWord, indexOf, partOf, withPart, word, withWord, zeros}
+
+-- ---- the word of a row that a place's word is, or stands in
+data Stands (f : ℕ) : Type 0 where
+  before : f < linksFrom → isLink f ≡ false → rowWord f ≡ f → Stands f
+  halves : linksFrom ≤ f → f < linksEnd → isLink f ≡ true → rowWord f ≡ linksFrom + (f - linksFrom) / 2 → Stands f
+  behind : linksEnd ≤ f → isLink f ≡ false → rowWord f ≡ f - (linksEnd - linksFrom) / 2 → Stands f
+
+stands : (f : ℕ) → Stands f
+unfolding rowWord if_then_else_
+stands f =
+    cases (ltb f linksFrom)
+    (λ a. let l : f < linksFrom = ltb-true f linksFrom a in before l (rw (lt-leb linksFrom f l) refl) (rw a refl))
+    (λ a.
+    let l : linksFrom ≤ f = ltb-false f linksFrom a in
+    cases (ltb f linksEnd)
+    (λ b. halves l (ltb-true f linksEnd b) (rw (le-leb linksFrom f l, b) refl) (rw (a, b) refl))
+    (λ b. behind (ltb-false f linksEnd b) (rw (le-leb linksFrom f l, b) refl) (rw (a, b) refl)))
+
+-- two in one are links, one of them the lower half
+record Paired (f g : ℕ) : Type 0 where
+  one : isLink f ≡ true
+  two : isLink g ≡ true
+  halves : (f % 2 ≡ 0 → g % 2 ≡ 0 → ⊥) × ((f % 2 ≡ 0 → ⊥) → (g % 2 ≡ 0 → ⊥) → ⊥)
+
+paired : (f g : ℕ) → rowWord g ≡ rowWord f → (g ≡ f → ⊥) → Paired f g
+paired f g e n = go (stands f) (stands g)
+  where
+    go : Stands f → Stands g → Paired f g
+    go (before l i r) (before m j s) = absurd (n (omega arith))
+    go (before l i r) (halves m k j s) = absurd (omega arith)
+    go (before l i r) (behind m j s) = absurd (omega arith)
+    go (halves l o i r) (before m j s) = absurd (omega arith)
+    go (halves l o i r) (halves m k j s) = record { one = i; two = j; halves = (λ a b. n (omega arith), λ a b. n (omega arith)) }
+    go (halves l o i r) (behind m j s) = absurd (omega arith)
+    go (behind l i r) (before m j s) = absurd (omega arith)
+    go (behind l i r) (halves m k j s) = absurd (omega arith)
+    go (behind l i r) (behind m j s) = absurd (n (omega arith))
+
+row-inside : (f : ℕ) → f < placeWords → rowWord f < rowWords
+row-inside f l = go (stands f)
+  where
+    go : Stands f → rowWord f < rowWords
+    go (before m j s) = omega arith
+    go (halves m k j s) = omega arith
+    go (behind m j s) = omega arith
+
+-- ---- the two links of a word
+-- what is stored is there, if there is room for it
+pub part-same : (f w v : ℕ) → Holds f v → partOf f (withPart f w v) ≡ v
+unfolding partOf withPart if_then_else_
+part-same f w v h =
+    cases (isLink f)
+    (λ l. let i : v < linkLimit = h l in cases (isLower f) (λ e. rw (l, e) (omega arith)) (λ e. rw (l, e) (omega arith)))
+    (λ l. rw l refl)
+
+module _ (f g w : ℕ) (e : rowWord g ≡ rowWord f) (n : g ≡ f → ⊥) where
+  -- the other link stays
+  pub part-other : (v : ℕ) → partOf g (withPart f w v) ≡ partOf g w
+  unfolding partOf withPart if_then_else_
+  part-other v =
+      let p = paired f g e n in
+      cases (isLower f)
+      (λ a. cases (isLower g)
+      (λ b. absurd (p .halves .0 (eqb-true (f % 2) 0 a) (eqb-true (g % 2) 0 b)))
+      (λ b. rw (p .one, p .two, a, b) (omega arith)))
+      (λ a. cases (isLower g)
+      (λ b. rw (p .one, p .two, a, b) (omega arith))
+      (λ b. absurd (p .halves .1 (eqb-false (f % 2) 0 a) (eqb-false (g % 2) 0 b))))
+
+  -- and the two can be stored in either order
+  part-swap : (v x : ℕ) → withPart g (withPart f w v) x ≡ withPart f (withPart g w x) v
+  unfolding withPart if_then_else_
+  part-swap v x =
+      let p = paired f g e n in
+      cases (isLower f)
+      (λ a. cases (isLower g)
+      (λ b. absurd (p .halves .0 (eqb-true (f % 2) 0 a) (eqb-true (g % 2) 0 b)))
+      (λ b. rw (p .one, p .two, a, b) (omega arith)))
+      (λ a. cases (isLower g)
+      (λ b. rw (p .one, p .two, a, b) (omega arith))
+      (λ b. absurd (p .halves .1 (eqb-false (f % 2) 0 a) (eqb-false (g % 2) 0 b))))
+
+-- to store what is there changes nothing
+part-kept : (f w : ℕ) → withPart f w (partOf f w) ≡ w
+unfolding partOf withPart if_then_else_
+part-kept f w =
+    cases (isLink f)
+    (λ l. cases (isLower f) (λ e. rw (l, e) (omega arith)) (λ e. rw (l, e) (omega arith)))
+    (λ l. rw l refl)
+
+-- the second store is all that is left
+part-again : (f w v x : ℕ) → withPart f (withPart f w v) x ≡ withPart f w x
+unfolding withPart if_then_else_
+part-again f w v x =
+    cases (isLink f)
+    (λ l. cases (isLower f) (λ e. rw (l, e) (omega arith)) (λ e. rw (l, e) (omega arith)))
+    (λ l. rw l refl)
+
+part-zero : (f : ℕ) → partOf f 0 ≡ 0
+unfolding partOf if_then_else_
+part-zero f = cases (isLink f) (λ l. cases (isLower f) (λ e. rw (l, e) refl) (λ e. rw (l, e) refl)) (λ l. rw l refl)
 
 -- ---- where words stand
 -- those of each place are there
@@ -20,77 +121,113 @@ has-word p f l b = rw (lt-ltb p tablePlaces l, lt-ltb f placeWords b)
 
 -- of a word that there is
 module _ (p f : ℕ) (e : hasWord p f ≡ true) where
-  index-inside : indexOf p f < tableWords
+  pub index-inside : indexOf p f < tableWords
   unfolding hasWord indexOf
   index-inside =
       both (ltb p tablePlaces) (ltb f placeWords) e λ a b.
       let l : p < tablePlaces = ltb-true p tablePlaces a in
-      let m : f < placeWords = ltb-true f placeWords b in
+      let m : rowWord f < rowWords = row-inside f (ltb-true f placeWords b) in
       omega arith
 
-  -- no two words stand in one
-  index-own : (q g : ℕ) → hasWord q g ≡ true → indexOf q g ≡ indexOf p f → (q ≡ p) × (g ≡ f)
+  -- no two places have a word in one
+  index-own : (q g : ℕ) → hasWord q g ≡ true → indexOf q g ≡ indexOf p f → (q ≡ p) × (rowWord g ≡ rowWord f)
   unfolding hasWord indexOf
   index-own q g d i =
       both (ltb p tablePlaces) (ltb f placeWords) e λ a b.
       both (ltb q tablePlaces) (ltb g placeWords) d λ c h.
-      let l : f < placeWords = ltb-true f placeWords b in
-      let m : g < placeWords = ltb-true g placeWords h in
+      let l : rowWord f < rowWords = row-inside f (ltb-true f placeWords b) in
+      let m : rowWord g < rowWords = row-inside g (ltb-true g placeWords h) in
       (omega arith, omega arith)
 
 -- ---- one store
-set-keeps : (P : ℕ → Type 0) (l : List ℕ) (i j v : ℕ) → (j ≡ i → P v) → P (getD l j 0) → P (getD (set l i v) j 0)
-set-keeps P [] i j v h g = g
-set-keeps P (x ∷ xs) zero zero v h g = h refl
-set-keeps P (x ∷ xs) zero (suc j) v h g = g
-set-keeps P (x ∷ xs) (suc i) zero v h g = g
-set-keeps P (x ∷ xs) (suc i) (suc j) v h g = set-keeps P xs i j v (λ e. h (ap suc e)) g
+set-at : (P : ℕ → Type 0) (l : List ℕ) (i v : ℕ) → P v → P (getD l i 0) → P (getD (set l i v) i 0)
+set-at P [] i v h g = g
+set-at P (x ∷ xs) zero v h g = h
+set-at P (x ∷ xs) (suc i) v h g = set-at P xs i v h g
 
--- what is true of a word before a store, and of what is stored if it is stored there, is true of the word afterwards
-pub word-keeps : (P : ℕ → Type 0) (t : List ℕ) (p f v q g : ℕ) → (q ≡ p → g ≡ f → P v) → P (word t q g) → P (word (withWord t p f v) q g)
+keeps : (P : ℕ → Type 0) (t : List ℕ) (p f v q g : ℕ) → (q ≡ p → g ≡ f → P (partOf f (withPart f (getD t (indexOf p f) 0) v))) → P (word t q g)
+    → P (word (withWord t p f v) q g)
 unfolding word withWord if_then_else_
-word-keeps P t p f v q g h k =
+keeps P t p f v q g h k =
+    let i : ℕ = indexOf p f in
+    let j : ℕ = indexOf q g in
+    let x : ℕ = withPart f (getD t i 0) v in
     cases (hasWord p f)
     (λ a. cases (hasWord q g)
-    (λ b. rw (a, b) (set-keeps P t (indexOf p f) (indexOf q g) v (λ i. let (x, y) = index-own p f a q g b i in h x y) (rw b at k)))
+    (λ b. let k′ : P (partOf g (getD t j 0)) = rw b at k in
+    rw (a, b) (cases (eqb j i)
+    (λ c.
+    let d : j ≡ i = eqb-true j i c in
+    let (y, z) = index-own p f a q g b d in
+    let k″ : P (partOf g (getD t i 0)) = rw d at k′ in
+    rw d (set-at (λ u. P (partOf g u)) t i x
+    (cases (eqb g f)
+    (λ o. let w : g ≡ f = eqb-true g f o in rw w (h y w))
+    (λ o. rw (part-other f g (getD t i 0) z (eqb-false g f o) v) k″))
+    k″))
+    (λ c. rw (getD-set-other t i j x 0 (eqb-false j i c)) k′)))
     (λ b. rw b (rw b at k)))
     (λ a. rw a k)
 
--- a store to another word leaves a word
+-- what is true of a word before a store, and of what is stored if it is stored there, is true of the word afterwards
+pub word-keeps : (P : ℕ → Type 0) (t : List ℕ) (p f v q g : ℕ) → Holds f v → (q ≡ p → g ≡ f → P v) → P (word t q g) → P (word (withWord t p f v) q g)
+word-keeps P t p f v q g r h = keeps P t p f v q g (λ x y. rw (part-same f (getD t (indexOf p f) 0) v r) (h x y))
+
+-- a store to another word leaves a word, the other link in the same word of its row too
 pub word-other : (t : List ℕ) (p f v q g : ℕ) → (q ≡ p → g ≡ f → ⊥) → word (withWord t p f v) q g ≡ word t q g
-word-other t p f v q g n = word-keeps (λ u. u ≡ word t q g) t p f v q g (λ x y. absurd (n x y)) refl
+word-other t p f v q g n = keeps (λ u. u ≡ word t q g) t p f v q g (λ x y. absurd (n x y)) refl
 
 -- what is stored is there
-pub word-same : (t : List ℕ) (p f v : ℕ) → IsTable t → IsRow p → f < placeWords → word (withWord t p f v) p f ≡ v
+pub word-same : (t : List ℕ) (p f v : ℕ) → IsTable t → IsRow p → f < placeWords → Holds f v → word (withWord t p f v) p f ≡ v
 unfolding word withWord if_then_else_
-word-same t p f v n l b =
+word-same t p f v n l b r =
     let e : hasWord p f ≡ true = has-word p f l b in
     let i : indexOf p f < length t = omega (arith, index-inside p f e) in
-    rw e (getD-set-same t (indexOf p f) v 0 i)
+    rw (e, getD-set-same t (indexOf p f) (withPart f (getD t (indexOf p f) 0) v) 0 i) (part-same f (getD t (indexOf p f) 0) v r)
 
 -- a table stays as long as it is
 pub length-with : (t : List ℕ) (p f v : ℕ) → length (withWord t p f v) ≡ length t
 unfolding withWord if_then_else_
-length-with t p f v = cases (hasWord p f) (λ a. rw a (length-set t (indexOf p f) v)) (λ a. rw a refl)
+length-with t p f v = cases (hasWord p f) (λ a. rw a (length-set t (indexOf p f) (withPart f (getD t (indexOf p f) 0) v))) (λ a. rw a refl)
 
 -- to store what is there changes nothing
 pub with-word : (t : List ℕ) (p f : ℕ) → withWord t p f (word t p f) ≡ t
 unfolding word withWord if_then_else_
-with-word t p f = cases (hasWord p f) (λ a. rw a (set-getD t (indexOf p f) 0)) (λ a. rw a refl)
+with-word t p f = cases (hasWord p f) (λ a. rw (a, part-kept f (getD t (indexOf p f) 0)) (set-getD t (indexOf p f) 0)) (λ a. rw a refl)
 
 -- ---- two stores
+-- two to one word of the table are the second, of what the first left
+twice : (t : List ℕ) (i f g v w : ℕ) → set (set t i (withPart f (getD t i 0) v)) i (withPart g (getD (set t i (withPart f (getD t i 0) v)) i 0) w)
+    ≡ set t i (withPart g (withPart f (getD t i 0) v) w)
+twice [] i f g v w = refl
+twice (x ∷ xs) zero f g v w = refl
+twice (x ∷ xs) (suc i) f g v w = ap (λ l. x ∷ l) (twice xs i f g v w)
+
 -- the second to the same word is all that is left
 pub with-again : (t : List ℕ) (p f v w : ℕ) → withWord (withWord t p f v) p f w ≡ withWord t p f w
 unfolding withWord if_then_else_
-with-again t p f v w = cases (hasWord p f) (λ a. rw a (set-set t (indexOf p f) v w)) (λ a. rw a refl)
+with-again t p f v w =
+    let i : ℕ = indexOf p f in
+    cases (hasWord p f) (λ a. rw a (twice t i f f v w ∙ ap (set t i) (part-again f (getD t i 0) v w))) (λ a. rw a refl)
 
 -- to different words they can be made in either order
 pub with-swap : (t : List ℕ) (p f q g v w : ℕ) → (q ≡ p → g ≡ f → ⊥) → withWord (withWord t p f v) q g w ≡ withWord (withWord t q g w) p f v
 unfolding withWord if_then_else_
 with-swap t p f q g v w n =
+    let i : ℕ = indexOf p f in
+    let j : ℕ = indexOf q g in
+    let x : ℕ = withPart f (getD t i 0) v in
+    let y : ℕ = withPart g (getD t j 0) w in
     cases (hasWord p f)
     (λ a. cases (hasWord q g)
-    (λ b. rw (a, b) (set-comm t (indexOf p f) (indexOf q g) v w (λ i. let (x, y) = index-own q g b p f a i in n (omega arith) (omega arith))))
+    (λ b. rw (a, b) (cases (eqb j i)
+    (λ c.
+    let d : j ≡ i = eqb-true j i c in
+    let (h, z) = index-own p f a q g b d in
+    rw d (twice t i f g v w ∙ ap (set t i) (part-swap f g (getD t i 0) z (n h) v w) ∙ sym (twice t i g f w v)))
+    (λ c.
+    let o : j ≡ i → ⊥ = eqb-false j i c in
+    rw (getD-set-other t i j x 0 o, getD-set-other t j i y 0 (λ d. o (sym d))) (set-comm t i j x y (λ d. o (sym d))))))
     (λ b. rw (a, b) refl))
     (λ a. rw a refl)
 
@@ -107,4 +244,4 @@ zero-at (suc n) (suc i) = zero-at n i
 -- each word of it is zero
 pub word-zero : (p f : ℕ) → word zeros p f ≡ 0
 unfolding word zeros if_then_else_
-word-zero p f = cases (hasWord p f) (λ a. rw a (zero-at tableWords (indexOf p f))) (λ a. rw a refl)
+word-zero p f = cases (hasWord p f) (λ a. rw (a, zero-at tableWords (indexOf p f)) (part-zero f)) (λ a. rw a refl)

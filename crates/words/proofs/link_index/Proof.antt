@@ -1,0 +1,15 @@
+-- `link_index`: links stand two by two.
+use borrow.Author.Needs.{needs}
+use Rattle.words.proofs.Index.{link-from, link-end, index-link}
+use Rattle.words.proofs.link_index.Statement.{statement}
+use Rattle.words.proofs.link_index.Tie as tie
+
+pub link-index-spec : {M : Type 1} → statement M
+link-index-spec =
+    tie.close
+    (tie.spec
+    (λ c. search needs)
+    (λ c. search needs)
+    (λ c. search (link-from, needs))
+    (λ c. search (link-end, needs))
+    (λ c. index-link _ _ (search needs) (search needs)))
