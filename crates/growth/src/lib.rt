@@ -28,7 +28,7 @@ fn enter(place: usize, code: u32, child: usize, table: &mut [u32])
     let slot = search::seek(place, code, child, table);
     let at = slot.place;
     let field = slot.field;
-    words::set(table, at, field, child as u32);
+    words::set_link(table, at, field, child);
 }
 
 // The link to a new last child: from the place where it is the first, else from the last before it.
@@ -36,11 +36,11 @@ fn link(place: usize, child: usize, table: &mut [u32])
     requires { ⌜ IsRow place × IsRow child × IsTable (now table) × IsRow (word (now table) place lastWord) ⌝ }
     ensures { λ _. ⌜ now (table .exit) ≡ linked place child (now (table .entry)) ⌝ }
 {
-    if words::get(table, place, places::FIRST) == 0 {
-        words::set(table, place, places::FIRST, child as u32);
+    if words::link(table, place, places::FIRST) == 0 {
+        words::set_link(table, place, places::FIRST, child);
     } else {
-        let last = words::get(table, place, places::LAST) as usize;
-        words::set(table, last, places::NEXT, child as u32);
+        let last = words::link(table, place, places::LAST);
+        words::set_link(table, last, places::NEXT, child);
     }
 }
 
@@ -49,7 +49,7 @@ fn describe(place: usize, code: u32, name: Name, child: usize, table: &mut [u32]
     requires { ⌜ IsRow place × IsRow child × IsTable (now table) ⌝ }
     ensures { λ _. ⌜ now (table .exit) ≡ described place code name child (now (table .entry)) ⌝ }
 {
-    words::set(table, child, places::PARENT, place as u32);
+    words::set_link(table, child, places::PARENT, place);
     words::set(table, child, places::STEP, code);
     words::set(table, child, places::NAME, shapes::packed(name));
 }
@@ -60,7 +60,7 @@ fn append(place: usize, code: u32, name: Name, child: usize, table: &mut [u32])
     ensures { λ _. ⌜ now (table .exit) ≡ appended place code name child (now (table .entry)) ⌝ }
 {
     link(place, child, table);
-    words::set(table, place, places::LAST, child as u32);
+    words::set_link(table, place, places::LAST, child);
     describe(place, code, name, child, table);
 }
 
@@ -215,7 +215,7 @@ fn make_positions(
     requires { ⌜ Ready (now text) (now table) count place ⌝ }
     ensures { λ r. ⌜ MadeAs text table r (positionsMade (now (text .entry)) place positions count (now (table .entry))) ⌝ }
 {
-    if words::get(table, place, places::FIRST) != 0 {
+    if words::link(table, place, places::FIRST) != 0 {
         return seek_positions(text, place, positions, count, table);
     }
     let mut i: u16 = 0;
@@ -229,7 +229,7 @@ fn make_positions(
         places += 1;
         i += 1;
     }
-    words::set(table, place, places::BLOCK, positions as u32);
+    words::set_link(table, place, places::BLOCK, positions as usize);
     Made::Places(places)
 }
 

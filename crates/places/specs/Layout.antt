@@ -9,69 +9,69 @@ use Rattle.words.specs.Word.{word, IsTable, IsRow}
 use Rattle.model.specs.Tracing.{placeLimit}
 use Rattle.shapes.specs.Steps.{fieldCode, unpackedName, Inside}
 
--- a place's own words: kind, whether null was seen, samples, first and last child
+-- a place's own words: kind, whether null was seen, samples; and as links, its first and last child. Those before are free.
 abbrev pub kindWord : ℕ
-kindWord = 0
+kindWord = 3
 
 abbrev pub nullWord : ℕ
-nullWord = 1
+nullWord = 4
 
 abbrev pub samplesWord : ℕ
-samplesWord = 2
+samplesWord = 5
 
 abbrev pub firstWord : ℕ
-firstWord = 3
+firstWord = 6
 
 abbrev pub lastWord : ℕ
-lastWord = 4
+lastWord = 7
 
 -- and, once its children are put in order, the first of them
 abbrev pub orderedFirstWord : ℕ
-orderedFirstWord = 5
+orderedFirstWord = 8
 
 -- before that: the root of the search tree of its numbered children (Numbered)
 abbrev pub rootWord : ℕ
-rootWord = 5
+rootWord = 8
 
 -- how many positions stand in a block: its first so many children are positions 0, 1, 2, .., each with the place number
 -- after the one before
 abbrev pub blockWord : ℕ
-blockWord = 6
+blockWord = 9
 
--- its words as a child: next child, parent, step, name, how many samples held it, the last of them
-abbrev pub nextWord : ℕ
-nextWord = 8
-
-abbrev pub parentWord : ℕ
-parentWord = 9
-
-abbrev pub stepWord : ℕ
-stepWord = 10
-
-abbrev pub nameWord : ℕ
-nameWord = 11
-
-abbrev pub heldWord : ℕ
-heldWord = 12
-
-abbrev pub markWord : ℕ
-markWord = 13
-
--- and, once it is put in order, the next of its siblings
-abbrev pub orderedNextWord : ℕ
-orderedNextWord = 14
-
--- its links in the search tree of its parent's numbered children, by a bit of its code; the right one stands where the
--- next in order stands later
+-- From here on, its words as a child, which whoever reads its parent's parts writes: its links in the search tree of the
+-- parent's numbered children, by a bit of its code.
 abbrev pub leftWord : ℕ
-leftWord = 7
+leftWord = 10
 
 abbrev pub rightWord : ℕ
-rightWord = 14
+rightWord = 11
 
--- the tag of its name, of which equal names have the same
+-- and, where the right link stood, once it is put in order, the next of its siblings
+abbrev pub orderedNextWord : ℕ
+orderedNextWord = 11
+
+-- next child and parent, as links; step, name, how many samples held it, the last of them
+abbrev pub nextWord : ℕ
+nextWord = 12
+
+abbrev pub parentWord : ℕ
+parentWord = 13
+
+abbrev pub stepWord : ℕ
+stepWord = 14
+
+abbrev pub nameWord : ℕ
+nameWord = 15
+
+abbrev pub heldWord : ℕ
+heldWord = 16
+
+abbrev pub markWord : ℕ
+markWord = 17
+
+-- the tag of its name, of which equal names have the same. The word behind is free.
 abbrev pub tagWord : ℕ
-tagWord = 15
+tagWord = 18
 
 -- the root's number; no place has it as a child, so that as a link it stands for none
 abbrev pub rootPlace : ℕ

@@ -62,7 +62,7 @@ pub fn past_same(commands: &[u8], at: usize, place: usize, table: &[u32]) -> usi
     requires { ⌜ IsRow place × IsTable (now table) × IsRow (word (now table) place firstWord) ⌝ }
     ensures { λ r. ⌜ r ≡ pastSame (now (commands .entry)) at place (now (table .entry)) ⌝ }
 {
-    let child = words::get(table, place, places::FIRST) as usize;
+    let child = words::link(table, place, places::FIRST);
     if !is_held(place, child, table) {
         return at;
     }

@@ -14,7 +14,7 @@ fn print_number(n: u32, after: &[u8]) {
 fn print_place(table: &[u32], place: usize)
     requires { ⌜ IsTable (now table) × IsRow place ⌝ }
 {
-    print_number(words::get(table, place, places::PARENT), b" ");
+    print_number(words::link(table, place, places::PARENT) as u32, b" ");
     print_number(words::get(table, place, places::STEP), b" ");
     print_number(words::get(table, place, places::KIND), b" ");
     print_number(words::get(table, place, places::NULL), b" ");

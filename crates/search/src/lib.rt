@@ -3,13 +3,13 @@
 ghost use mathlib.Core.Path.{_≡_};
 ghost use Prim.Native.Nat.{ℕ, _<_, _≤_};
 ghost use Rattle.model.specs.Tracing.{placeLimit};
-ghost use Rattle.words.specs.Word.{placeWords, word, IsTable, IsRow};
+ghost use Rattle.words.specs.Word.{word, IsTable, IsRow, isLink};
 ghost use Rattle.text.specs.Name.{bytesOf, tagOf};
 ghost use Rattle.shapes.specs.Steps.{fieldCode, codeOf, noName, Inside};
 ghost use Rattle.places.specs.Layout.{Tagged, Ready, firstWord, nextWord};
 ghost use Rattle.search.specs.Tree.{isNumbered, sideWord, follow, seek};
 ghost use Rattle.search.specs.Search.{Comparable, isAt, Past, findIn, inBlock, childAt};
-ghost use mathlib.Core.Bool.{_&&_};
+ghost use mathlib.Core.Bool.{true, _&&_};
 use shapes::Step;
 use text::Name;
 
@@ -26,7 +26,7 @@ fn past_others(tag: u32, child: usize, table: &[u32]) -> usize
             return here;
         }
         let following = here + 1;
-        if (words::get(table, here, places::NEXT) as usize) != following {
+        if words::link(table, here, places::NEXT) != following {
             return here;
         }
         here = following;
@@ -55,13 +55,13 @@ pub fn find_field(text: &[u8], place: usize, name: Name, count: usize, table: &[
     ensures { λ r. ⌜ (r ≡ findIn (now (text .entry)) place fieldCode name (now (table .entry))) × (r < count) ⌝ }
 {
     let tag = name.tag(text);
-    let mut child = words::get(table, place, places::FIRST) as usize;
+    let mut child = words::link(table, place, places::FIRST);
     while child != 0 {
         let here = past_others(tag, child, table);
         if is_field(text, name, tag, here, table) {
             return here;
         }
-        child = words::get(table, here, places::NEXT) as usize;
+        child = words::link(table, here, places::NEXT);
     }
     0
 }
@@ -71,12 +71,12 @@ fn find(text: &[u8], place: usize, code: u32, count: usize, table: &[u32]) -> us
     requires { ⌜ Ready (now text) (now table) count place × (code ≡ fieldCode → ⊥) ⌝ }
     ensures { λ r. ⌜ (r ≡ findIn (now (text .entry)) place code noName (now (table .entry))) × (r < count) ⌝ }
 {
-    let mut child = words::get(table, place, places::FIRST) as usize;
+    let mut child = words::link(table, place, places::FIRST);
     while child != 0 {
         if words::get(table, child, places::STEP) == code {
             return child;
         }
-        child = words::get(table, child, places::NEXT) as usize;
+        child = words::link(table, child, places::NEXT);
     }
     0
 }
@@ -90,10 +90,10 @@ pub fn is_numbered(code: u32) -> bool
 
 // The child that a link of the search tree leads to, or 0. Links lead to places with higher numbers: none other is followed.
 fn follow(place: usize, field: usize, count: usize, table: &[u32]) -> usize
-    requires { ⌜ IsRow place × (field < placeWords) × IsTable (now table) ⌝ }
+    requires { ⌜ IsRow place × (isLink field ≡ true) × IsTable (now table) ⌝ }
     ensures { λ r. ⌜ r ≡ follow place field count (now (table .entry)) ⌝ }
 {
-    let link = words::get(table, place, field) as usize;
+    let link = words::link(table, place, field);
     if link <= place {
         return 0;
     }
@@ -105,7 +105,7 @@ fn follow(place: usize, field: usize, count: usize, table: &[u32]) -> usize
 
 // The link of a child by the lowest bit.
 fn side(bits: u32) -> usize
-    ensures { λ r. ⌜ (r ≡ sideWord bits) × (r < placeWords) ⌝ }
+    ensures { λ r. ⌜ (r ≡ sideWord bits) × (isLink r ≡ true) ⌝ }
 {
     if bits % 2 == 0 {
         return places::LEFT;
@@ -163,8 +163,8 @@ fn is_in_block(place: usize, i: u16, count: usize, table: &[u32]) -> bool
     requires { ⌜ IsTable (now table) × IsRow place × IsRow (word (now table) place firstWord) ⌝ }
     ensures { λ r. ⌜ r ≡ inBlock place i count (now (table .entry)) ⌝ }
 {
-    (i as u32) < words::get(table, place, places::BLOCK)
-        && (words::get(table, place, places::FIRST) as usize) + (i as usize) < count
+    (i as usize) < words::link(table, place, places::BLOCK)
+        && words::link(table, place, places::FIRST) + (i as usize) < count
 }
 
 // The child of a place at a step that is no field, or 0: a position in the block stands by its number, any other numbered
@@ -181,7 +181,7 @@ pub fn child_at(text: &[u8], place: usize, step: Step, count: usize, table: &[u3
         return find_numbered(place, code, count, table);
     };
     if is_in_block(place, i, count, table) {
-        return (words::get(table, place, places::FIRST) as usize) + (i as usize);
+        return words::link(table, place, places::FIRST) + (i as usize);
     }
     find_numbered(place, code, count, table)
 }

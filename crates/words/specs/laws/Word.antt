@@ -169,9 +169,9 @@ keeps P t p f v q g h k =
     (λ b. rw b (rw b at k)))
     (λ a. rw a k)
 
--- what is true of a word before a store, and of what is stored if it is stored there, is true of the word afterwards
-pub word-keeps : (P : ℕ → Type 0) (t : List ℕ) (p f v q g : ℕ) → Holds f v → (q ≡ p → g ≡ f → P v) → P (word t q g) → P (word (withWord t p f v) q g)
-word-keeps P t p f v q g r h = keeps P t p f v q g (λ x y. rw (part-same f (getD t (indexOf p f) 0) v r) (h x y))
+-- what is true of a word before a store, and of what is stored if it is stored there, and has room, is true of the word afterwards
+pub word-keeps : (P : ℕ → Type 0) (t : List ℕ) (p f v q g : ℕ) → (q ≡ p → g ≡ f → Holds g v × P v) → P (word t q g) → P (word (withWord t p f v) q g)
+word-keeps P t p f v q g h = keeps P t p f v q g (λ x y. let (r, k) = h x y in rw (part-same f (getD t (indexOf p f) 0) v (rw y at r)) k)
 
 -- a store to another word leaves a word, the other link in the same word of its row too
 pub word-other : (t : List ℕ) (p f v q g : ℕ) → (q ≡ p → g ≡ f → ⊥) → word (withWord t p f v) q g ≡ word t q g
