@@ -1,15 +1,21 @@
-"""Batches for `samples_vectors`, and the places that tracing them must give, as the account has them (../account):
+"""Batches for `samples_vectors`, and the places that tracing them must leave, as the account has them (../account):
 
     python3 vectors/places.py
 
 Writes crates/samples_vectors/data/batches.bin (a batch is the options word, the lengths of commands and text, each of
-two bytes, low byte first, then both) and crates/samples_vectors/stdout (a batch is `refused NUMBER PLACE`, or `places
-COUNT` and a line for each place: parent, step, kind, null, samples, held; the last line is how many bytes batches.bin
-has).
+two bytes, low byte first, then both) and crates/samples_vectors/stdout. There a batch is `places COUNT` and a line for
+each place, behind `refused NUMBER PLACE` where tracing is refused: then the places are those of the tree as it stands
+half-traced. A line is the place's words, the two links of one word with a slash between them, the name as the offset
+and the length of where the text first gave it:
+
+    KIND NULL SAMPLES FIRST/LAST ROOT/BLOCK LEFT/RIGHT NEXT/PARENT STEP OFFSET+LENGTH HELD MARK TAG
+
+The last line is how many bytes batches.bin has.
 """
 
 import random
 import sys
+from dataclasses import dataclass
 
 import batches
 import published
@@ -22,16 +28,26 @@ LONGEST = 250
 sys.path.insert(0, str(TOP))
 from account import kinds  # noqa: E402
 from account.commands import read  # noqa: E402
+from account.datatype import NULL  # noqa: E402
 from account.options import Options  # noqa: E402
-from account.places import trace  # noqa: E402
+from account.places import Place, Tracer  # noqa: E402
 from account.refusal import Refused  # noqa: E402
 
 # a tuple whose last position would be the 1,025th place
 TOO_MANY_PLACES = (0, bytes([0x13, 0x00, 0x04]), b"")
 
+# a short one to read: two records with a struct and an enum, refused at the last value, a text where a number stood
+HALFWAY = (0, bytes.fromhex(
+    "15 16 00000200 08 16 02000300 15 16 05000100 0B 16 06000100 0B 17 16 07000400 18 0000 0B000400 17"
+    "15 16 00000200 08 16 07000400 18 0100 0F000400 16 02000300 15 16 05000100 0B 16 06000100 0D 05000200"
+), b"idposxymodesailmoor")
+
 # how the tracer's words have a kind, and a step: positions and variants go by turns
 KINDS = {kinds.SEQUENCE: 22, kinds.STRUCT: 24, kinds.MAP: 25, kinds.UNION: 26, kinds.TUPLE: 27, kinds.MAP_MODE: 28}
 STEPS = {"element": 0, "key": 1, "value": 2, "field": 3}
+
+# how many bytes behind a command's first the name stands that it gives to the place at a step
+NAME_BEHIND = {"field": 1, "variant": 3}
 
 
 def step_code(step):
@@ -42,24 +58,132 @@ def step_code(step):
     return STEPS[step.to]
 
 
-def lines_of(tracer):
-    """A line for each place, in the order in which they were made. The root has itself for its parent, and step 0."""
-    above = {id(tracer.root): (0, 0)}
-    lines = [f"places {len(tracer.places)}"]
-    for number, place in enumerate(tracer.places):
-        above.update((id(child), (number, step_code(step))) for step, child in place.children.items())
-        parent, step = above[id(place)]
-        kind = KINDS.get(place.kind, place.kind)
-        lines.append(f"{parent} {step} {kind} {int(place.null)} {place.samples} {place.held}")
-    return lines
+def tag(name):
+    """The low byte of the length and the last three bytes, the last first; of a shorter name its length."""
+    if len(name) < 3:
+        return len(name)
+    return int.from_bytes([len(name) % 256, *reversed(name[-3:])], "little")
+
+
+@dataclass(slots=True, eq=False)
+class Child:
+    """What a place is to its parent: the words that the account's own place does not have."""
+    number: int
+    parent: Place
+    step: kinds.Step
+    offset: int = 0         # where the text first gave its name, and the name
+    name: bytes = b""
+    held: int = 0           # how many of the parent's samples hold it, the present one as soon as it does
+    mark: int = 0           # the number of the last that does
+
+
+class HalfTraced(Tracer):
+    """The account's tracer, and what it knows of each place at every command: also where it is refused at the next."""
+
+    def __init__(self, options, commands, text):
+        super().__init__(options)
+        self.commands, self.text = commands, text
+        self.as_child = {self.root: Child(0, self.root, kinds.ELEMENT)}     # it stands for itself, at step 0
+        self.announced = {}     # of a tuple that came to an unknown place: the positions that are to be made at once
+
+    def observe(self, place, value):
+        """The account counts a sample's parts, and marks null, behind a value's refusals; the tracer before them, for
+        the commands that say so stand before it."""
+        self.touch(place)
+        place.null |= value.null
+        if value.kind == kinds.TUPLE and place.kind == NULL:
+            self.announced[place] = value.positions
+        super().observe(place, value)
+
+    def touch(self, place):
+        child = self.as_child[place]
+        if place is not self.root and child.mark != child.parent.samples:
+            child.mark = child.parent.samples
+            child.held += 1
+
+    def child(self, place, step, name, at):
+        number = len(self.places)
+        child = super().child(place, step, name, at)
+        if number < len(self.places):
+            self.as_child[child] = Child(number, place, step, *self.given(step, at))
+        return child
+
+    def given(self, step, at):
+        """Where the text gives the name that stands in the command at that offset, and its bytes."""
+        if step.to not in NAME_BEHIND:
+            return 0, b""
+        operands = at + NAME_BEHIND[step.to]
+        offset, length = (int.from_bytes(self.commands[i:i + 2], "little") for i in (operands, operands + 2))
+        return offset, self.text[offset:offset + length]
+
+    # ---- the links
+
+    def numbers(self, place):
+        """The numbers of its children, in the order in which they were made."""
+        return [self.as_child[child].number for child in place.children.values()]
+
+    def together(self, place):
+        """How many of its children are positions that were made at once."""
+        return min(self.announced.get(place, 0), len(place.children))
+
+    def links(self):
+        """Of each place, by the links' names, where they lead; 0 is nowhere."""
+        links = [dict.fromkeys(("first", "last", "root", "block", "left", "right", "next"), 0) for _ in self.places]
+        for place, own in zip(self.places, links):
+            numbers = self.numbers(place)
+            if numbers:
+                own["first"], own["last"] = numbers[0], numbers[-1]
+            for number, following in zip(numbers, numbers[1:]):
+                links[number]["next"] = following
+            # positions made at once are a block, if there was room for all; other numbered children stand in a tree
+            if self.together(place) == self.announced.get(place):
+                own["block"] = self.together(place)
+            for number in numbers[self.together(place):]:
+                self.enter(links, own, number)
+        return links
+
+    def enter(self, links, own, number):
+        """A child in the tree of numbered children: at the first link that is free, where the bits of its number, the
+        lowest first, tell which link to take."""
+        step = self.as_child[self.places[number]].step
+        if step.to not in ("position", "variant"):
+            return
+        at, link, bits = own, "root", step_code(step) // 2
+        while at[link]:
+            at, link, bits = links[at[link]], ("left", "right")[bits % 2], bits // 2
+        at[link] = number
+
+    # ---- the lines
+
+    def lines(self):
+        return [f"places {len(self.places)}"] + [self.line(*both) for both in zip(self.places, self.links())]
+
+    def line(self, place, to):
+        child = self.as_child[place]
+        return " ".join(map(str, (
+            KINDS.get(place.kind, place.kind), int(place.null), place.samples,
+            f"{to['first']}/{to['last']}", f"{to['root']}/{to['block']}", f"{to['left']}/{to['right']}",
+            f"{to['next']}/{self.as_child[child.parent].number}", step_code(child.step),
+            f"{child.offset}+{len(child.name)}", child.held, child.mark, tag(child.name))))
 
 
 def expected(word, commands, text):
-    options = Options(word)
+    """The lines of a batch. Where all of it is traced, the account counts what is held too."""
+    tracer = HalfTraced(Options(word), commands, text)
+    reading = read(tracer.options, commands, text)
     try:
-        return lines_of(trace(options, read(options, commands, text)))
+        for record in reading.records:
+            tracer.observe(tracer.root, record)
     except Refused as refused:
-        return [f"refused {refused.number} {refused.place}"]
+        return refusal(refused) + tracer.lines()
+    if reading.stopped:
+        return refusal(reading.stopped) + tracer.lines()
+    assert all(place.held == tracer.as_child[place].held for place in tracer.places)
+    return tracer.lines()
+
+
+def refusal(refused):
+    return [f"refused {refused.number} {refused.place}"]
 
 
 def two(n):
@@ -84,7 +208,7 @@ def choose():
         elif len(said) < 4 and rng.random() < 0.7:
             continue
         chosen.append(batch)
-    return chosen, refused
+    return chosen + [HALFWAY], refused + 1
 
 
 def main():
