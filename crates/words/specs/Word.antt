@@ -1,7 +1,7 @@
 -- The part of the work table that is lent to the tracer, and the words of a place in it. How a word is found is said here alone: what
 -- stands above speaks of a place and a word of it, and goes by the laws.
 use mathlib.Core.Path.{_≡_}
-use mathlib.Core.Bool.{Bool, true, _&&_}
+use mathlib.Core.Bool.{Bool, false, _&&_}
 use mathlib.Core.List.{List}
 use Prim.Native.Nat.{ℕ, _+_, _-_, _*_, _/_, _%_, _^_, _<_}
 use lib.Dec.{eqb, leb, ltb}
@@ -46,9 +46,10 @@ isLink field = leb linksFrom field && ltb field linksEnd
 abbrev pub linkLimit : ℕ
 linkLimit = 2 ^ 16
 
--- there is room for a value: any in a whole word, and what a link can be in a link
-abbrev pub Holds : ℕ → ℕ → Type 0
-Holds field value = isLink field ≡ true → value < linkLimit
+-- there is room for a value: for any in a whole word, and for what a link can be in each
+pub data Holds (field value : ℕ) : Type 0 where
+  in-whole : isLink field ≡ false → Holds field value
+  in-each : value < linkLimit → Holds field value
 
 -- it has that word of that place
 unfoldable pub hasWord : ℕ → ℕ → Bool

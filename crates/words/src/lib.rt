@@ -57,7 +57,7 @@ pub fn set(table: &mut [u32], place: usize, field: usize, value: u32)
 // The link that is a half of a word.
 fn link_in(word: u32, field: usize) -> usize
     requires { ⌜ isLink field ≡ true ⌝ }
-    ensures { λ r. ⌜ r ≡ partOf field word ⌝ }
+    ensures { λ r. ⌜ (r ≡ partOf field word) × (r < linkLimit) ⌝ }
 {
     if field % 2 == 0 {
         (word % LINK_LIMIT) as usize
@@ -69,7 +69,7 @@ fn link_in(word: u32, field: usize) -> usize
 // A link of a place.
 pub fn link(table: &[u32], place: usize, field: usize) -> usize
     requires { ⌜ IsTable (now table) × IsRow place × (isLink field ≡ true) ⌝ }
-    ensures { λ r. ⌜ r ≡ word (now (table .entry)) place field ⌝ }
+    ensures { λ r. ⌜ (r ≡ word (now (table .entry)) place field) × (r < linkLimit) ⌝ }
 {
     link_in(table[link_index(place, field)], field)
 }

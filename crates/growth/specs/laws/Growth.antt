@@ -12,7 +12,7 @@ use Rattle.logic.specs.Test.{if_then_else_}
 use Rattle.logic.specs.laws.Test.{cases}
 use Rattle.logic.specs.laws.Flag.{if-either}
 use Rattle.text.specs.declared.Name.{Name}
-use Rattle.words.specs.Word.{word, withWord, IsRow, IsTable}
+use Rattle.words.specs.Word.{word, withWord, IsRow, IsTable, in-whole}
 use Rattle.words.specs.laws.Word.{word-same, word-other, length-with}
 use Rattle.refusal.specs.declared.Refusal.{Refusal}
 use Rattle.text.specs.Name.{bytesOf, eqName, tagOf}
@@ -133,14 +133,14 @@ module _ (text t : List ℕ) (n place : ℕ) (ready : Ready text t n place) (roo
     appended-name =
         let x : List ℕ = stepped place code n t in
         let l : IsTable x = rw (length-with, length-with, length-with, length-linked place n t) (links .room) in
-        word-same x n nameWord (packedName name) l room (omega arith)
+        word-same x n nameWord (packedName name) l room (omega arith) (in-whole refl)
 
     appended-step : word after n stepWord ≡ code
     unfolding described appended
     appended-step =
         let x : List ℕ = below place n t in
         let l : IsTable x = rw (length-with, length-with, length-linked place n t) (links .room) in
-        word-other (stepped place code n t) n nameWord (packedName name) n stepWord (λ e d. omega arith) ∙ word-same x n stepWord code l room (omega arith)
+        word-other (stepped place code n t) n nameWord (packedName name) n stepWord (λ e d. omega arith) ∙ word-same x n stepWord code l room (omega arith) (in-whole refl)
 
     appended-utf8 : isUtf8 (bytesOf text (unpackedName (word after n nameWord))) ≡ true
     appended-utf8 = rw (appended-name, packed-bytes text name h) (good .utf8)
@@ -168,7 +168,7 @@ module _ (text t : List ℕ) (n place : ℕ) (ready : Ready text t n place) (roo
         (λ q l. word-other after n tagWord tag q tagWord (λ e d. omega arith) ∙ kept q tagWord l (omega arith))
         (λ q l b. let o : q ≡ n = omega arith in rw (o, same n nameWord (omega arith)) appended-utf8)
         (λ q l b d. let o : q ≡ n = omega arith in rw (o, same n nameWord (omega arith), appended-name, packed-bytes text name h)
-        (word-same after n tagWord tag (linked-appended .room) room (omega arith))))
+        (word-same after n tagWord tag (linked-appended .room) room (omega arith) (in-whole refl))))
 
 -- ---- a child that is ensured, and children that are made
 

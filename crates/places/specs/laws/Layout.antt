@@ -8,7 +8,7 @@ use native.Mathlib.Omega.{arith}
 use borrow.Author.Tests.{ltb-true, ltb-false}
 use lib.Dec.{eqb, ltb}
 use Rattle.logic.specs.laws.Test.{cases}
-use Rattle.words.specs.Word.{IsTable, IsRow, word, withWord, zeros}
+use Rattle.words.specs.Word.{IsTable, IsRow, in-whole, in-each, word, withWord, zeros}
 use Rattle.words.specs.laws.Word.{word-keeps, word-other, length-with, zeros-table, word-zero}
 use Rattle.model.specs.Tracing.{placeLimit}
 use Rattle.text.specs.declared.Name.{Name}
@@ -29,11 +29,11 @@ linked-stored text t n m p w v s l k f a x i =
     record {
       most = k;
       room = rw length-with (s .room);
-      first = λ q h. word-keeps (λ u. u < m) t p w v q firstWord (λ e d. let b = f (sym d) in (λ _. omega arith, b)) (let g : word t q firstWord < n = s .first q h in omega arith);
-      last = λ q h. word-keeps (λ u. u < m) t p w v q lastWord (λ e d. let b = a (sym d) in (λ _. omega arith, b)) (let g : word t q lastWord < n = s .last q h in omega arith);
-      next = λ q h. word-keeps (λ u. u < m) t p w v q nextWord (λ e d. let b = x (sym d) .0 in (λ _. omega arith, b)) (let g : word t q nextWord < n = s .next q h in omega arith);
-      rises = λ q h. word-keeps (λ u. (u ≡ 0 → ⊥) → q < u) t p w v q nextWord (λ e d. let b = x (sym d) in (λ _. omega (arith, b .0), λ z. rw e (b .1))) (s .rises q h);
-      names = λ q h. word-keeps (λ u. Inside text (unpackedName u)) t p w v q nameWord (λ e d. (λ o. absurd (false≢true o), i (sym d))) (s .names q h);
+      first = λ q h. word-keeps (λ u. u < m) t p w v q firstWord (λ e d. let b = f (sym d) in (in-each (omega arith), b)) (let g : word t q firstWord < n = s .first q h in omega arith);
+      last = λ q h. word-keeps (λ u. u < m) t p w v q lastWord (λ e d. let b = a (sym d) in (in-each (omega arith), b)) (let g : word t q lastWord < n = s .last q h in omega arith);
+      next = λ q h. word-keeps (λ u. u < m) t p w v q nextWord (λ e d. let b = x (sym d) .0 in (in-each (omega arith), b)) (let g : word t q nextWord < n = s .next q h in omega arith);
+      rises = λ q h. word-keeps (λ u. (u ≡ 0 → ⊥) → q < u) t p w v q nextWord (λ e d. let b = x (sym d) in (in-each (omega (arith, b .0)), λ z. rw e (b .1))) (s .rises q h);
+      names = λ q h. word-keeps (λ u. Inside text (unpackedName u)) t p w v q nameWord (λ e d. (in-whole refl, i (sym d))) (s .names q h);
     }
 
 -- ---- and sound: the places that there were keep the words of their names, and new names are UTF-8 and have their tags

@@ -10,7 +10,6 @@ past-same-spec =
     tie.close
     (tie.spec
     (λ c κs. search needs)
-    (λ c. search needs)
     (λ c κs. search needs)
     (λ c. search (none-held, not-true, needs))
     (λ c κs. search needs)

@@ -12,4 +12,4 @@ link-spec =
     (λ c. search needs)
     (λ c. search needs)
     (λ c. search needs)
-    (λ c. search (link-at, needs)))
+    (λ c. (search (link-at, needs), search needs)))

@@ -10,5 +10,5 @@ link-in-spec =
     (tie.spec
     (λ c. search needs)
     (λ c. search needs)
-    (λ c. search (lower-part, needs))
-    (λ c. search (upper-part, needs)))
+    (λ c. (search (lower-part, needs), search needs))
+    (λ c. (search (upper-part, needs), search needs)))

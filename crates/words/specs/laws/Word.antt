@@ -10,7 +10,7 @@ use lib.ListN.{length, getD, set, replicate, length-set, length-replicate}
 use lib.Seq.{getD-set-same, getD-set-other, set-getD, set-comm}
 use Rattle.logic.specs.Test.{if_then_else_}
 use Rattle.logic.specs.laws.Test.{cases, both}
-use Rattle.words.specs.Word.{tablePlaces, placeWords, tableWords, rowWords, linksFrom, linksEnd, linkLimit, IsTable, IsRow, Holds, isLink, isLower, hasWord, rowWord, indexOf, partOf, withPart, word, withWord, zeros}
+use Rattle.words.specs.Word.{tablePlaces, placeWords, tableWords, rowWords, linksFrom, linksEnd, linkLimit, IsTable, IsRow, Holds, in-whole, in-each, isLink, isLower, hasWord, rowWord, indexOf, partOf, withPart, word, withWord, zeros}
 
 -- ---- the word of a row that a place's word is, or stands in
 data Stands (f : ℕ) : Type 0 where
@@ -61,9 +61,10 @@ row-inside f l = go (stands f)
 -- what is stored is there, if there is room for it
 pub part-same : (f w v : ℕ) → Holds f v → partOf f (withPart f w v) ≡ v
 unfolding partOf withPart if_then_else_
-part-same f w v h =
+part-same f w v (in-whole l) = rw l refl
+part-same f w v (in-each i) =
     cases (isLink f)
-    (λ l. let i : v < linkLimit = h l in cases (isLower f) (λ e. rw (l, e) (omega arith)) (λ e. rw (l, e) (omega arith)))
+    (λ l. cases (isLower f) (λ e. rw (l, e) (omega arith)) (λ e. rw (l, e) (omega arith)))
     (λ l. rw l refl)
 
 module _ (f g w : ℕ) (e : rowWord g ≡ rowWord f) (n : g ≡ f → ⊥) where

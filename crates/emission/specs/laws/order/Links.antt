@@ -250,7 +250,7 @@ module _ (text t u : List ℕ) (same : (q f : ℕ) → f < placeWords → (f ≡
   mutual
     still-says : (v : Spot) → Rep text t v → Rep text u v
     still-says (spot p b k m ks) r = (
-      (λ f l. same p (0 + f) (omega arith) (λ e. omega arith) (λ e. omega arith) ∙ r .0 f l),
+      (λ f l. same p (kindWord + f) (omega arith) (λ e. omega arith) (λ e. omega arith) ∙ r .0 f l),
       still-in p ks (r .1),
       same-block t u p ks
           (same p blockWord (omega arith) (λ e. omega arith) (λ e. omega arith)) (r .2),
@@ -262,7 +262,7 @@ module _ (text t u : List ℕ) (same : (q f : ℕ) → f < placeWords → (f ≡
         let c = r .0 in (
           record {
             name = c .name;
-            row = λ f l. same (num v) (8 + f) (omega arith) (λ e. omega arith) (λ e. omega arith)
+            row = λ f l. same (num v) (nextWord + f) (omega arith) (λ e. omega arith) (λ e. omega arith)
                 ∙ c .row f l;
             inside = c .inside;
             says = c .says;

@@ -23,7 +23,7 @@ use Rattle.leaves.specs.declared.Traced.the-variants as T
 use Rattle.reading.specs.Reading.{state, afterPart}
 use Rattle.samples.specs.Samples.{levelLimit, recordTurn, recordStop, recordsAt, fromSamples}
 use Rattle.leaves.specs.Leaves.{Out, out}
-use Rattle.places.specs.Layout.{rootWord, blockWord}
+use Rattle.places.specs.Layout.{kindWord, rootWord, blockWord}
 use Rattle.refine.specs.laws.numbered.Tree.{Spot, no-spots, num, newSpot, walkAll}
 use Rattle.refine.specs.laws.words.Places.{no-block, Fits}
 use Rattle.refine.specs.laws.words.Child.{zero-row}
@@ -62,7 +62,7 @@ batch-sim options commands text bytes (suc f) at n t u y e z h =
 -- a table of zeros says a tree of one unseen place
 begins : (text : List ℕ) → Fits text zeros 1 (newSpot 0)
 begins text = record {
-  rep = (zero-row zeros 0 0 5 (omega arith) (λ f i. word-zero 0 f), tt, no-block (word zeros 0 blockWord) no-spots (word-zero 0 blockWord));
+  rep = (zero-row zeros 0 kindWord 5 (omega arith) (λ f i. word-zero 0 f), tt, no-block (word zeros 0 blockWord) no-spots (word-zero 0 blockWord));
   good = (omega arith, refl, tt);
   room = zeros-table;
   most = omega arith;

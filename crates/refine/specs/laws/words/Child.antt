@@ -12,7 +12,7 @@ use Rattle.logic.specs.laws.Test.{cases}
 use Rattle.logic.specs.Turns.{turns, after}
 use Rattle.text.specs.declared.Name.{Name}
 use Rattle.text.specs.Name.{bytesOf, eqName}
-use Rattle.words.specs.Word.{placeWords, IsTable, word, withWord}
+use Rattle.words.specs.Word.{placeWords, linkLimit, IsTable, in-whole, in-each, word, withWord}
 use Rattle.words.specs.laws.Word.{word-same, word-other, length-with}
 use Rattle.model.specs.Kinds.{Step, position, same}
 use Rattle.model.specs.Tracing.{one, placeLimit, has, clashes}
@@ -156,7 +156,7 @@ module _ (text t t′ : List ℕ) (n p : ℕ) (s : Step) (cell : Cell text t′ 
       name = r .0 .name;
       row = λ f l. cases (eqb f 0)
           (λ e. let d : f ≡ 0 = eqb-true f 0 e in rw d (x (omega (arith, g .0))))
-          (λ e. let d = eqb-false f 0 e in w (num u) (8 + f) (omega arith) (has-num u no-spots) (λ _ a. d (omega arith)) ∙ r .0 .row f l ∙ other (r .0 .name) f l d);
+          (λ e. let d = eqb-false f 0 e in w (num u) (nextWord + f) (omega arith) (has-num u no-spots) (λ _ a. d (omega arith)) ∙ r .0 .row f l ∙ other (r .0 .name) f l d);
       inside = r .0 .inside;
       says = r .0 .says;
     },
@@ -204,14 +204,16 @@ record Linked (t t₀ : List ℕ) (n p : ℕ) (s : Step) (b : Bool) (k m : ℕ) 
 linked-is : (text t : List ℕ) (n p : ℕ) (s : Step) (b : Bool) (k m : ℕ) (ks : Spots) → Fits text t n (spot p b k m ks) → Linked t (joined p n t) n p s b k m ks
 unfolding addS if_then_else_
 linked-is text t n p s b k m no-spots h =
+    let short : n < linkLimit = omega (arith, h .most) in
     let e : word t p firstWord ≡ 0 = h .rep .0 3 (omega arith) in
     rw e (record {
       size = length-with t p firstWord n;
-      row = row-set t p 0 3 n (ownWords b k m no-spots) (h .room) (in-row text t n p b k m no-spots h) (omega arith) (omega arith) (h .rep .0);
+      row = row-set t p kindWord 3 n (ownWords b k m no-spots) (h .room) (in-row text t n p b k m no-spots h) (omega arith) (in-each short) (omega arith) (h .rep .0);
       link = λ d. absurd (d refl);
       rest = λ q f l d _. word-other t p firstWord n q f d;
     })
 linked-is text t n p s b k m (child r x y u ks) h =
+    let short : n < linkLimit = omega (arith, h .most) in
     let L : ℕ = lastFrom (num u) ks in
     let e : word t p firstWord ≡ num u = h .rep .0 3 (omega arith) in
     let e′ : word t p lastWord ≡ L = h .rep .0 4 (omega arith) in
@@ -220,8 +222,8 @@ linked-is text t n p s b k m (child r x y u ks) h =
     let j : (p ≡ L) → ⊥ = λ d. not-both (withinIn L (child r x y u ks)) z (rw d at (h .good .1)) in
     rw (e, e′, ne-eqb (num u) 0 (omega (arith, h .good .2 .0))) (record {
       size = length-with t L nextWord n;
-      row = row-other t p 0 L 8 n (ownWords b k m (child r x y u ks)) (λ g l d _. j d) (h .rep .0);
-      link = λ d. word-same t L nextWord n (h .room) (omega (arith, h .most)) (omega arith);
+      row = row-other t p kindWord L nextWord n (ownWords b k m (child r x y u ks)) (λ g l d _. j d) (h .rep .0);
+      link = λ d. word-same t L nextWord n (h .room) (omega (arith, h .most)) (omega arith) (in-each short);
       rest = λ q f l _ d. word-other t L nextWord n q f (λ w. d (rw w z) w);
     })
 
@@ -234,7 +236,7 @@ pub record Grown (text t : List ℕ) (n p : ℕ) (b : Bool) (k m : ℕ) (ks : Sp
   pub rep : Rep text t′ (spot p b k m (addS s n ks))
   pub good : Good (n + 1) (spot p b k m (addS s n ks))
   pub size : length t′ ≡ length t
-  pub words : (q f : ℕ) → q < n → f < placeWords → (q ≡ p → 5 ≤ f) → (withinIn q ks ≡ true → q ≡ lastFrom 0 ks → f ≡ nextWord → ⊥) → word t′ q f ≡ word t q f
+  pub words : (q f : ℕ) → q < n → f < placeWords → (q ≡ p → rootWord ≤ f) → (withinIn q ks ≡ true → q ≡ lastFrom 0 ks → f ≡ nextWord → ⊥) → word t′ q f ≡ word t q f
   pub root : word t′ n rootWord ≡ 0
   pub left : word t′ n leftWord ≡ 0
   pub right : word t′ n rightWord ≡ 0
@@ -273,9 +275,9 @@ append-grown text t n p x s b k m ks st far h i =
     let zeros₀ : (f : ℕ) → f < placeWords → word t₁ n f ≡ 0
     = λ f j. word-other t₀ p lastWord n n f (λ e _. omega arith) ∙ k₀ .rest n f j (λ d _. omega arith) (λ e d _. let y = last-below n e in omega arith) ∙ h .zeros n f (omega arith) i j in
     let cellRow : Row t₄ n nextWord (cellWords 0 p c nm 0 0)
-    = row-set t₃ n 8 3 nm (cellWords 0 p c 0 0 0) (omega arith) i (omega arith) (omega arith)
-    (row-set t₂ n 8 2 c (cellWords 0 p 0 0 0 0) (omega arith) i (omega arith) (omega arith)
-    (row-set t₁ n 8 1 p (cellWords 0 0 0 0 0 0) (omega arith) i (omega arith) (omega arith) (zero-row t₁ n 8 6 (omega arith) zeros₀))) in
+    = row-set t₃ n nextWord 3 nm (cellWords 0 p c 0 0 0) (omega arith) i (omega arith) (in-whole refl) (omega arith)
+    (row-set t₂ n nextWord 2 c (cellWords 0 p 0 0 0 0) (omega arith) i (omega arith) (in-whole refl) (omega arith)
+    (row-set t₁ n nextWord 1 p (cellWords 0 0 0 0 0 0) (omega arith) i (omega arith) (in-each (omega arith)) (omega arith) (zero-row t₁ n nextWord 6 (omega arith) zeros₀))) in
     let cell : Cell text t₄ n 0 p s 0 0
     = record {
       name = nm;
@@ -286,15 +288,15 @@ append-grown text t n p x s b k m ks st far h i =
     let fresh : (f : ℕ) → f < placeWords → (f ≡ parentWord → ⊥) → (f ≡ stepWord → ⊥) → (f ≡ nameWord → ⊥) → word t₄ n f ≡ 0
     = λ f j a₆ a₇ a₈. word-other t₃ n nameWord nm n f (λ _. a₈) ∙ word-other t₂ n stepWord c n f (λ _. a₇) ∙ word-other t₁ n parentWord p n f (λ _. a₆) ∙ zeros₀ f j in
     let own : Row t₄ n kindWord (ownWords false 0 0 no-spots)
-    = row-other t₃ n 0 n 11 nm (ownWords false 0 0 no-spots) (λ g l d e. omega arith)
-    (row-other t₂ n 0 n 10 c (ownWords false 0 0 no-spots) (λ g l d e. omega arith)
-    (row-other t₁ n 0 n 9 p (ownWords false 0 0 no-spots) (λ g l d e. omega arith) (zero-row t₁ n 0 5 (omega arith) zeros₀))) in
+    = row-other t₃ n kindWord n nameWord nm (ownWords false 0 0 no-spots) (λ g l d e. omega arith)
+    (row-other t₂ n kindWord n stepWord c (ownWords false 0 0 no-spots) (λ g l d e. omega arith)
+    (row-other t₁ n kindWord n parentWord p (ownWords false 0 0 no-spots) (λ g l d e. omega arith) (zero-row t₁ n kindWord 5 (omega arith) zeros₀))) in
     let parent : Row t₄ p kindWord (ownWords b k m (addS s n ks))
     = subst (λ (x : ℕ). Row t₄ p kindWord (k ∷ one b ∷ m ∷ firstOf (addS s n ks) ∷ x ∷ [])) (sym (last-add 0 s n ks))
-    (row-other t₃ p 0 n 11 nm (k ∷ one b ∷ m ∷ firstOf (addS s n ks) ∷ n ∷ []) (λ g l d e. omega arith)
-    (row-other t₂ p 0 n 10 c (k ∷ one b ∷ m ∷ firstOf (addS s n ks) ∷ n ∷ []) (λ g l d e. omega arith)
-    (row-other t₁ p 0 n 9 p (k ∷ one b ∷ m ∷ firstOf (addS s n ks) ∷ n ∷ []) (λ g l d e. omega arith)
-    (row-set t₀ p 0 4 n (k ∷ one b ∷ m ∷ firstOf (addS s n ks) ∷ lastFrom 0 ks ∷ []) (omega arith) (omega arith) (omega arith) (omega arith)
+    (row-other t₃ p kindWord n nameWord nm (k ∷ one b ∷ m ∷ firstOf (addS s n ks) ∷ n ∷ []) (λ g l d e. omega arith)
+    (row-other t₂ p kindWord n stepWord c (k ∷ one b ∷ m ∷ firstOf (addS s n ks) ∷ n ∷ []) (λ g l d e. omega arith)
+    (row-other t₁ p kindWord n parentWord p (k ∷ one b ∷ m ∷ firstOf (addS s n ks) ∷ n ∷ []) (λ g l d e. omega arith)
+    (row-set t₀ p kindWord 4 n (k ∷ one b ∷ m ∷ firstOf (addS s n ks) ∷ lastFrom 0 ks ∷ []) (omega arith) (omega arith) (omega arith) (in-each (omega arith)) (omega arith)
     (k₀ .row))))) in
     record {
       rep = (

@@ -10,20 +10,20 @@ use borrow.Author.Tests.{eqb-true, eqb-false, eq-eqb, lt-ltb, ltb-true, ltb-fals
 use Rattle.logic.specs.Test.{if_then_else_}
 use Rattle.logic.specs.laws.Test.{cases}
 use Rattle.text.specs.Name.{bytesOf, tagOf}
-use Rattle.words.specs.Word.{placeWords, IsTable, word, withWord}
+use Rattle.words.specs.Word.{placeWords, IsTable, in-each, word, withWord}
 use Rattle.words.specs.laws.Word.{word-same, word-other, length-with}
-use Rattle.model.specs.Kinds.{Step, same}
+use Rattle.model.specs.Kinds.{Step, position, same}
 use Rattle.model.specs.Tracing.{placeLimit, has}
 use Rattle.equality.specs.laws.Base.{same-true, or-cases}
 use Rattle.shapes.specs.declared.Step as Flat
 use Rattle.shapes.specs.Steps.{fieldCode, codeOf, nameOf}
 use Rattle.search.specs.declared.Slot.{Slot}
-use Rattle.places.specs.Layout.{rootWord, blockWord, leftWord, nextWord, stepWord, rightWord, tagWord}
+use Rattle.places.specs.Layout.{kindWord, rootWord, blockWord, leftWord, nextWord, stepWord, rightWord, tagWord}
 use Rattle.search.specs.Tree.{isNumbered, follow, slot, seek}
 use Rattle.growth.specs.Growth.{appended, tagged, entered}
-use Rattle.refine.specs.laws.numbered.Tree.{spot, Spots, no-spots, child, num, stepsS, spotAt, addS}
+use Rattle.refine.specs.laws.numbered.Tree.{Spot, spot, Spots, no-spots, child, num, stepsS, spotAt, addS}
 use Rattle.refine.specs.laws.reading.Steps.{near, near-codes, near-number, stepCodeOf, Stands}
-use Rattle.refine.specs.laws.numbered.Numbers.{lastFrom, within, withinIn, nearIn, GoodIn, or-left, or-right, not-both, boundedIn, self, child-good, has-add-old, add-found}
+use Rattle.refine.specs.laws.numbered.Numbers.{lastFrom, within, withinIn, nearIn, GoodIn, or-left, or-right, not-both, bounded, boundedIn, self, child-good, has-add-old, add-found}
 use Rattle.refine.specs.laws.words.SearchTree.{numIn, Links, at-root, at-left, at-right, Apart, Index, same-follow, null-follow, in-tree, end-known, end-link, end-child, seek-other, seek-same, index-none, indexes-frame-in, add-nums, indexes-add}
 use Rattle.refine.specs.laws.words.Places.{Block, RepIn, same-block, frameIn, Fits, After}
 use Rattle.refine.specs.laws.words.Child.{far-has, Sought, absent, picked, still-at, Grown, append-grown}
@@ -135,7 +135,7 @@ module _ (text t : List ℕ) (n p : ℕ) (b : Bool) (k m : ℕ) (ks : Spots) (h 
   kept : (q f : ℕ) → Links p ks q f → word t₄ q f ≡ word t q f
   kept q f l =
       grown .words q f (links-below n p ks (h .good .0) (h .good .2) q f l) (links-word (λ f. f < placeWords) (omega arith) (omega arith) (omega arith) p ks q f l)
-      (λ _. links-word (λ f. 5 ≤ f) (omega arith) (omega arith) (omega arith) p ks q f l)
+      (λ _. links-word (λ f. rootWord ≤ f) (omega arith) (omega arith) (omega arith) p ks q f l)
       (λ _ _. links-word (λ f. f ≡ nextWord → ⊥) (λ e. omega arith) (λ e. omega arith) (λ e. omega arith) p ks q f l)
 
   kept-step : (q : ℕ) → numIn q ks ≡ true → word t₄ q stepWord ≡ word t q stepWord
@@ -156,10 +156,10 @@ module _ (text t : List ℕ) (n p : ℕ) (b : Bool) (k m : ℕ) (ks : Spots) (h 
       record {
         fits = record {
           rep = (
-            (λ f l. w p (0 + f) (omega arith) (λ _ e. omega arith) (λ _ e. omega arith) (λ _ e. omega arith) (λ _ e. omega arith) ∙ grown .rep .0 f l),
+            (λ f l. w p (kindWord + f) (omega arith) (λ _ e. omega arith) (λ _ e. omega arith) (λ _ e. omega arith) (λ _ e. omega arith) ∙ grown .rep .0 f l),
             frameIn text t₄ t₅ p (addS s n ks) (grown .rep .1)
                 (λ q f l a. let off : q ≡ p → ⊥ = λ e. not-both (withinIn q (addS s n ks)) a (rw e (grown .good .1)) in
-                w q f (l .0) (λ e _. off e) (λ e _. off e) (λ _. l .2) (λ _ e. let y = l .1 in omega arith)),
+                w q f (l .0) (λ e _. off e) (λ e _. off e) (λ _. l .2) (λ _. l .3)),
             block,
           );
           good = grown .good;
@@ -253,7 +253,7 @@ module _ (text t : List ℕ) (n p : ℕ) (b : Bool) (k m : ℕ) (ks : Spots) (h 
         let j : end .field < placeWords = field-small in
         let z : length t₄ ≡ length t = grown .size in
         let big : IsTable t = h .room in
-        full-follow t₅ (end .place) (end .field) placeLimit n (word-same t₄ (end .place) (end .field) n (omega arith) (omega arith) j) i room
+        full-follow t₅ (end .place) (end .field) placeLimit n (word-same t₄ (end .place) (end .field) n (omega arith) (omega arith) j (in-each (omega arith))) i room
 
     nexts : (q f : ℕ) → Links p ks q f → (follow q f placeLimit t ≡ 0 → ⊥) → follow q f placeLimit t₅ ≡ follow q f placeLimit t
     nexts q f l z =
@@ -310,7 +310,11 @@ module _ (text t : List ℕ) (n p : ℕ) (b : Bool) (k m : ℕ) (ks : Spots) (h 
       After text t n (spot p b k m ks) (withWord t₄ p blockWord (suc i)) (n + 1) (spot p b k m (addS s n ks))
   block-after i e d β =
       let t₅ : List ℕ = withWord t₄ p blockWord (suc i) in
-      let v : word t₅ p blockWord ≡ suc i = word-same t₄ p blockWord (suc i) (omega (arith, grown .size, h .room)) (omega (arith, h .most, h .good .0)) (omega arith) in
+      let u : Spot = spotAt (position i) (addS s n ks) in
+      let there = β i (omega arith) in
+      let last : num u < n + 1 = bounded (n + 1) (num u) u (child-good (n + 1) p (position i) (addS s n ks) (grown .good .2) (there .0) .0) (self u) in
+      let v : word t₅ p blockWord ≡ suc i
+      = word-same t₄ p blockWord (suc i) (omega (arith, grown .size, h .room)) (omega (arith, h .most, h .good .0)) (omega arith) (in-each (omega (arith, there .1))) in
       settle t₅ (length-with t₄ p blockWord (suc i)) (λ q f l _ a _ _. other q f l a) (subst (λ (y : ℕ). Block y (addS s n ks)) (sym v) β)
       (index-beside t₅ (λ q f l a. other q f l a) (λ code a. let a′ : Apart (suc i) code = rw v at a in (a′ .0, λ z. rw d (let y = a′ .1 z in omega arith)))
       (λ a. let a′ : Apart (suc i) (stepCodeOf s) = rw v at a in let y = a′ .1 (rw e (omega arith)) in omega arith))
@@ -350,7 +354,7 @@ grown-tag text t n p b k m ks s t′ g v =
     let w : (q f : ℕ) → f < tagWord → word (withWord t′ n tagWord v) q f ≡ word t′ q f = λ q f l. word-other t′ n tagWord v q f (λ _ e. omega arith) in
     record {
       rep = (
-        (λ f l. w p (0 + f) (omega arith) ∙ g .rep .0 f l),
+        (λ f l. w p (kindWord + f) (omega arith) ∙ g .rep .0 f l),
         frameIn text t′ (withWord t′ n tagWord v) p (addS s n ks) (g .rep .1) (λ q f l _. w q f (let y = l .1 in omega arith)),
         same-block t′ (withWord t′ n tagWord v) p (addS s n ks) (w p blockWord (omega arith)) (g .rep .2),
       );

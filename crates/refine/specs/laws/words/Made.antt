@@ -15,7 +15,7 @@ use Rattle.refusal.specs.declared.Refusal.{Refusal}
 use Rattle.refusal.specs.declared.Refusal.the-variants as F
 use Rattle.refusal.specs.Number.{numberOf}
 use Rattle.text.specs.declared.Name.{Name}
-use Rattle.words.specs.Word.{IsTable, word, withWord}
+use Rattle.words.specs.Word.{IsTable, in-each, word, withWord}
 use Rattle.words.specs.laws.Word.{word-same, word-other, length-with, with-word, with-again, with-swap}
 use Rattle.model.specs.Result.{Result, refused, _>>=_}
 use Rattle.model.specs.Kinds.{sequenceKind, mapKind, tupleKind, Step, element, position, key, value}
@@ -171,7 +171,7 @@ module _ (text : List ℕ) (p : ℕ) (b : Bool) (k m at c last : ℕ) where
       let more = one-more c i n ks a in
       let G = append-grown text g n p (S.Position i) (position i) b k m ks (position-stands text i) far h l in
       let B = block-after text g n p b k m ks h (position i) far l t₂ G i refl
-      (word-same t p blockWord i long (in-row text g n p b k m ks h) (omega arith)) (in-a-block c (suc i) (n + 1) (addS (position i) n ks) more)
+      (word-same t p blockWord i long (in-row text g n p b k m ks h) (omega arith) (in-each (omega (arith, a .next)))) (in-a-block c (suc i) (n + 1) (addS (position i) n ks) more)
       in
       let same-table : withWord t₂ p blockWord (suc i) ≡ withWord t₁ p blockWord (suc i) = ap (λ (x : List ℕ). withWord x p blockWord (suc i))
       (appended-block p i (codeOf (S.Position i)) n noName t) ∙ with-again t₁ p blockWord i (suc i) in

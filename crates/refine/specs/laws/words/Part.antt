@@ -11,7 +11,7 @@ use Rattle.logic.specs.Test.{if_then_else_}
 use Rattle.logic.specs.laws.Test.{cases, both}
 use Rattle.refusal.specs.declared.Refusal.{Refusal}
 use Rattle.refusal.specs.Number.{numberOf}
-use Rattle.words.specs.Word.{placeWords, IsTable, IsRow, word, withWord}
+use Rattle.words.specs.Word.{placeWords, IsTable, IsRow, in-whole, word, withWord}
 use Rattle.words.specs.laws.Word.{word-other, length-with}
 use Rattle.model.specs.Result.{Result, refused}
 use Rattle.model.specs.Kinds.{Step, position, same}
@@ -129,8 +129,8 @@ touch-row t c N x p r nm h m l i w =
   where
     go : (d : Bool) → eqb m N ≡ d → Row (if d then t else withWord (withWord t c heldWord (onward h)) c markWord N) c nextWord (cellWords x p r nm (if d then h else onward h) N)
     go true e = subst (λ (y : ℕ). Row t c nextWord (cellWords x p r nm h y)) (eqb-true m N e) w
-    go false e = row-set (withWord t c heldWord (onward h)) c 8 5 N (cellWords x p r nm (onward h) m) (rw length-with l) i (omega arith) (omega arith)
-        (row-set t c 8 4 (onward h) (cellWords x p r nm h m) l i (omega arith) (omega arith) w)
+    go false e = row-set (withWord t c heldWord (onward h)) c nextWord 5 N (cellWords x p r nm (onward h) m) (rw length-with l) i (omega arith) (in-whole refl) (omega arith)
+        (row-set t c nextWord 4 (onward h) (cellWords x p r nm h m) l i (omega arith) (in-whole refl) (omega arith) w)
 
 touch-other : (t : List ℕ) (c N q f : ℕ) → f < placeWords → (q ≡ c → (f ≡ heldWord → ⊥) × (f ≡ markWord → ⊥)) → word (touch c N t) q f ≡ word t q f
 unfolding touch if_then_else_
@@ -254,17 +254,17 @@ module _ (text t : List ℕ) (n p : ℕ) (s : Step) (b : Bool) (k m : ℕ) (ks :
       let out : (q f : ℕ) → q < n → f < placeWords → within q u ≡ false → word t′ q f ≡ word t q f
       = λ q f l i d. a .keeps q f l i (off-below q d) (λ x. absurd (off-num q d x)) ∙ touch-other t (num u) m q f i (λ x. absurd (off-num q d x)) in
       let p-out : within p u ≡ false = in-child p (h .good .1) in
-      let links : (q f : ℕ) → numIn q ks ≡ true → 7 ≤ f → f < placeWords → (f ≡ heldWord → ⊥) × (f ≡ markWord → ⊥) → word t′ q f ≡ word t q f
+      let links : (q f : ℕ) → numIn q ks ≡ true → leftWord ≤ f → f < placeWords → (f ≡ heldWord → ⊥) × (f ≡ markWord → ⊥) → word t′ q f ≡ word t q f
       = λ q f i l j d. a .keeps q f (boundedIn n p q ks (h .good .2) (in-tree q ks i)) j (child-apart n p q s ks (h .good .2) e i) (λ _. l) ∙ touch-other t (num u) m q f j (λ _. d) in
       record {
         fits = record {
           rep = (
             subst₂′ (firstOf (putS s m v ks)) (firstOf ks) (lastFrom 0 (putS s m v ks)) (lastFrom 0 ks) t′ (put-first s m v ks e w)
-                (put-last s m v 0 ks e w) (λ f l. out p (0 + f) pn (omega arith) p-out ∙ h .rep .0 f l),
+                (put-last s m v 0 ks e w) (λ f l. out p (kindWord + f) pn (omega arith) p-out ∙ h .rep .0 f l),
             put-rep s m v text t t′ n p (a .fits .rep) p ks (h .good .2) (h .rep .1) e w
                 (λ x r y z c. record {
                   name = c .name;
-                  row = λ f l. a .keeps (num u) (8 + f) cn (omega arith) (not-below n u gu) (λ _. omega arith) ∙ touch-row t (num u) m x p
+                  row = λ f l. a .keeps (num u) (nextWord + f) cn (omega arith) (not-below n u gu) (λ _. omega arith) ∙ touch-row t (num u) m x p
                       (stepCodeOf r) (c .name) y z (h .room) (omega (arith, h .most)) (c .row) f l;
                   inside = c .inside;
                   says = c .says;

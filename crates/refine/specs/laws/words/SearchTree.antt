@@ -164,7 +164,7 @@ index-none t p h e = record {
     none q f (at-right _ d) = absurd (false≢true d)
 
 -- ---- in a tree
-pub kept-all : (t t′ : List ℕ) (p : ℕ) (ks : Spots) → ((f : ℕ) → 5 ≤ f → f < 7 → word t′ p f ≡ word t p f) →
+pub kept-all : (t t′ : List ℕ) (p : ℕ) (ks : Spots) → ((f : ℕ) → rootWord ≤ f → f < leftWord → word t′ p f ≡ word t p f) →
     ((q f : ℕ) → f < placeWords → withinIn q ks ≡ true → word t′ q f ≡ word t q f) → Kept t t′ p ks
 kept-all t t′ p ks o w = record {
   root = o rootWord (omega arith) (omega arith);
@@ -175,7 +175,7 @@ kept-all t t′ p ks o w = record {
 }
 
 mutual
-  pub indexes-frame : (n : ℕ) (t t′ : List ℕ) (u : Spot) → Good n u → ((f : ℕ) → f < 7 → word t′ (num u) f ≡ word t (num u) f)
+  pub indexes-frame : (n : ℕ) (t t′ : List ℕ) (u : Spot) → Good n u → ((f : ℕ) → f < leftWord → word t′ (num u) f ≡ word t (num u) f)
       → ((q f : ℕ) → f < placeWords → withinIn q (belowS u) ≡ true → word t′ q f ≡ word t q f) → Indexes t u → Indexes t′ u
   indexes-frame n t t′ (spot p b k m ks) g o w x = (
     index-kept t t′ p ks ks (kept-all t t′ p ks (λ f _ l. o f l) w) (alike ks) (x .0),
@@ -185,7 +185,7 @@ mutual
 
   -- the children's own links are their parent's, and may change
   pub indexes-frame-in : (n c : ℕ) (t t′ : List ℕ) (ks : Spots) → GoodIn n c ks →
-      ((q f : ℕ) → f < placeWords → withinIn q ks ≡ true → (numIn q ks ≡ true → f < 7) → word t′ q f ≡ word t q f) → IndexesIn t ks → IndexesIn t′ ks
+      ((q f : ℕ) → f < placeWords → withinIn q ks ≡ true → (numIn q ks ≡ true → f < leftWord) → word t′ q f ≡ word t q f) → IndexesIn t ks → IndexesIn t′ ks
   indexes-frame-in n c t t′ no-spots g w x = tt
   indexes-frame-in n c t t′ (child s h m u ks) g w x = (
     indexes-frame n t t′ u (g .1)
