@@ -36,10 +36,11 @@ from account.refusal import Refused  # noqa: E402
 # a tuple whose last position would be the 1,025th place
 TOO_MANY_PLACES = (0, bytes([0x13, 0x00, 0x04]), b"")
 
-# a short one to read: two records with a struct and an enum, refused at the last value, a text where a number stood
+# a short one to read: two records with a struct and an enum, refused at the last value, a text where a number stood. The
+# `some` before it has marked its place by then.
 HALFWAY = (0, bytes.fromhex(
     "15 16 00000200 08 16 02000300 15 16 05000100 0B 16 06000100 0B 17 16 07000400 18 0000 0B000400 17"
-    "15 16 00000200 08 16 07000400 18 0100 0F000400 16 02000300 15 16 05000100 0B 16 06000100 0D 05000200"
+    "15 16 00000200 08 16 07000400 18 0100 0F000400 16 02000300 15 16 05000100 0B 16 06000100 10 0D 05000200"
 ), b"idposxymodesailmoor")
 
 # how the tracer's words have a kind, and a step: positions and variants go by turns
