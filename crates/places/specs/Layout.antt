@@ -9,7 +9,8 @@ use Rattle.words.specs.Word.{word, IsTable, IsRow}
 use Rattle.model.specs.Tracing.{placeLimit}
 use Rattle.shapes.specs.Steps.{fieldCode, unpackedName, Inside}
 
--- a place's own words: kind, whether null was seen, samples; and as links, its first and last child. Those before are free.
+-- A place's own words, which whoever reads a value at the place writes: 0, 1 and 2 are free; kind, whether null was seen, samples; and as
+-- links, its first and last child.
 abbrev pub kindWord : ℕ
 kindWord = 3
 
@@ -29,7 +30,7 @@ lastWord = 7
 abbrev pub orderedFirstWord : ℕ
 orderedFirstWord = 8
 
--- before that: the root of the search tree of its numbered children (Numbered)
+-- before that: the root of the search tree of its numbered children (`search`)
 abbrev pub rootWord : ℕ
 rootWord = 8
 
@@ -69,7 +70,7 @@ heldWord = 16
 abbrev pub markWord : ℕ
 markWord = 17
 
--- the tag of its name, of which equal names have the same. The word behind is free.
+-- the tag of its name, of which equal names have the same. 19 is free.
 abbrev pub tagWord : ℕ
 tagWord = 18
 

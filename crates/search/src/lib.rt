@@ -113,7 +113,7 @@ fn side(bits: u32) -> usize
     places::RIGHT
 }
 
-// A link of the search tree, as the place and the word where it stands, and the child that it leads to or 0.
+// A link of the search tree, as the place that has it and its number there, and the child that it leads to or 0.
 pub struct Slot {
     pub child: usize,
     pub place: usize,

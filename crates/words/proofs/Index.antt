@@ -4,13 +4,12 @@ use mathlib.Core.Bool.{true, false}
 use mathlib.Core.List.{List}
 use Prim.Native.Nat.{ℕ, _+_, _-_, _*_, _/_, _%_, _<_, _≤_}
 use native.Mathlib.Omega.{arith}
-use borrow.Author.Tests.{lt-ltb, le-ltb, leb-true, ltb-true, le-leb, eq-eqb, ne-eqb}
-use lib.Dec.{leb, ltb}
-use lib.ListN.{length, getD, set}
+use borrow.Author.Tests.{lt-ltb, le-ltb, le-leb, eq-eqb, ne-eqb}
+use lib.Dec.{ltb}
+use lib.ListN.{getD, set}
 use Rattle.logic.specs.Test.{if_then_else_}
-use Rattle.logic.specs.laws.Test.{cases, both}
-use Rattle.words.specs.Word.{placeWords, rowWords, tableWords, linksFrom, linksEnd, linkLimit, IsTable, IsRow, isLink, hasWord, rowWord, indexOf, partOf, withPart, word, withWord}
-use Rattle.words.specs.laws.Word.{has-word, index-inside}
+use Rattle.words.specs.Word.{placeWords, rowWords, tableWords, linksFrom, linksEnd, linkLimit, IsRow, isLink, hasWord, rowWord, indexOf, partOf, withPart, word, withWord}
+use Rattle.words.specs.laws.Word.{link-from, link-end, has-word}
 
 -- ---- a whole word
 pub index-before : (p f : ℕ) → f < linksFrom → p * rowWords + f ≡ indexOf p f
@@ -24,12 +23,6 @@ index-behind p f l e =
     rw (le-ltb f linksFrom l, d) (omega arith)
 
 -- ---- a link
-pub link-from : (f : ℕ) → isLink f ≡ true → linksFrom ≤ f
-link-from f e = both (leb linksFrom f) (ltb f linksEnd) e λ a b. leb-true linksFrom f a
-
-pub link-end : (f : ℕ) → isLink f ≡ true → f < linksEnd
-link-end f e = both (leb linksFrom f) (ltb f linksEnd) e λ a b. ltb-true f linksEnd b
-
 pub index-link : (p f : ℕ) → IsRow p → isLink f ≡ true → (p * rowWords + linksFrom + (f - linksFrom) / 2 ≡ indexOf p f) × (p * rowWords + linksFrom + (f - linksFrom) / 2 < tableWords)
 unfolding indexOf rowWord if_then_else_
 index-link p f r e =

@@ -28,7 +28,8 @@ abbrev pub IsRow : ℕ → Type 0
 IsRow place = place < tablePlaces
 
 -- ---- the words of a place
--- There are so many, by number. Some are links: a place's number is of 16 bits, so that two of them stand in one word of its row.
+-- There are so many, by number: whole words, and between them links, which are of 16 bits, for they are places' numbers. Two links stand in
+-- one word of the row.
 abbrev pub placeWords : ℕ
 placeWords = 20
 
@@ -55,7 +56,7 @@ pub data Holds (field value : ℕ) : Type 0 where
 unfoldable pub hasWord : ℕ → ℕ → Bool
 hasWord place field = ltb place tablePlaces && ltb field placeWords
 
--- the word of the row that it is, or in which it stands: links stand two by two
+-- the word of the row that it is or, of a link, in which it stands
 unfoldable pub rowWord : ℕ → ℕ
 rowWord field =
     if ltb field linksFrom then field
@@ -70,11 +71,11 @@ indexOf place field = place * rowWords + rowWord field
 abbrev pub isLower : ℕ → Bool
 isLower field = eqb (field % 2) 0
 
--- what a word of a row says of a place's word: a half of it where that is a link
+-- a place's word, read from that word of the row: all of it, or the half that is the link
 unfoldable pub partOf : ℕ → ℕ → ℕ
 partOf field w = if isLink field then (if isLower field then w % linkLimit else w / linkLimit) else w
 
--- the word of a row with a place's word stored in it, the other half as it is
+-- that word of the row with a place's word stored, the other link as it was: a lower one is stored as far as it has room
 unfoldable pub withPart : ℕ → ℕ → ℕ → ℕ
 withPart field w value =
     if isLink field

@@ -1,5 +1,5 @@
-// The words of a place in the lent work table, whole words and links. Callers lend the part that has a row for each place, and
-// nothing else.
+// The words of a place in the lent work table: whole words, and links of 16 bits, two to a word of its row. Callers lend the
+// part that has a row for each place, and nothing else.
 ghost use mathlib.Core.Path.{_≡_};
 ghost use mathlib.Core.Bool.{true, false};
 ghost use Prim.Native.Nat.{_<_};
@@ -16,10 +16,10 @@ const LINKS_FROM: usize = 6;
 
 const LINKS_END: usize = 14;
 
-// What a link can be, and what the upper half of a word counts for: the places' numbers need no more than 16 bits.
+// Links are below this, places' numbers of 16 bits; and so often does the upper half of a word count.
 const LINK_LIMIT: u32 = 65536;
 
-// Where a whole word stands. Behind the links, two of which share a word, numbers run ahead.
+// Where a whole word stands. Behind the links numbers run ahead, for two links share a word.
 fn whole_index(place: usize, field: usize) -> usize
     requires { ⌜ IsRow place × (field < placeWords) × (isLink field ≡ false) ⌝ }
     ensures { λ r. ⌜ (r ≡ indexOf place field) × (r < tableWords) ⌝ }
@@ -74,7 +74,7 @@ pub fn link(table: &[u32], place: usize, field: usize) -> usize
     link_in(table[link_index(place, field)], field)
 }
 
-// The word with a link stored in it, the other as it is.
+// The word with one of its links stored, the other as it was.
 fn with_link(word: u32, field: usize, to: usize) -> u32
     requires { ⌜ (isLink field ≡ true) × (to < linkLimit) ⌝ }
     ensures { λ r. ⌜ r ≡ withPart field word to ⌝ }

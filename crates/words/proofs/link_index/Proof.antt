@@ -1,6 +1,7 @@
 -- `link_index`: links stand two by two.
 use borrow.Author.Needs.{needs}
-use Rattle.words.proofs.Index.{link-from, link-end, index-link}
+use Rattle.words.specs.laws.Word.{link-from, link-end}
+use Rattle.words.proofs.Index.{index-link}
 use Rattle.words.proofs.link_index.Statement.{statement}
 use Rattle.words.proofs.link_index.Tie as tie
 

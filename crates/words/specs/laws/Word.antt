@@ -1,18 +1,24 @@
 -- Laws of the words of a table: what is read after a store, what stores in turn leave, and a table of zeros. None says where a word stands.
 use mathlib.Core.Path.{_≡_, refl, ap, sym, _∙_}
-use mathlib.Core.Bool.{true, false, false≢true}
+use mathlib.Core.Bool.{true, false}
 use mathlib.Core.List.{List, [], _∷_}
 use Prim.Native.Nat.{ℕ, zero, suc, _+_, _-_, _/_, _%_, _<_, _≤_}
 use native.Mathlib.Omega.{arith}
-use borrow.Author.Tests.{lt-ltb, le-ltb, le-leb, lt-leb, ltb-true, ltb-false, eqb-true, eqb-false}
-use lib.Dec.{eqb, ltb}
+use borrow.Author.Tests.{lt-ltb, le-leb, lt-leb, leb-true, ltb-true, ltb-false, eqb-true, eqb-false}
+use lib.Dec.{eqb, leb, ltb}
 use lib.ListN.{length, getD, set, replicate, length-set, length-replicate}
 use lib.Seq.{getD-set-same, getD-set-other, set-getD, set-comm}
 use Rattle.logic.specs.Test.{if_then_else_}
 use Rattle.logic.specs.laws.Test.{cases, both}
-use Rattle.words.specs.Word.{tablePlaces, placeWords, tableWords, rowWords, linksFrom, linksEnd, linkLimit, IsTable, IsRow, Holds, in-whole, in-each, isLink, isLower, hasWord, rowWord, indexOf, partOf, withPart, word, withWord, zeros}
+use Rattle.words.specs.Word.{tablePlaces, placeWords, tableWords, rowWords, linksFrom, linksEnd, IsTable, IsRow, Holds, in-whole, in-each, isLink, isLower, hasWord, rowWord, indexOf, partOf, withPart, word, withWord, zeros}
 
 -- ---- the word of a row that a place's word is, or stands in
+pub link-from : (f : ℕ) → isLink f ≡ true → linksFrom ≤ f
+link-from f e = both (leb linksFrom f) (ltb f linksEnd) e λ a b. leb-true linksFrom f a
+
+pub link-end : (f : ℕ) → isLink f ≡ true → f < linksEnd
+link-end f e = both (leb linksFrom f) (ltb f linksEnd) e λ a b. ltb-true f linksEnd b
+
 data Stands (f : ℕ) : Type 0 where
   before : f < linksFrom → isLink f ≡ false → rowWord f ≡ f → Stands f
   halves : linksFrom ≤ f → f < linksEnd → isLink f ≡ true → rowWord f ≡ linksFrom + (f - linksFrom) / 2 → Stands f
@@ -122,7 +128,7 @@ has-word p f l b = rw (lt-ltb p tablePlaces l, lt-ltb f placeWords b)
 
 -- of a word that there is
 module _ (p f : ℕ) (e : hasWord p f ≡ true) where
-  pub index-inside : indexOf p f < tableWords
+  index-inside : indexOf p f < tableWords
   unfolding hasWord indexOf
   index-inside =
       both (ltb p tablePlaces) (ltb f placeWords) e λ a b.
