@@ -82,7 +82,8 @@ fn confirm(text: &[u8], name: Name, child: usize, count: usize, table: &[u32]) -
     }
 }
 
-// A new last child, at a step where the place has none, if there is room.
+// A new last child, at a step where the place has none, if there is room. Its tag is stored first: behind a store the compiler loads the
+// links of the place again, and need not keep them while the search for a field runs.
 pub fn add(
     text: &[u8],
     place: usize,
@@ -97,8 +98,8 @@ pub fn add(
     if places::PLACES <= count {
         return Ensured::Refused(Refusal::TooManyPlaces);
     }
-    append(place, code, name, count, table);
     words::set(table, count, places::TAG, name.tag(text));
+    append(place, code, name, count, table);
     enter(place, code, count, table);
     Ensured::Child(count, count + 1)
 }

@@ -1,6 +1,6 @@
 -- Laws of new places: the table stays sound, and there are never fewer places.
 use mathlib.Core.Path.{_≡_, refl, sym, _∙_}
-use mathlib.Core.Bool.{Bool, true, _&&_}
+use mathlib.Core.Bool.{Bool, true, false, not, _&&_, _||_, false≢true}
 use mathlib.Core.List.{List, [], _∷_}
 use Prim.Native.Nat.{ℕ, zero, suc, _+_, _%_, _/_, _<_, _≤_}
 use native.Mathlib.Nat.{le-refl}
@@ -13,7 +13,7 @@ use Rattle.logic.specs.laws.Test.{cases}
 use Rattle.logic.specs.laws.Flag.{if-either}
 use Rattle.text.specs.declared.Name.{Name}
 use Rattle.words.specs.Word.{word, withWord, IsRow, IsTable, in-whole}
-use Rattle.words.specs.laws.Word.{word-same, word-other, length-with}
+use Rattle.words.specs.laws.Word.{word-same, word-other, length-with, with-swap}
 use Rattle.refusal.specs.declared.Refusal.{Refusal}
 use Rattle.text.specs.Name.{bytesOf, eqName, tagOf}
 use Rattle.text.specs.Utf8.{isUtf8}
@@ -59,6 +59,35 @@ length-linked : (place child : ℕ) (t : List ℕ) → length (linked place chil
 unfolding linked
 length-linked place child t = length-either (eqb (word t place firstWord) 0) (withWord t place firstWord child)
     (withWord t (word t place lastWord) nextWord child) (length t) (simp length-with) (simp length-with)
+
+-- a word that appending neither reads nor stores
+abbrev isAside : ℕ → Bool
+isAside f = not (eqb f firstWord || eqb f lastWord || eqb f nextWord || eqb f parentWord || eqb f stepWord || eqb f nameWord)
+
+-- such a word may as well be stored before a child is appended
+module _ (q f v : ℕ) (e : isAside f ≡ true) (place child : ℕ) (t : List ℕ) where
+  aside : (g : ℕ) → isAside g ≡ false → (p : ℕ) → p ≡ q → g ≡ f → ⊥
+  aside g d p _ z = absurd (false≢true (sym d ∙ rw (← z) at e))
+
+  swap : (u : List ℕ) (p g w : ℕ) → isAside g ≡ false → withWord (withWord u q f v) p g w ≡ withWord (withWord u p g w) q f v
+  swap u p g w d = with-swap u q f p g v w (aside g d p)
+
+  linked-aside : linked place child (withWord t q f v) ≡ withWord (linked place child t) q f v
+  unfolding linked if_then_else_
+  linked-aside =
+      rw (word-other t q f v place firstWord (aside firstWord refl place), word-other t q f v place lastWord (aside lastWord refl place))
+      (cases (eqb (word t place firstWord) 0)
+      (λ z. rw z (swap t place firstWord child refl))
+      (λ z. rw z (swap t (word t place lastWord) nextWord child refl)))
+
+  pub appended-aside : (code : ℕ) (name : Name) → appended place code name child (withWord t q f v) ≡ withWord (appended place code name child t) q f v
+  unfolding appended described
+  appended-aside code name =
+      let t₀ : List ℕ = linked place child t in
+      let t₁ : List ℕ = withWord t₀ place lastWord child in
+      let t₂ : List ℕ = withWord t₁ child parentWord place in
+      let t₃ : List ℕ = withWord t₂ child stepWord code in
+      rw (linked-aside, swap t₀ place lastWord child refl, swap t₁ child parentWord place refl, swap t₂ child stepWord code refl, swap t₃ child nameWord (packedName name) refl) refl
 
 -- a name that is packed and unpacked again
 module _ (text : List ℕ) (name : Name) (h : name .length < 65536) where
