@@ -54,14 +54,15 @@ fn describe(place: usize, code: u32, name: Name, child: usize, table: &mut [u32]
     words::set(table, child, places::NAME, shapes::packed(name));
 }
 
-// A new place as the last child.
+// A new place as the last child. It is described first: behind these stores the compiler loads the place's links again, and need
+// not keep them while the search for a field runs.
 fn append(place: usize, code: u32, name: Name, child: usize, table: &mut [u32])
     requires { ⌜ IsRow place × IsRow child × IsTable (now table) × IsRow (word (now table) place lastWord) ⌝ }
     ensures { λ _. ⌜ now (table .exit) ≡ appended place code name child (now (table .entry)) ⌝ }
 {
+    describe(place, code, name, child, table);
     link(place, child, table);
     words::set_link(table, place, places::LAST, child);
-    describe(place, code, name, child, table);
 }
 
 // A child at a step, and how many places there are; or a refusal (9 or 11).
@@ -82,8 +83,7 @@ fn confirm(text: &[u8], name: Name, child: usize, count: usize, table: &[u32]) -
     }
 }
 
-// A new last child, at a step where the place has none, if there is room. Its tag is stored first: behind a store the compiler loads the
-// links of the place again, and need not keep them while the search for a field runs.
+// A new last child, at a step where the place has none, if there is room.
 pub fn add(
     text: &[u8],
     place: usize,
@@ -98,8 +98,8 @@ pub fn add(
     if places::PLACES <= count {
         return Ensured::Refused(Refusal::TooManyPlaces);
     }
-    words::set(table, count, places::TAG, name.tag(text));
     append(place, code, name, count, table);
+    words::set(table, count, places::TAG, name.tag(text));
     enter(place, code, count, table);
     Ensured::Child(count, count + 1)
 }

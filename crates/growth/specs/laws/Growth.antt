@@ -1,5 +1,5 @@
 -- Laws of new places: the table stays sound, and there are never fewer places.
-use mathlib.Core.Path.{_≡_, refl, sym, _∙_}
+use mathlib.Core.Path.{_≡_, refl, ap, sym, _∙_}
 use mathlib.Core.Bool.{Bool, true, false, not, _&&_, _||_, false≢true}
 use mathlib.Core.List.{List, [], _∷_}
 use Prim.Native.Nat.{ℕ, zero, suc, _+_, _%_, _/_, _<_, _≤_}
@@ -60,11 +60,15 @@ unfolding linked
 length-linked place child t = length-either (eqb (word t place firstWord) 0) (withWord t place firstWord child)
     (withWord t (word t place lastWord) nextWord child) (length t) (simp length-with) (simp length-with)
 
--- a word that appending neither reads nor stores
-abbrev isAside : ℕ → Bool
-isAside f = not (eqb f firstWord || eqb f lastWord || eqb f nextWord || eqb f parentWord || eqb f stepWord || eqb f nameWord)
+-- a place's chain of children, one longer
+abbrev pub lengthened : ℕ → ℕ → List ℕ → List ℕ
+lengthened place child t = withWord (linked place child t) place lastWord child
 
--- such a word may as well be stored before a child is appended
+-- a word that the chain is not made of
+abbrev isAside : ℕ → Bool
+isAside f = not (eqb f firstWord || eqb f lastWord || eqb f nextWord)
+
+-- may as well be stored before
 module _ (q f v : ℕ) (e : isAside f ≡ true) (place child : ℕ) (t : List ℕ) where
   aside : (g : ℕ) → isAside g ≡ false → (p : ℕ) → p ≡ q → g ≡ f → ⊥
   aside g d p _ z = absurd (false≢true (sym d ∙ rw (← z) at e))
@@ -80,14 +84,29 @@ module _ (q f v : ℕ) (e : isAside f ≡ true) (place child : ℕ) (t : List �
       (λ z. rw z (swap t place firstWord child refl))
       (λ z. rw z (swap t (word t place lastWord) nextWord child refl)))
 
-  pub appended-aside : (code : ℕ) (name : Name) → appended place code name child (withWord t q f v) ≡ withWord (appended place code name child t) q f v
-  unfolding appended described
-  appended-aside code name =
-      let t₀ : List ℕ = linked place child t in
-      let t₁ : List ℕ = withWord t₀ place lastWord child in
-      let t₂ : List ℕ = withWord t₁ child parentWord place in
-      let t₃ : List ℕ = withWord t₂ child stepWord code in
-      rw (linked-aside, swap t₀ place lastWord child refl, swap t₁ child parentWord place refl, swap t₂ child stepWord code refl, swap t₃ child nameWord (packedName name) refl) refl
+  pub lengthened-aside : lengthened place child (withWord t q f v) ≡ withWord (lengthened place child t) q f v
+  lengthened-aside = rw (linked-aside, swap (linked place child t) place lastWord child refl) refl
+
+-- and so may those that tell where the child stands
+pub described-first : (place code child : ℕ) (name : Name) (t : List ℕ) → lengthened place child (described place code name child t) ≡ appended place code name child t
+unfolding described appended
+described-first place code child name t =
+    let t₁ : List ℕ = withWord t child parentWord place in
+    let t₂ : List ℕ = withWord t₁ child stepWord code in
+    lengthened-aside child nameWord (packedName name) refl place child t₂
+    ∙ ap (λ (u : List ℕ). withWord u child nameWord (packedName name))
+    (lengthened-aside child stepWord code refl place child t₁
+    ∙ ap (λ (u : List ℕ). withWord u child stepWord code) (lengthened-aside child parentWord place refl place child t))
+
+-- which leave the place's last child
+pub described-last : (place code child : ℕ) (name : Name) (t : List ℕ) → word (described place code name child t) place lastWord ≡ word t place lastWord
+unfolding described
+described-last place code child name t =
+    let t₁ : List ℕ = withWord t child parentWord place in
+    let t₂ : List ℕ = withWord t₁ child stepWord code in
+    word-other t₂ child nameWord (packedName name) place lastWord (λ _ z. omega arith)
+    ∙ word-other t₁ child stepWord code place lastWord (λ _ z. omega arith)
+    ∙ word-other t child parentWord place place lastWord (λ _ z. omega arith)
 
 -- a name that is packed and unpacked again
 module _ (text : List ℕ) (name : Name) (h : name .length < 65536) where

@@ -14,18 +14,19 @@ use Rattle.datatype.specs.Codes.{null}
 use Rattle.refusal.specs.declared.Refusal.{Refusal}
 use Rattle.refusal.specs.declared.Refusal.the-variants as F
 use Rattle.refusal.specs.Number.{numberOf}
+use Rattle.text.specs.declared.Name.{Name}
 use Rattle.words.specs.Word.{IsTable, in-each, word, withWord}
-use Rattle.words.specs.laws.Word.{word-same, length-with, with-word, with-again}
+use Rattle.words.specs.laws.Word.{word-same, length-with, with-word, with-again, with-swap}
 use Rattle.model.specs.Result.{Result, refused, _>>=_}
 use Rattle.model.specs.Kinds.{sequenceKind, mapKind, tupleKind, Step, element, position, key, value}
 use Rattle.model.specs.Tracing.{placeLimit, has, made, positionsFrom, Counted, counted}
 use Rattle.shapes.specs.declared.Step as Flat
 use Rattle.shapes.specs.declared.Step.the-variants as S
-use Rattle.shapes.specs.Steps.{codeOf, noName}
+use Rattle.shapes.specs.Steps.{codeOf, noName, packedName}
 use Rattle.growth.specs.declared.Made.the-variants as L
-use Rattle.growth.specs.laws.Growth.{appended-aside}
-use Rattle.growth.specs.Growth.{positionsFrom as positionsOf, made as madeFlat, appended, Ensuring, Making, making, ofEnsuring, madeOne, thenMade, madeAll, appendedFrom, positionsMade}
-use Rattle.places.specs.Layout.{firstWord, blockWord}
+use Rattle.growth.specs.laws.Growth.{lengthened, lengthened-aside}
+use Rattle.growth.specs.Growth.{positionsFrom as positionsOf, made as madeFlat, described, appended, Ensuring, Making, making, ofEnsuring, madeOne, thenMade, madeAll, appendedFrom, positionsMade}
+use Rattle.places.specs.Layout.{firstWord, blockWord, parentWord, stepWord, nameWord}
 use Rattle.refine.specs.laws.numbered.Tree.{Spot, spot, Spots, no-spots, child, num, stepsS, spotAt, addS, makeS, makeAllS}
 use Rattle.refine.specs.laws.reading.Steps.{near, Stands}
 use Rattle.refine.specs.laws.numbered.Numbers.{firstOf, nearIn, near-add, add-among, add-found}
@@ -106,6 +107,24 @@ one-more c i n ks a = record {
 in-a-block : (c positions n : ℕ) (ks : Spots) → Appended c positions n ks → Block positions ks
 in-a-block c positions n ks a i l = let d = a .there i l in (d .0, d .1 ∙ ap (λ (x : ℕ). x + i) (sym (a .first (λ z. omega arith))))
 
+-- the count of the block may as well be stored before a child is appended
+module _ (p v : ℕ) where
+  swap : (t : List ℕ) (q f w : ℕ) → (f ≡ blockWord → ⊥) → withWord (withWord t p blockWord v) q f w ≡ withWord (withWord t q f w) p blockWord v
+  swap t q f w d = with-swap t p blockWord q f v w (λ _. d)
+
+  appended-block : (code n : ℕ) (name : Name) (t : List ℕ) → appended p code name n (withWord t p blockWord v) ≡ withWord (appended p code name n t) p blockWord v
+  unfolding appended described
+  appended-block code n name t =
+      let t₁ : List ℕ = lengthened p n t in
+      let t₂ : List ℕ = withWord t₁ n parentWord p in
+      let t₃ : List ℕ = withWord t₂ n stepWord code in
+      rw (
+        lengthened-aside p blockWord v refl p n t,
+        swap t₁ n parentWord p (λ d. omega arith),
+        swap t₂ n stepWord code (λ d. omega arith),
+        swap t₃ n nameWord (packedName name) (λ d. omega arith),
+      ) refl
+
 module _ (text : List ℕ) (p : ℕ) (b : Bool) (k m at c last : ℕ) where
   -- both append the positions up to the last, or both are refused (11); the block is stored at the end, and is told here as if it were at each of them
   data Appends (i : ℕ) (t : List ℕ) (n : ℕ) (ks : Spots) : Result (Counted Spots) → Making → Type 0 where
@@ -144,7 +163,7 @@ module _ (text : List ℕ) (p : ℕ) (b : Bool) (k m at c last : ℕ) where
       (word-same t p blockWord i long (in-row text g n p b k m ks h) (omega arith) (in-each (omega (arith, a .next)))) (in-a-block c (suc i) (n + 1) (addS (position i) n ks) more)
       in
       let same-table : withWord t₂ p blockWord (suc i) ≡ withWord t₁ p blockWord (suc i) = ap (λ (x : List ℕ). withWord x p blockWord (suc i))
-      (appended-aside p blockWord i refl p n t (codeOf (S.Position i)) noName) ∙ with-again t₁ p blockWord i (suc i) in
+      (appended-block p i (codeOf (S.Position i)) n noName t) ∙ with-again t₁ p blockWord i (suc i) in
       let A : After text g n (spot p b k m ks) (withWord t₁ p blockWord (suc i)) (n + 1) (spot p b k m (addS (position i) n ks)) =
       subst (λ (x : List ℕ). After text g n (spot p b k m ks) x (n + 1) (spot p b k m (addS (position i) n ks))) same-table B in
       rw (d, lt-leb placeLimit n l) (appends-after A (append-all left (suc i) t₁ (n + 1) (addS (position i) n ks) (omega arith) (A .fits) more)))
