@@ -4,7 +4,7 @@ use mathlib.Core.Bool.{true, false}
 use mathlib.Core.List.{List, [], _∷_}
 use Prim.Native.Nat.{ℕ, zero, suc, _+_, _-_, _/_, _%_, _<_, _≤_}
 use native.Mathlib.Omega.{arith}
-use borrow.Author.Tests.{lt-ltb, le-leb, lt-leb, leb-true, ltb-true, ltb-false, eqb-true, eqb-false}
+use borrow.Author.Tests.{lt-ltb, le-leb, lt-leb, leb-true, ltb-true, ltb-false, eqb-true, eqb-false, eq-eqb, ne-eqb}
 use lib.Dec.{eqb, leb, ltb}
 use lib.ListN.{length, getD, set, replicate, length-set, length-replicate}
 use lib.Seq.{getD-set-same, getD-set-other, set-getD, set-comm}
@@ -35,11 +35,10 @@ stands f =
     (λ b. halves l (ltb-true f linksEnd b) (rw (le-leb linksFrom f l, b) refl) (rw (a, b) refl))
     (λ b. behind (ltb-false f linksEnd b) (rw (le-leb linksFrom f l, b) refl) (rw (a, b) refl)))
 
--- two in one are links, one of them the lower half
-record Paired (f g : ℕ) : Type 0 where
-  one : isLink f ≡ true
-  two : isLink g ≡ true
-  halves : (f % 2 ≡ 0 → g % 2 ≡ 0 → ⊥) × ((f % 2 ≡ 0 → ⊥) → (g % 2 ≡ 0 → ⊥) → ⊥)
+-- two in one are links, and one of them is the lower half
+data Paired (f g : ℕ) : Type 0 where
+  first-lower : isLink f ≡ true → isLink g ≡ true → isLower f ≡ true → isLower g ≡ false → Paired f g
+  first-upper : isLink f ≡ true → isLink g ≡ true → isLower f ≡ false → isLower g ≡ true → Paired f g
 
 paired : (f g : ℕ) → rowWord g ≡ rowWord f → (g ≡ f → ⊥) → Paired f g
 paired f g e n = go (stands f) (stands g)
@@ -49,7 +48,10 @@ paired f g e n = go (stands f) (stands g)
     go (before l i r) (halves m k j s) = absurd (omega arith)
     go (before l i r) (behind m j s) = absurd (omega arith)
     go (halves l o i r) (before m j s) = absurd (omega arith)
-    go (halves l o i r) (halves m k j s) = record { one = i; two = j; halves = (λ a b. n (omega arith), λ a b. n (omega arith)) }
+    go (halves l o i r) (halves m k j s) =
+        cases (isLower f)
+        (λ a. let x : f % 2 ≡ 0 = eqb-true (f % 2) 0 a in first-lower i j a (ne-eqb (g % 2) 0 (λ y. n (omega arith))))
+        (λ a. let x = eqb-false (f % 2) 0 a in first-upper i j a (eq-eqb (g % 2) 0 (omega arith)))
     go (halves l o i r) (behind m j s) = absurd (omega arith)
     go (behind l i r) (before m j s) = absurd (omega arith)
     go (behind l i r) (halves m k j s) = absurd (omega arith)
@@ -65,7 +67,7 @@ row-inside f l = go (stands f)
 
 -- ---- the two links of a word
 -- what is stored is there, if there is room for it
-pub part-same : (f w v : ℕ) → Holds f v → partOf f (withPart f w v) ≡ v
+part-same : (f w v : ℕ) → Holds f v → partOf f (withPart f w v) ≡ v
 unfolding partOf withPart if_then_else_
 part-same f w v (in-whole l) = rw l refl
 part-same f w v (in-each i) =
@@ -73,32 +75,18 @@ part-same f w v (in-each i) =
     (λ l. cases (isLower f) (λ e. rw (l, e) (omega arith)) (λ e. rw (l, e) (omega arith)))
     (λ l. rw l refl)
 
-module _ (f g w : ℕ) (e : rowWord g ≡ rowWord f) (n : g ≡ f → ⊥) where
+module _ (f g w : ℕ) where
   -- the other link stays
-  pub part-other : (v : ℕ) → partOf g (withPart f w v) ≡ partOf g w
+  part-other : (v : ℕ) → Paired f g → partOf g (withPart f w v) ≡ partOf g w
   unfolding partOf withPart if_then_else_
-  part-other v =
-      let p = paired f g e n in
-      cases (isLower f)
-      (λ a. cases (isLower g)
-      (λ b. absurd (p .halves .0 (eqb-true (f % 2) 0 a) (eqb-true (g % 2) 0 b)))
-      (λ b. rw (p .one, p .two, a, b) (omega arith)))
-      (λ a. cases (isLower g)
-      (λ b. rw (p .one, p .two, a, b) (omega arith))
-      (λ b. absurd (p .halves .1 (eqb-false (f % 2) 0 a) (eqb-false (g % 2) 0 b))))
+  part-other v (first-lower i j a b) = rw (i, j, a, b) (omega arith)
+  part-other v (first-upper i j a b) = rw (i, j, a, b) (omega arith)
 
   -- and the two can be stored in either order
-  part-swap : (v x : ℕ) → withPart g (withPart f w v) x ≡ withPart f (withPart g w x) v
+  part-swap : (v x : ℕ) → Paired f g → withPart g (withPart f w v) x ≡ withPart f (withPart g w x) v
   unfolding withPart if_then_else_
-  part-swap v x =
-      let p = paired f g e n in
-      cases (isLower f)
-      (λ a. cases (isLower g)
-      (λ b. absurd (p .halves .0 (eqb-true (f % 2) 0 a) (eqb-true (g % 2) 0 b)))
-      (λ b. rw (p .one, p .two, a, b) (omega arith)))
-      (λ a. cases (isLower g)
-      (λ b. rw (p .one, p .two, a, b) (omega arith))
-      (λ b. absurd (p .halves .1 (eqb-false (f % 2) 0 a) (eqb-false (g % 2) 0 b))))
+  part-swap v x (first-lower i j a b) = rw (i, j, a, b) (omega arith)
+  part-swap v x (first-upper i j a b) = rw (i, j, a, b) (omega arith)
 
 -- to store what is there changes nothing
 part-kept : (f w : ℕ) → withPart f w (partOf f w) ≡ w
@@ -170,7 +158,7 @@ keeps P t p f v q g h k =
     rw d (set-at (λ u. P (partOf g u)) t i x
     (cases (eqb g f)
     (λ o. let w : g ≡ f = eqb-true g f o in rw w (h y w))
-    (λ o. rw (part-other f g (getD t i 0) z (eqb-false g f o) v) k″))
+    (λ o. rw (part-other f g (getD t i 0) v (paired f g z (eqb-false g f o))) k″))
     k″))
     (λ c. rw (getD-set-other t i j x 0 (eqb-false j i c)) k′)))
     (λ b. rw b (rw b at k)))
@@ -231,7 +219,7 @@ with-swap t p f q g v w n =
     (λ c.
     let d : j ≡ i = eqb-true j i c in
     let (h, z) = index-own p f a q g b d in
-    rw d (twice t i f g v w ∙ ap (set t i) (part-swap f g (getD t i 0) z (n h) v w) ∙ sym (twice t i g f w v)))
+    rw d (twice t i f g v w ∙ ap (set t i) (part-swap f g (getD t i 0) v w (paired f g z (n h))) ∙ sym (twice t i g f w v)))
     (λ c.
     let o : j ≡ i → ⊥ = eqb-false j i c in
     rw (getD-set-other t i j x 0 o, getD-set-other t j i y 0 (λ d. o (sym d))) (set-comm t i j x y (λ d. o (sym d))))))
