@@ -34,8 +34,13 @@ unfoldable pub described : ℕ → ℕ → Name → ℕ → List ℕ → List �
 described place code name child t =
     withWord (withWord (withWord t child parentWord place) child stepWord code) child nameWord (packedName name)
 
+-- the place's chain of children, one longer
+abbrev pub lengthened : ℕ → ℕ → List ℕ → List ℕ
+lengthened place child t = withWord (linked place child t) place lastWord child
+
+-- a new last child, with these words
 unfoldable pub appended : ℕ → ℕ → Name → ℕ → List ℕ → List ℕ
-appended place code name child t = described place code name child (withWord (linked place child t) place lastWord child)
+appended place code name child t = described place code name child (lengthened place child t)
 
 -- the tag of its name
 unfoldable pub tagged : List ℕ → Name → ℕ → List ℕ → List ℕ

@@ -9,8 +9,10 @@ use Rattle.words.specs.Word.{word, IsTable, IsRow}
 use Rattle.model.specs.Tracing.{placeLimit}
 use Rattle.shapes.specs.Steps.{fieldCode, unpackedName, Inside}
 
--- A place's own words, which whoever reads a value at the place writes: 0, 1 and 2 are free; kind, whether null was seen, samples; and as
--- links, its first and last child.
+-- Words 6 to 13 are links (`isLink` of words), two to a word of the row: 6 with 7, 8 with 9, 10 with 11, 12 with 13.
+--
+-- A place's own words, which whoever reads a value at the place writes: 0, 1 and 2 are free; kind, whether null was seen, samples; first and
+-- last child.
 abbrev pub kindWord : ℕ
 kindWord = 3
 
@@ -35,7 +37,7 @@ abbrev pub rootWord : ℕ
 rootWord = 8
 
 -- how many positions stand in a block: its first so many children are positions 0, 1, 2, .., each with the place number
--- after the one before
+-- after the one before. It is kept as a link is: a tuple's positions are counted in 16 bits.
 abbrev pub blockWord : ℕ
 blockWord = 9
 
@@ -51,7 +53,7 @@ rightWord = 11
 abbrev pub orderedNextWord : ℕ
 orderedNextWord = 11
 
--- next child and parent, as links; step, name, how many samples held it, the last of them
+-- next child and parent; step, name, how many samples held it, the last of them
 abbrev pub nextWord : ℕ
 nextWord = 12
 
@@ -74,7 +76,7 @@ markWord = 17
 abbrev pub tagWord : ℕ
 tagWord = 18
 
--- the root's number; no place has it as a child, so that as a link it stands for none
+-- the root's number; no place has it as a child, so that where a child is linked it stands for none
 abbrev pub rootPlace : ℕ
 rootPlace = 0
 
@@ -82,7 +84,8 @@ rootPlace = 0
 abbrev pub turnLimit : ℕ
 turnLimit = placeLimit + 1
 
--- What is true of a table with n places: links are places, a next child has a higher number, and names end inside the text.
+-- What is true of a table with n places: first, last and next child are places, a next child has a higher number, and names end inside the
+-- text.
 pub record Linked (text t : List ℕ) (n : ℕ) : Type 0 where
   pub most : n ≤ placeLimit
   pub room : IsTable t

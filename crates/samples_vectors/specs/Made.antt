@@ -10,6 +10,7 @@ unfoldable pub newestOf : List ℕ → ℕ → ℕ
 newestOf t zero = 0
 newestOf t (suc n) = max (newestOf t n) (linkAt t n lastWord)
 
--- a new place is its parent's last child, and numbers rise: so many were made, the root counted
+-- so many were made, the root counted, for a new place is its parent's last child, and numbers rise (reasoned, not proved; the stored
+-- printouts are compared)
 abbrev pub madeIn : List ℕ → ℕ
 madeIn t = newestOf t placeLimit + 1

@@ -1,5 +1,5 @@
 // Traces each batch of batches.bin, and prints the places that are there then, also where tracing is refused halfway: of each
-// place all its words, links as halves.
+// place all words in use, links as halves.
 ghost use mathlib.Core.Path.{_≡_};
 ghost use mathlib.Core.Bool.{true, false};
 ghost use Prim.Native.Nat.{_<_, _≤_};
@@ -23,7 +23,7 @@ fn print_word(table: &[u32], place: usize, field: usize, after: &[u8])
     print_number(words::get(table, place, field) as u64, after);
 }
 
-// The two links of a word.
+// Two links, which share a word.
 fn print_links(table: &[u32], place: usize, lower: usize, upper: usize)
     requires { ⌜ IsTable (now table) × IsRow place × (isLink lower ≡ true) × (isLink upper ≡ true) ⌝ }
 {

@@ -28,7 +28,7 @@ abbrev pub IsRow : ℕ → Type 0
 IsRow place = place < tablePlaces
 
 -- ---- the words of a place
--- There are so many, by number: whole words, and between them links, which are of 16 bits, for they are places' numbers. Two links stand in
+-- There are so many, by number: whole words, and between them links, of 16 bits, which is enough for a place's number. Two links stand in
 -- one word of the row.
 abbrev pub placeWords : ℕ
 placeWords = 20
@@ -40,6 +40,7 @@ linksFrom = 6
 abbrev pub linksEnd : ℕ
 linksEnd = 14
 
+-- the word is one of them
 abbrev pub isLink : ℕ → Bool
 isLink field = leb linksFrom field && ltb field linksEnd
 
@@ -47,10 +48,10 @@ isLink field = leb linksFrom field && ltb field linksEnd
 abbrev pub linkLimit : ℕ
 linkLimit = 2 ^ 16
 
--- there is room for a value: for any in a whole word, and for what a link can be in each
-pub data Holds (field value : ℕ) : Type 0 where
-  in-whole : isLink field ≡ false → Holds field value
-  in-each : value < linkLimit → Holds field value
+-- a value has room in a word of a place: any value in a whole word, and one below linkLimit in every word
+pub data HasRoom (field value : ℕ) : Type 0 where
+  in-whole : isLink field ≡ false → HasRoom field value
+  in-each : value < linkLimit → HasRoom field value
 
 -- it has that word of that place
 unfoldable pub hasWord : ℕ → ℕ → Bool
@@ -75,7 +76,8 @@ isLower field = eqb (field % 2) 0
 unfoldable pub partOf : ℕ → ℕ → ℕ
 partOf field w = if isLink field then (if isLower field then w % linkLimit else w / linkLimit) else w
 
--- that word of the row with a place's word stored, the other link as it was: a lower one is stored as far as it has room
+-- that word of the row with a place's word stored, the other link as it was. What is too large for a lower link is cut off, so that the upper
+-- one stays whatever is stored; code stores only what has room.
 unfoldable pub withPart : ℕ → ℕ → ℕ → ℕ
 withPart field w value =
     if isLink field

@@ -5,7 +5,7 @@ ghost use mathlib.Core.Bool.{true, false};
 ghost use Prim.Native.Nat.{_<_};
 ghost use Rattle.words.specs.Word.{tableWords, placeWords, linkLimit, IsTable, IsRow, isLink, indexOf, partOf, withPart, word, withWord, zeros};
 
-// So many words: those of all places.
+// So many words: a row for each place.
 pub const WORDS: usize = 16384;
 
 // Words of a row: rows stand one after another.
@@ -16,7 +16,7 @@ const LINKS_FROM: usize = 6;
 
 const LINKS_END: usize = 14;
 
-// Links are below this, places' numbers of 16 bits; and so often does the upper half of a word count.
+// A link is below this. A word with links is the lower one, and this times the upper one.
 const LINK_LIMIT: u32 = 65536;
 
 // Where a whole word stands. Behind the links numbers run ahead, for two links share a word.

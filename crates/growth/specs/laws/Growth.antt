@@ -27,7 +27,7 @@ use Rattle.growth.specs.declared.Ensured.the-variants as E
 use Rattle.growth.specs.declared.Made.{Made}
 use Rattle.growth.specs.declared.Made.the-variants as D
 use Rattle.places.specs.Layout.{kindWord, samplesWord, firstWord, lastWord, blockWord, nextWord, parentWord, stepWord, nameWord, heldWord, markWord, tagWord, Linked, Sound, Ready}
-use Rattle.growth.specs.Growth.{linked, described, appended, tagged, Ensuring, ensuring, confirmed, ensuredBy, ensured, touched, sampled, Making, making, ofEnsuring, madeOne, thenMade, madeAll, appendedFrom, positionsMade, made, SoundEnsured, SoundMade, entered}
+use Rattle.growth.specs.Growth.{linked, lengthened, described, appended, tagged, Ensuring, ensuring, confirmed, ensuredBy, ensured, touched, sampled, Making, making, ofEnsuring, madeOne, thenMade, madeAll, appendedFrom, positionsMade, made, SoundEnsured, SoundMade, entered}
 use Rattle.search.specs.Search.{childAt}
 use Rattle.search.specs.laws.Tree.{seek-ends}
 use Rattle.search.specs.Tree.{isNumbered}
@@ -60,11 +60,7 @@ unfolding linked
 length-linked place child t = length-either (eqb (word t place firstWord) 0) (withWord t place firstWord child)
     (withWord t (word t place lastWord) nextWord child) (length t) (simp length-with) (simp length-with)
 
--- a place's chain of children, one longer
-abbrev pub lengthened : ℕ → ℕ → List ℕ → List ℕ
-lengthened place child t = withWord (linked place child t) place lastWord child
-
--- a word that the chain is not made of
+-- a word that a chain of children is not made of
 abbrev isAside : ℕ → Bool
 isAside f = not (eqb f firstWord || eqb f lastWord || eqb f nextWord)
 

@@ -10,7 +10,7 @@ use lib.ListN.{length, getD, set, replicate, length-set, length-replicate}
 use lib.Seq.{getD-set-same, getD-set-other, set-getD, set-comm}
 use Rattle.logic.specs.Test.{if_then_else_}
 use Rattle.logic.specs.laws.Test.{cases, both}
-use Rattle.words.specs.Word.{tablePlaces, placeWords, tableWords, rowWords, linksFrom, linksEnd, IsTable, IsRow, Holds, in-whole, in-each, isLink, isLower, hasWord, rowWord, indexOf, partOf, withPart, word, withWord, zeros}
+use Rattle.words.specs.Word.{tablePlaces, placeWords, tableWords, rowWords, linksFrom, linksEnd, IsTable, IsRow, HasRoom, in-whole, in-each, isLink, isLower, hasWord, rowWord, indexOf, partOf, withPart, word, withWord, zeros}
 
 -- ---- the word of a row that a place's word is, or stands in
 pub link-from : (f : ℕ) → isLink f ≡ true → linksFrom ≤ f
@@ -67,7 +67,7 @@ row-inside f l = go (stands f)
 
 -- ---- the two links of a word
 -- what is stored is there, if there is room for it
-part-same : (f w v : ℕ) → Holds f v → partOf f (withPart f w v) ≡ v
+part-same : (f w v : ℕ) → HasRoom f v → partOf f (withPart f w v) ≡ v
 unfolding partOf withPart if_then_else_
 part-same f w v (in-whole l) = rw l refl
 part-same f w v (in-each i) =
@@ -165,7 +165,7 @@ keeps P t p f v q g h k =
     (λ a. rw a k)
 
 -- what is true of a word before a store, and of what is stored if it is stored there, and has room, is true of the word afterwards
-pub word-keeps : (P : ℕ → Type 0) (t : List ℕ) (p f v q g : ℕ) → (q ≡ p → g ≡ f → Holds g v × P v) → P (word t q g) → P (word (withWord t p f v) q g)
+pub word-keeps : (P : ℕ → Type 0) (t : List ℕ) (p f v q g : ℕ) → (q ≡ p → g ≡ f → HasRoom g v × P v) → P (word t q g) → P (word (withWord t p f v) q g)
 word-keeps P t p f v q g h = keeps P t p f v q g (λ x y. let (r, k) = h x y in rw (part-same f (getD t (indexOf p f) 0) v (rw y at r)) k)
 
 -- a store to another word leaves a word, the other link in the same word of its row too
@@ -173,7 +173,7 @@ pub word-other : (t : List ℕ) (p f v q g : ℕ) → (q ≡ p → g ≡ f → �
 word-other t p f v q g n = keeps (λ u. u ≡ word t q g) t p f v q g (λ x y. absurd (n x y)) refl
 
 -- what is stored is there
-pub word-same : (t : List ℕ) (p f v : ℕ) → IsTable t → IsRow p → f < placeWords → Holds f v → word (withWord t p f v) p f ≡ v
+pub word-same : (t : List ℕ) (p f v : ℕ) → IsTable t → IsRow p → f < placeWords → HasRoom f v → word (withWord t p f v) p f ≡ v
 unfolding word withWord if_then_else_
 word-same t p f v n l b r =
     let e : hasWord p f ≡ true = has-word p f l b in

@@ -24,8 +24,8 @@ use Rattle.shapes.specs.declared.Step as Flat
 use Rattle.shapes.specs.declared.Step.the-variants as S
 use Rattle.shapes.specs.Steps.{codeOf, noName, packedName}
 use Rattle.growth.specs.declared.Made.the-variants as L
-use Rattle.growth.specs.laws.Growth.{lengthened, lengthened-aside}
-use Rattle.growth.specs.Growth.{positionsFrom as positionsOf, made as madeFlat, described, appended, Ensuring, Making, making, ofEnsuring, madeOne, thenMade, madeAll, appendedFrom, positionsMade}
+use Rattle.growth.specs.laws.Growth.{lengthened-aside}
+use Rattle.growth.specs.Growth.{positionsFrom as positionsOf, made as madeFlat, lengthened, described, appended, Ensuring, Making, making, ofEnsuring, madeOne, thenMade, madeAll, appendedFrom, positionsMade}
 use Rattle.places.specs.Layout.{firstWord, blockWord, parentWord, stepWord, nameWord}
 use Rattle.refine.specs.laws.numbered.Tree.{Spot, spot, Spots, no-spots, child, num, stepsS, spotAt, addS, makeS, makeAllS}
 use Rattle.refine.specs.laws.reading.Steps.{near, Stands}

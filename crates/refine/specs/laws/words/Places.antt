@@ -10,7 +10,7 @@ use lib.Dec.{eqb}
 use borrow.Author.Tests.{eqb-true, eqb-false}
 use Rattle.logic.specs.laws.Test.{cases}
 use Rattle.text.specs.Name.{bytesOf}
-use Rattle.words.specs.Word.{placeWords, IsTable, IsRow, Holds, in-whole, word, withWord}
+use Rattle.words.specs.Word.{placeWords, IsTable, IsRow, HasRoom, in-whole, word, withWord}
 use Rattle.words.specs.laws.Word.{word-same, word-other, length-with}
 use Rattle.model.specs.Kinds.{Step, position}
 use Rattle.model.specs.Tracing.{one, placeLimit, has}
@@ -68,7 +68,8 @@ pub same-block : (t t′ : List ℕ) (p : ℕ) (ks : Spots) → word t′ p bloc
 same-block t t′ p ks e r = subst (λ (b : ℕ). Block b ks) (sym e) r
 
 -- one word of a row is written
-pub row-set : (t : List ℕ) (p base f v : ℕ) (xs : List ℕ) → IsTable t → IsRow p → base + f < placeWords → Holds (base + f) v → f < length xs → Row t p base xs → Row (withWord t p (base + f) v) p base (set xs f v)
+pub row-set : (t : List ℕ) (p base f v : ℕ) (xs : List ℕ) → IsTable t → IsRow p → base + f < placeWords → HasRoom (base + f) v → f < length xs
+    → Row t p base xs → Row (withWord t p (base + f) v) p base (set xs f v)
 row-set t p base f v xs a b l o i r g j =
     cases (eqb g f)
     (λ e. let d : g ≡ f = eqb-true g f e in rw d (word-same t p (base + f) v a b l o ∙ sym (getD-set-same xs f v 0 i)))
@@ -86,7 +87,8 @@ module _ (text : List ℕ) where
     frameIn t t′ p no-spots r w = tt
     frameIn t t′ p (child s h m u ks) r w = (
       same-cell (r .0) (λ f l. w (num u) f l (has-num u ks)),
-      frame t t′ u (r .1) (λ f l. w (num u) f (omega arith, omega arith, λ e. omega arith, λ e. omega arith) (has-num u ks)) (λ q f l a. w q f l (or-left (within q u) (withinIn q ks) (has-below q u a))),
+      frame t t′ u (r .1) (λ f l. w (num u) f (omega arith, omega arith, λ e. omega arith, λ e. omega arith) (has-num u ks))
+          (λ q f l a. w q f l (or-left (within q u) (withinIn q ks) (has-below q u a))),
       frameIn t t′ p ks (r .2) (λ q f l a. w q f l (or-right (within q u) (withinIn q ks) a)),
     )
 
