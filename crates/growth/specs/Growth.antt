@@ -38,7 +38,7 @@ described place code name child t =
 abbrev pub lengthened : ℕ → ℕ → List ℕ → List ℕ
 lengthened place child t = withWord (linked place child t) place lastWord child
 
--- a new last child, with these words
+-- a new last child, with the words that tell where it stands
 unfoldable pub appended : ℕ → ℕ → Name → ℕ → List ℕ → List ℕ
 appended place code name child t = described place code name child (lengthened place child t)
 

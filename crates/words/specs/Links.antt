@@ -28,7 +28,7 @@ stored t place field to table row link short = record {
   table = rw length-with table;
 }
 
--- links 6 and 7 share the seventh word of a row: 5 is stored in one, then 9 in the other, and both are read
+-- links 6 and 7 share word 6 of a row: 5 is stored in one, then 9 in the other, and both are read
 both-kept : (rowWord 6 ≡ rowWord 7) × (withPart 7 (withPart 6 0 5) 9 ≡ 9 * linkLimit + 5) ×
     (partOf 6 (9 * linkLimit + 5) ≡ 5) × (partOf 7 (9 * linkLimit + 5) ≡ 9)
 unfolding rowWord partOf withPart if_then_else_

@@ -64,7 +64,7 @@ length-linked place child t = length-either (eqb (word t place firstWord) 0) (wi
 abbrev isAside : ℕ → Bool
 isAside f = not (eqb f firstWord || eqb f lastWord || eqb f nextWord)
 
--- may as well be stored before
+-- such a word may as well be stored before the chain grows
 module _ (q f v : ℕ) (e : isAside f ≡ true) (place child : ℕ) (t : List ℕ) where
   aside : (g : ℕ) → isAside g ≡ false → (p : ℕ) → p ≡ q → g ≡ f → ⊥
   aside g d p _ z = absurd (false≢true (sym d ∙ rw (← z) at e))
