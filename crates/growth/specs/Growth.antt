@@ -20,9 +20,13 @@ use Rattle.growth.specs.declared.Ensured.{Ensured}
 use Rattle.growth.specs.declared.Ensured.the-variants as E
 use Rattle.growth.specs.declared.Made.{Made}
 use Rattle.growth.specs.declared.Made.the-variants as D
-use Rattle.places.specs.Layout.{kindWord, samplesWord, firstWord, lastWord, blockWord, nextWord, parentWord, stepWord, nameWord, heldWord, markWord, tagWord, Sound}
+use Rattle.places.specs.Layout.{kindWord, samplesWord, firstWord, lastWord, blockWord, nextWord, parentWord, stepWord, nameWord, heldWord, markWord, tagWord, positionWord, Sound}
 use Rattle.search.specs.Tree.{isNumbered, seek}
 use Rattle.search.specs.Search.{childAt}
+
+-- one more: counts wrap at 32 bits, which none reaches
+abbrev pub onward : ℕ → ℕ
+onward count = (count + 1) % 2 ^ 32
 
 -- ---- a new last child: linked from the place where it is the first, else from the last before it
 unfoldable pub linked : ℕ → ℕ → List ℕ → List ℕ
@@ -42,9 +46,13 @@ lengthened place child t = withWord (linked place child t) place lastWord child
 unfoldable pub appended : ℕ → ℕ → Name → ℕ → List ℕ → List ℕ
 appended place code name child t = described place code name child (lengthened place child t)
 
--- the tag of its name
-unfoldable pub tagged : List ℕ → Name → ℕ → List ℕ → List ℕ
-tagged text name child t = withWord t child tagWord (tagOf (bytesOf text name))
+-- the position that a new child gets among its siblings: one behind the last's
+unfoldable pub positionIn : ℕ → List ℕ → ℕ
+positionIn place t = if eqb (word t place firstWord) 0 then 0 else onward (word t (word t place lastWord) positionWord)
+
+-- what the search for fields goes by: the tag of its name, and how many siblings stand before it
+unfoldable pub tagged : List ℕ → Name → ℕ → ℕ → List ℕ → List ℕ
+tagged text name position child t = withWord (withWord t child tagWord (tagOf (bytesOf text name))) child positionWord position
 
 -- a new numbered child, the table's place n, is stored at the link where the search for it ends
 unfoldable pub entered : ℕ → ℕ → ℕ → List ℕ → List ℕ
@@ -62,15 +70,12 @@ unfoldable pub ensuredBy : List ℕ → ℕ → ℕ → Name → ℕ → List �
 ensuredBy text place code name n t child =
     if not (eqb child 0) then ensuring (confirmed text name child n t) t
     else if leb placeLimit n then ensuring (E.Refused F.TooManyPlaces) t
-    else ensuring (E.Child n (n + 1)) (entered place code n (tagged text name n (appended place code name n t)))
+    else ensuring (E.Child n (n + 1)) (entered place code n (tagged text name (positionIn place t) n (appended place code name n t)))
 
 unfoldable pub ensured : List ℕ → ℕ → Step → ℕ → List ℕ → Ensuring
 ensured text place step n t = ensuredBy text place (codeOf step) (nameOf step) n t (childAt text place step n t)
 
--- ---- counts of samples wrap at 32 bits, which no batch reaches
-abbrev pub onward : ℕ → ℕ
-onward count = (count + 1) % 2 ^ 32
-
+-- ---- samples counted
 -- a child counted once among those that the place's present sample holds
 unfoldable pub touched : ℕ → ℕ → List ℕ → List ℕ
 touched place child t =

@@ -6,7 +6,7 @@ ghost use Rattle.shapes.specs.Steps.{fieldCode, codeOf, nameOf, Good};
 ghost use Rattle.places.specs.Layout.{Ready, lastWord};
 ghost use Rattle.search.specs.Tree.{seek};
 ghost use Rattle.search.specs.Search.{Comparable};
-ghost use Rattle.growth.specs.Growth.{linked, described, appended, confirmed, ensuredBy, ensured, EnsuredAs, touched, sampled, madeOne, madeAll, positionsFrom, positionsMade, made, MadeAs, entered};
+ghost use Rattle.growth.specs.Growth.{linked, described, appended, confirmed, ensuredBy, ensured, EnsuredAs, touched, sampled, madeOne, madeAll, positionsFrom, positionsMade, made, MadeAs, positionIn, entered};
 ghost use mathlib.Core.Bool.{_&&_};
 ghost use lib.Dec.{eqb};
 ghost use Rattle.model.specs.Kinds.{tupleKind};
@@ -83,6 +83,18 @@ fn confirm(text: &[u8], name: Name, child: usize, count: usize, table: &[u32]) -
     }
 }
 
+// The position that a new child gets among its siblings: one behind the last's.
+fn next_position(place: usize, table: &[u32]) -> u32
+    requires { ⌜ IsRow place × IsTable (now table) × IsRow (word (now table) place lastWord) ⌝ }
+    ensures { λ r. ⌜ r ≡ positionIn place (now (table .entry)) ⌝ }
+{
+    if words::link(table, place, places::FIRST) == 0 {
+        return 0;
+    }
+    let last = words::link(table, place, places::LAST);
+    std::num::wrapping_add_u32(words::get(table, last, places::POSITION), 1)
+}
+
 // A new last child, at a step where the place has none, if there is room.
 pub fn add(
     text: &[u8],
@@ -98,8 +110,10 @@ pub fn add(
     if places::PLACES <= count {
         return Ensured::Refused(Refusal::TooManyPlaces);
     }
+    let position = next_position(place, table);
     append(place, code, name, count, table);
     words::set(table, count, places::TAG, name.tag(text));
+    words::set(table, count, places::POSITION, position);
     enter(place, code, count, table);
     Ensured::Child(count, count + 1)
 }

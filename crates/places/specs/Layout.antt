@@ -72,9 +72,12 @@ heldWord = 16
 abbrev pub markWord : ℕ
 markWord = 17
 
--- the tag of its name, of which equal names have the same. 19 is free.
+-- the tag of its name, of which equal names have the same, and its position among its siblings
 abbrev pub tagWord : ℕ
 tagWord = 18
+
+abbrev pub positionWord : ℕ
+positionWord = 19
 
 -- the root's number; no place has it as a child, so that where a child is linked it stands for none
 abbrev pub rootPlace : ℕ
@@ -95,6 +98,20 @@ pub record Linked (text t : List ℕ) (n : ℕ) : Type 0 where
   pub rises : (p : ℕ) → IsRow p → (word t p nextWord ≡ 0 → ⊥) → p < word t p nextWord
   pub names : (p : ℕ) → IsRow p → Inside text (unpackedName (word t p nameWord))
 
+-- A place's children are the places that have it as their parent, in ascending order.
+pub record Siblings (t : List ℕ) (n : ℕ) : Type 0 where
+  -- the first, the last and the next child have that parent
+  pub first : (p : ℕ) → (word t p firstWord ≡ 0 → ⊥) → word t (word t p firstWord) parentWord ≡ p
+  pub last : (p : ℕ) → (word t p firstWord ≡ 0 → ⊥) → word t (word t p lastWord) parentWord ≡ p
+  pub next : (c : ℕ) → (word t c nextWord ≡ 0 → ⊥) → word t (word t c nextWord) parentWord ≡ word t c parentWord
+  -- whoever has a parent stands from its first child to its last
+  pub some : (c : ℕ) → 0 < c → c < n → word t (word t c parentWord) firstWord ≡ 0 → ⊥
+  pub from : (c : ℕ) → 0 < c → c < n → word t (word t c parentWord) firstWord ≤ c
+  pub to : (c : ℕ) → 0 < c → c < n → c ≤ word t (word t c parentWord) lastWord
+  -- and none between a child and the next
+  pub following : (c d : ℕ) → 0 < c → c < d → d < n → word t c parentWord ≡ word t d parentWord → word t c nextWord ≡ 0 → ⊥
+  pub between : (c d : ℕ) → 0 < c → c < d → d < n → word t c parentWord ≡ word t d parentWord → word t c nextWord ≤ d
+
 -- once it is traced, however many places there are
 abbrev pub Settled : List ℕ → List ℕ → Type 0
 Settled text t = Linked text t placeLimit
@@ -103,9 +120,12 @@ Settled text t = Linked text t placeLimit
 abbrev pub Tagged : List ℕ → List ℕ → ℕ → Type 0
 Tagged text t p = word t p stepWord ≡ fieldCode → word t p tagWord ≡ tagOf (bytesOf text (unpackedName (word t p nameWord)))
 
--- and while it is traced also: names are UTF-8, and fields have their tags
+-- and while it is traced also: words of places that are not made yet are zero, children stand in ascending order, names are UTF-8, and
+-- fields have their tags
 pub record Sound (text t : List ℕ) (n : ℕ) : Type 0 where
   pub linked : Linked text t n
+  pub blank : (p f : ℕ) → n ≤ p → word t p f ≡ 0
+  pub siblings : Siblings t n
   pub utf8 : (p : ℕ) → p < n → isUtf8 (bytesOf text (unpackedName (word t p nameWord))) ≡ true
   pub tags : (p : ℕ) → p < n → Tagged text t p
 

@@ -5,14 +5,14 @@ use mathlib.Core.List.{List, [], _∷_}
 use Prim.Native.Nat.{ℕ, zero, suc, _+_, _%_, _/_, _<_, _≤_}
 use native.Mathlib.Nat.{le-refl}
 use native.Mathlib.Omega.{arith}
-use borrow.Author.Tests.{eqb-false}
+use borrow.Author.Tests.{eqb-true, eqb-false, ne-eqb}
 use lib.Dec.{eqb, leb}
 use lib.ListN.{length}
 use Rattle.logic.specs.Test.{if_then_else_}
 use Rattle.logic.specs.laws.Test.{cases}
 use Rattle.logic.specs.laws.Flag.{if-either}
 use Rattle.text.specs.declared.Name.{Name}
-use Rattle.words.specs.Word.{word, withWord, IsRow, IsTable, in-whole}
+use Rattle.words.specs.Word.{word, withWord, IsRow, IsTable, in-whole, in-each}
 use Rattle.words.specs.laws.Word.{word-same, word-other, length-with, with-swap}
 use Rattle.refusal.specs.declared.Refusal.{Refusal}
 use Rattle.text.specs.Name.{bytesOf, eqName, tagOf}
@@ -26,22 +26,23 @@ use Rattle.growth.specs.declared.Ensured.{Ensured}
 use Rattle.growth.specs.declared.Ensured.the-variants as E
 use Rattle.growth.specs.declared.Made.{Made}
 use Rattle.growth.specs.declared.Made.the-variants as D
-use Rattle.places.specs.Layout.{kindWord, samplesWord, firstWord, lastWord, blockWord, nextWord, parentWord, stepWord, nameWord, heldWord, markWord, tagWord, Linked, Sound, Ready}
+use Rattle.places.specs.Layout.{kindWord, samplesWord, firstWord, lastWord, blockWord, nextWord, parentWord, stepWord, nameWord, heldWord, markWord, tagWord, positionWord, Linked, Siblings, Sound, Ready}
 use Rattle.growth.specs.Growth.{linked, lengthened, described, appended, tagged, Ensuring, ensuring, confirmed, ensuredBy, ensured, touched, sampled, Making, making, ofEnsuring, madeOne, thenMade, madeAll, appendedFrom, positionsMade, made, SoundEnsured, SoundMade, entered}
 use Rattle.search.specs.Search.{childAt}
 use Rattle.search.specs.laws.Tree.{seek-ends}
 use Rattle.search.specs.Tree.{isNumbered}
-use Rattle.places.specs.laws.Layout.{isPlain, linked-stored, sound-from, sound-plain, last-below}
+use Rattle.places.specs.laws.Layout.{isPlain, linked-stored, siblings-same, sound-from, sound-plain, last-below, is-place}
+use Rattle.growth.specs.laws.Siblings.{Appended, siblings-appended}
 
-pub sound-sampled : (text t u : List ℕ) (n place kind : ℕ) → u ≡ sampled place kind t → Sound text t n → Sound text u n
+pub sound-sampled : (text t u : List ℕ) (n place kind : ℕ) → u ≡ sampled place kind t → place < n → Sound text t n → Sound text u n
 unfolding sampled
-sound-sampled text t u n place kind e s = rw e (sound-plain text _ n place samplesWord _ refl (sound-plain text t n place kindWord kind refl s))
+sound-sampled text t u n place kind e h s = rw e (sound-plain text _ n place samplesWord _ refl h (sound-plain text t n place kindWord kind refl h s))
 
-pub sound-touched : (text t u : List ℕ) (n place child : ℕ) → u ≡ touched place child t → Sound text t n → Sound text u n
+pub sound-touched : (text t u : List ℕ) (n place child : ℕ) → u ≡ touched place child t → child < n → Sound text t n → Sound text u n
 unfolding touched
-sound-touched text t u n place child e s =
+sound-touched text t u n place child e h s =
     rw e (if-either (λ x. Sound text x n) (eqb (word t child markWord) (word t place samplesWord)) s
-    (sound-plain text _ n child markWord _ refl (sound-plain text t n child heldWord _ refl s)))
+    (sound-plain text _ n child markWord _ refl h (sound-plain text t n child heldWord _ refl h s)))
 
 -- ---- a new last child
 
@@ -50,7 +51,8 @@ pub sound-entered : (text t u : List ℕ) (n place code : ℕ) → u ≡ entered
 unfolding entered if_then_else_
 sound-entered text t u n place code e h m s =
     let ends = seek-ends code n t (λ w. isPlain w ≡ true) refl refl refl place h (omega arith) in
-    rw e (if-either (λ x. Sound text x (n + 1)) (isNumbered code) (sound-plain text t (n + 1) _ _ n (ends .link) s) s)
+    let l = ends .here in
+    rw e (if-either (λ x. Sound text x (n + 1)) (isNumbered code) (sound-plain text t (n + 1) _ _ n (ends .link) (omega (arith, l)) s) s)
 
 pub length-either : (test : Bool) (x y : List ℕ) (n : ℕ) → length x ≡ n → length y ≡ n → length (if test then x else y) ≡ n
 length-either test x y n e d = if-either (λ z. length z ≡ n) test e d
@@ -141,6 +143,14 @@ appended-else place code child name t q f l a =
     ∙ word-other (linked place child t) place lastWord child q f (λ e d. omega arith)
     ∙ linked-else place child t q f (omega arith)
 
+-- the words that tell where it stands are no others
+described-else : (place code child : ℕ) (name : Name) (t : List ℕ) (q f : ℕ) → (q ≡ child → f < parentWord) → word (described place code name child t) q f ≡ word t q f
+unfolding described
+described-else place code child name t q f a =
+    word-other _ child nameWord (packedName name) q f (λ e d. let l = a e in omega arith)
+    ∙ word-other _ child stepWord code q f (λ e d. let l = a e in omega arith)
+    ∙ word-other t child parentWord place q f (λ e d. let l = a e in omega arith)
+
 module _ (text t : List ℕ) (n place : ℕ) (ready : Ready text t n place) (room : IsRow n) where
   links : Linked text t n
   links = ready .sound .linked
@@ -172,19 +182,16 @@ module _ (text t : List ℕ) (n place : ℕ) (ready : Ready text t n place) (roo
         (linked-stored text _ (n + 1) (n + 1) place lastWord n linked-linked (le-refl (n + 1)) (omega arith) (λ z. absurd (omega arith))
         (λ z. omega arith) (λ z. absurd (omega arith)) (λ z. absurd (omega arith)))))
 
+    long : IsTable (lengthened place n t)
+    long = rw (length-with, length-linked place n t) (links .room)
+
     appended-name : word after n nameWord ≡ packedName name
     unfolding described appended
-    appended-name =
-        let x : List ℕ = stepped place code n t in
-        let l : IsTable x = rw (length-with, length-with, length-with, length-linked place n t) (links .room) in
-        word-same x n nameWord (packedName name) l room (omega arith) (in-whole refl)
+    appended-name = word-same _ n nameWord (packedName name) (rw (length-with, length-with) long) room (omega arith) (in-whole refl)
 
     appended-step : word after n stepWord ≡ code
     unfolding described appended
-    appended-step =
-        let x : List ℕ = below place n t in
-        let l : IsTable x = rw (length-with, length-with, length-linked place n t) (links .room) in
-        word-other (stepped place code n t) n nameWord (packedName name) n stepWord (λ e d. omega arith) ∙ word-same x n stepWord code l room (omega arith) (in-whole refl)
+    appended-step = word-other _ n nameWord (packedName name) n stepWord (λ e d. omega arith) ∙ word-same _ n stepWord code (rw length-with long) room (omega arith) (in-whole refl)
 
     appended-utf8 : isUtf8 (bytesOf text (unpackedName (word after n nameWord))) ≡ true
     appended-utf8 = rw (appended-name, packed-bytes text name h) (good .utf8)
@@ -192,27 +199,99 @@ module _ (text t : List ℕ) (n place : ℕ) (ready : Ready text t n place) (roo
     kept : (q f : ℕ) → q < n → parentWord < f → word after q f ≡ word t q f
     kept = appended-else place code n name t
 
+    -- it is the new last child
+    parent-appended : word after n parentWord ≡ place
+    unfolding described appended
+    parent-appended =
+        let l : place < n = ready .here in
+        word-other _ n nameWord (packedName name) n parentWord (λ e d. omega arith) ∙ word-other _ n stepWord code n parentWord (λ e d. omega arith)
+        ∙ word-same _ n parentWord place long room (omega arith) (in-each (omega arith))
+
+    -- a link of the chain is that of the chain one longer
+    chain : (q f : ℕ) → f < parentWord → word after q f ≡ word (lengthened place n t) q f
+    unfolding appended
+    chain q f l = described-else place code n name (lengthened place n t) q f (λ e. l)
+
+    -- and but for the last child, that of the chain with the link to it
+    chained : (q f : ℕ) → f < parentWord → (q ≡ place → f ≡ lastWord → ⊥) → word after q f ≡ word (linked place n t) q f
+    chained q f l o = chain q f l ∙ word-other (linked place n t) place lastWord n q f o
+
+    is-appended : Appended t after place n
+    unfolding linked if_then_else_
+    is-appended =
+        record {
+          parent = parent-appended;
+          parents = λ q o. described-parent q o ∙ word-other (linked place n t) place lastWord n q parentWord (λ e d. omega arith) ∙ linked-else place n t q parentWord (omega arith);
+          last = chain place lastWord (omega arith) ∙ word-same (linked place n t) place lastWord n (rw (length-linked place n t) (links .room)) (is-place text t n place ready) (omega arith) (in-each (omega arith));
+          lasts = λ q o. chained q lastWord (omega arith) (λ e d. o e) ∙ cases (eqb (word t place firstWord) 0)
+              (λ z. rw z (word-other t place firstWord n q lastWord (λ e d. omega arith)))
+              (λ z. rw z (word-other t (word t place lastWord) nextWord n q lastWord (λ e d. omega arith)));
+          first = λ z. chained place firstWord (omega arith) (λ e d. omega arith) ∙ (rw z (word-same t place firstWord n (links .room) (is-place text t n place ready) (omega arith) (in-each (omega arith))));
+          firsts = λ q o. chained q firstWord (omega arith) (λ e d. omega arith) ∙ cases (eqb (word t place firstWord) 0)
+              (λ z. rw z (word-other t place firstWord n q firstWord (λ e d. o e (eqb-true _ 0 z))))
+              (λ z. rw z (word-other t (word t place lastWord) nextWord n q firstWord (λ e d. omega arith)));
+          next = λ z.
+              let l : word t place lastWord < n = links .last place (is-place text t n place ready) in
+              chained (word t place lastWord) nextWord (omega arith) (λ e d. omega arith)
+              ∙ (rw (ne-eqb (word t place firstWord) 0 z) (word-same t (word t place lastWord) nextWord n (links .room) (omega arith) (omega arith) (in-each (omega arith))));
+          nexts = λ q o. chained q nextWord (omega arith) (λ e d. omega arith) ∙ cases (eqb (word t place firstWord) 0)
+              (λ z. rw z (word-other t place firstWord n q nextWord (λ e d. omega arith)))
+              (λ z. rw z (word-other t (word t place lastWord) nextWord n q nextWord (λ e d. eqb-false _ 0 z (o e))));
+        }
+      where
+        described-parent : (q : ℕ) → (q ≡ n → ⊥) → word after q parentWord ≡ word (lengthened place n t) q parentWord
+        described-parent q o = described-else place code n name (lengthened place n t) q parentWord (λ e. absurd (o e))
+
+    -- places that are not made yet are as they were
+    far : (q f : ℕ) → n < q → word after q f ≡ word t q f
+    unfolding appended linked if_then_else_
+    far q f l =
+        let b : place < n = ready .here in
+        let k : word t place lastWord < n = links .last place (is-place text t n place ready) in
+        described-else place code n name (lengthened place n t) q f (λ e. absurd (omega arith))
+        ∙ word-other (linked place n t) place lastWord n q f (λ e d. omega arith)
+        ∙ cases (eqb (word t place firstWord) 0)
+        (λ z. rw z (word-other t place firstWord n q f (λ e d. omega arith)))
+        (λ z. rw z (word-other t (word t place lastWord) nextWord n q f (λ e d. omega arith)))
+
+    blank-appended : (q f : ℕ) → n + 1 ≤ q → word after q f ≡ 0
+    blank-appended q f l = far q f (omega arith) ∙ ready .sound .blank q f (omega arith)
+
+    siblings-after : Siblings after (n + 1)
+    siblings-after = siblings-appended text t after n place ready is-appended
+
     -- a child that is no field
     pub sound-appended : (u : List ℕ) → u ≡ after → (code ≡ fieldCode → ⊥) → Sound text u (n + 1)
     sound-appended u e no-field =
-        rw e (sound-from text t after n (n + 1) (ready .sound) linked-appended
+        rw e (sound-from text t after n (n + 1) (ready .sound) linked-appended blank-appended siblings-after
         (λ q l. kept q stepWord l (omega arith)) (λ q l. kept q nameWord l (omega arith)) (λ q l. kept q tagWord l (omega arith))
         (λ q l b. let o : q ≡ n = omega arith in rw o appended-utf8)
         (λ q l b d. let o : q ≡ n = omega arith in absurd (no-field (sym appended-step ∙ rw o at d))))
 
     -- a child that has its tag
-    pub sound-tagged : (u : List ℕ) → u ≡ tagged text name n after → Sound text u (n + 1)
-    unfolding tagged
-    sound-tagged u e =
-        let tag : ℕ = tagOf (bytesOf text name) in
-        let same : (q f : ℕ) → f < tagWord → word (withWord after n tagWord tag) q f ≡ word after q f = λ q f b. word-other after n tagWord tag q f (λ e d. omega arith) in
-        rw e (sound-from text t (withWord after n tagWord tag) n (n + 1) (ready .sound) (linked-new after n tagWord tag (omega arith) (λ z. absurd (omega arith)) linked-appended)
-        (λ q l. same q stepWord (omega arith) ∙ kept q stepWord l (omega arith))
-        (λ q l. same q nameWord (omega arith) ∙ kept q nameWord l (omega arith))
-        (λ q l. word-other after n tagWord tag q tagWord (λ e d. omega arith) ∙ kept q tagWord l (omega arith))
-        (λ q l b. let o : q ≡ n = omega arith in rw (o, same n nameWord (omega arith)) appended-utf8)
-        (λ q l b d. let o : q ≡ n = omega arith in rw (o, same n nameWord (omega arith), appended-name, packed-bytes text name h)
-        (word-same after n tagWord tag (linked-appended .room) room (omega arith) (in-whole refl))))
+    module _ (u : List ℕ) (position : ℕ) (e : u ≡ tagged text name position n after) where
+      abbrev tag : ℕ
+      tag = tagOf (bytesOf text name)
+
+      same : (q f : ℕ) → f < tagWord → word (withWord after n tagWord tag) q f ≡ word after q f
+      same q f b = word-other after n tagWord tag q f (λ e d. omega arith)
+
+      with-tag : Sound text (withWord after n tagWord tag) (n + 1)
+      with-tag =
+          sound-from text t (withWord after n tagWord tag) n (n + 1) (ready .sound) (linked-new after n tagWord tag (omega arith) (λ z. absurd (omega arith)) linked-appended)
+          (λ q f l. word-other after n tagWord tag q f (λ e d. omega arith) ∙ blank-appended q f l)
+          (siblings-same after (withWord after n tagWord tag) (n + 1) (λ q. same q firstWord (omega arith)) (λ q. same q lastWord (omega arith))
+          (λ q. same q nextWord (omega arith)) (λ q. same q parentWord (omega arith)) siblings-after)
+          (λ q l. same q stepWord (omega arith) ∙ kept q stepWord l (omega arith))
+          (λ q l. same q nameWord (omega arith) ∙ kept q nameWord l (omega arith))
+          (λ q l. word-other after n tagWord tag q tagWord (λ e d. omega arith) ∙ kept q tagWord l (omega arith))
+          (λ q l b. let o : q ≡ n = omega arith in rw (o, same n nameWord (omega arith)) appended-utf8)
+          (λ q l b d. let o : q ≡ n = omega arith in rw (o, same n nameWord (omega arith), appended-name, packed-bytes text name h)
+          (word-same after n tagWord tag (linked-appended .room) room (omega arith) (in-whole refl)))
+
+      pub sound-tagged : Sound text u (n + 1)
+      unfolding tagged
+      sound-tagged = rw e (sound-plain text _ (n + 1) n positionWord position refl (omega arith) with-tag)
 
 -- ---- a child that is ensured, and children that are made
 
@@ -317,7 +396,7 @@ module _ (text t u : List ℕ) (n place : ℕ) (step : Step) (r : Made) (one : m
 
 module _ (text t : List ℕ) (n place : ℕ) (ready : Ready text t n place) where
   pub sampled-ready : (u : List ℕ) (kind : ℕ) → u ≡ sampled place kind t → Ready text u n place
-  sampled-ready u kind e = record { sound = sound-sampled text t u n place kind e (ready .sound); here = ready .here }
+  sampled-ready u kind e = record { sound = sound-sampled text t u n place kind e (ready .here) (ready .sound); here = ready .here }
 
 -- a step's name is good
 module _ (text : List ℕ) (step : Step) (name : Name) (e : name ≡ nameOf step) (good : Good text (nameOf step)) where

@@ -16,7 +16,7 @@ use Rattle.text.specs.Name.{bytesOf}
 use Rattle.text.specs.Utf8.{isUtf8}
 use Rattle.shapes.specs.Steps.{unpackedName, Inside}
 use Rattle.shapes.specs.laws.Shapes.{no-name-good}
-use Rattle.places.specs.Layout.{firstWord, lastWord, nextWord, stepWord, nameWord, tagWord, Linked, Tagged, Sound, Ready}
+use Rattle.places.specs.Layout.{firstWord, lastWord, nextWord, parentWord, stepWord, nameWord, tagWord, Linked, Siblings, Tagged, Sound, Ready}
 
 -- ---- the table stays linked
 
@@ -36,21 +36,38 @@ linked-stored text t n m p w v s l k f a x i =
       names = λ q h. word-keeps (λ u. Inside text (unpackedName u)) t p w v q nameWord (λ e d. (in-whole refl, i (sym d))) (s .names q h);
     }
 
+-- ---- and its children in ascending order: they are told by these words
+pub siblings-same : (t u : List ℕ) (n : ℕ) → ((p : ℕ) → word u p firstWord ≡ word t p firstWord) → ((p : ℕ) → word u p lastWord ≡ word t p lastWord) →
+    ((p : ℕ) → word u p nextWord ≡ word t p nextWord) → ((p : ℕ) → word u p parentWord ≡ word t p parentWord) → Siblings t n → Siblings u n
+siblings-same t u n first last next parent s =
+    record {
+      first = λ p z. rw (first p, parent (word t p firstWord)) (s .first p (λ e. z (first p ∙ e)));
+      last = λ p z. rw (last p, parent (word t p lastWord)) (s .last p (λ e. z (first p ∙ e)));
+      next = λ c z. rw (next c, parent (word t c nextWord), parent c) (s .next c (λ e. z (next c ∙ e)));
+      some = λ c a b e. s .some c a b (rw (parent c, first (word t c parentWord)) at e);
+      from = λ c a b. rw (parent c, first (word t c parentWord)) (s .from c a b);
+      to = λ c a b. rw (parent c, last (word t c parentWord)) (s .to c a b);
+      following = λ c d a b l e z. s .following c d a b l (rw (parent c, parent d) at e) (rw (next c) at z);
+      between = λ c d a b l e. rw (next c) (s .between c d a b l (rw (parent c, parent d) at e));
+    }
+
 -- ---- and sound: the places that there were keep the words of their names, and new names are UTF-8 and have their tags
-pub sound-from : (text t u : List ℕ) (n m : ℕ) → Sound text t n → Linked text u m →
+pub sound-from : (text t u : List ℕ) (n m : ℕ) → Sound text t n → Linked text u m → ((p f : ℕ) → m ≤ p → word u p f ≡ 0) → Siblings u m →
     ((q : ℕ) → q < n → word u q stepWord ≡ word t q stepWord) → ((q : ℕ) → q < n → word u q nameWord ≡ word t q nameWord) → ((q : ℕ) → q < n → word u q tagWord ≡ word t q tagWord) →
     ((q : ℕ) → n ≤ q → q < m → isUtf8 (bytesOf text (unpackedName (word u q nameWord))) ≡ true) →
     ((q : ℕ) → n ≤ q → q < m → Tagged text u q) → Sound text u m
-sound-from text t u n m s links step name tag new-utf8 new-tags =
+sound-from text t u n m s links blank siblings step name tag new-utf8 new-tags =
     record {
       linked = links;
+      blank = blank;
+      siblings = siblings;
       utf8 = λ q h. cases (ltb q n) (λ e. let l : q < n = ltb-true q n e in rw (name q l) (s .utf8 q l)) (λ e. new-utf8 q (ltb-false q n e) h);
       tags = λ q h. cases (ltb q n) (λ e. let l : q < n = ltb-true q n e in rw (step q l, name q l, tag q l) (s .tags q l)) (λ e. new-tags q (ltb-false q n e) h);
     }
 
 -- a word that is no link and does not tell where a child stands
 abbrev pub isPlain : ℕ → Bool
-isPlain w = not (eqb w firstWord || eqb w lastWord || eqb w nextWord || eqb w stepWord || eqb w nameWord || eqb w tagWord)
+isPlain w = not (eqb w firstWord || eqb w lastWord || eqb w nextWord || eqb w parentWord || eqb w stepWord || eqb w nameWord || eqb w tagWord)
 
 module _ (text t : List ℕ) (n p w v : ℕ) (e : isPlain w ≡ true) where
   -- it is none of those words
@@ -62,10 +79,13 @@ module _ (text t : List ℕ) (n p w v : ℕ) (e : isPlain w ≡ true) where
   linked-plain s =
       linked-stored text t n n p w v s (le-refl n) (s .most) (no-plain firstWord refl) (no-plain lastWord refl) (no-plain nextWord refl) (no-plain nameWord refl)
 
-  pub sound-plain : Sound text t n → Sound text (withWord t p w v) n
-  sound-plain s =
+  -- at a place that is made
+  pub sound-plain : p < n → Sound text t n → Sound text (withWord t p w v) n
+  sound-plain h s =
       let kept : (f q : ℕ) → isPlain f ≡ false → word (withWord t p w v) q f ≡ word t q f = λ f q o. word-other t p w v q f (λ _ z. no-plain f o (sym z)) in
       sound-from text t (withWord t p w v) n n s (linked-plain (s .linked))
+      (λ q f l. word-other t p w v q f (λ e _. omega (arith, e)) ∙ s .blank q f l)
+      (siblings-same t (withWord t p w v) n (λ q. kept firstWord q refl) (λ q. kept lastWord q refl) (λ q. kept nextWord q refl) (λ q. kept parentWord q refl) (s .siblings))
       (λ q h. kept stepWord q refl) (λ q h. kept nameWord q refl) (λ q h. kept tagWord q refl)
       (λ q l h. absurd (omega arith)) (λ q l h. absurd (omega arith))
 
@@ -73,8 +93,8 @@ module _ (text t : List ℕ) (n p w v : ℕ) (e : isPlain w ≡ true) where
 pub linked-with : (text t u : List ℕ) (n p w v : ℕ) → u ≡ withWord t p w v → isPlain w ≡ true → Linked text t n → Linked text u n
 linked-with text t u n p w v e b s = rw e (linked-plain text t n p w v b s)
 
-pub sound-with : (text t u : List ℕ) (n p w v : ℕ) → u ≡ withWord t p w v → isPlain w ≡ true → Sound text t n → Sound text u n
-sound-with text t u n p w v e b s = rw e (sound-plain text t n p w v b s)
+pub sound-with : (text t u : List ℕ) (n p w v : ℕ) → u ≡ withWord t p w v → isPlain w ≡ true → p < n → Sound text t n → Sound text u n
+sound-with text t u n p w v e b h s = rw e (sound-plain text t n p w v b h s)
 
 -- ---- a table of zeros is that of the root alone
 linked-zeros : (text : List ℕ) → Linked text zeros 1
@@ -89,10 +109,25 @@ linked-zeros text =
       names = λ p h. rw (word-zero p nameWord) (omega arith);
     }
 
+siblings-zeros : Siblings zeros 1
+siblings-zeros =
+    record {
+      first = λ p z. absurd (z (word-zero p firstWord));
+      last = λ p z. absurd (z (word-zero p firstWord));
+      next = λ p z. absurd (z (word-zero p nextWord));
+      some = λ c a b. absurd (omega arith);
+      from = λ c a b. absurd (omega arith);
+      to = λ c a b. absurd (omega arith);
+      following = λ c d a b l. absurd (omega arith);
+      between = λ c d a b l. absurd (omega arith);
+    }
+
 pub sound-zeros : (text : List ℕ) → Sound text zeros 1
 sound-zeros text =
     record {
       linked = linked-zeros text;
+      blank = λ p f h. word-zero p f;
+      siblings = siblings-zeros;
       utf8 = λ p h. rw (word-zero p nameWord) (no-name-good text .utf8);
       tags = λ p h d. let z : word zeros p stepWord ≡ 0 = word-zero p stepWord in absurd (omega arith);
     }
