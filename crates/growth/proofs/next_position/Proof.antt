@@ -25,7 +25,6 @@ next-position-spec =
     tie.close
     (tie.spec
     (λ c κs. search needs)
-    (λ c. search needs)
     (λ c. search (alone, needs))
     (λ c κs. search needs)
     (λ c κs. search needs)

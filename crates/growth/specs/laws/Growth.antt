@@ -217,11 +217,11 @@ module _ (text t : List ℕ) (n place : ℕ) (ready : Ready text t n place) (roo
     chained q f l o = chain q f l ∙ word-other (linked place n t) place lastWord n q f o
 
     is-appended : Appended t after place n
-    unfolding linked if_then_else_
+    unfolding appended linked if_then_else_
     is-appended =
         record {
           parent = parent-appended;
-          parents = λ q o. described-parent q o ∙ word-other (linked place n t) place lastWord n q parentWord (λ e d. omega arith) ∙ linked-else place n t q parentWord (omega arith);
+          parents = λ q o. described-else place code n name (lengthened place n t) q parentWord (λ e. absurd (o e)) ∙ word-other (linked place n t) place lastWord n q parentWord (λ e d. omega arith) ∙ linked-else place n t q parentWord (omega arith);
           last = chain place lastWord (omega arith) ∙ word-same (linked place n t) place lastWord n (rw (length-linked place n t) (links .room)) (is-place text t n place ready) (omega arith) (in-each (omega arith));
           lasts = λ q o. chained q lastWord (omega arith) (λ e d. o e) ∙ cases (eqb (word t place firstWord) 0)
               (λ z. rw z (word-other t place firstWord n q lastWord (λ e d. omega arith)))
@@ -238,9 +238,6 @@ module _ (text t : List ℕ) (n place : ℕ) (ready : Ready text t n place) (roo
               (λ z. rw z (word-other t place firstWord n q nextWord (λ e d. omega arith)))
               (λ z. rw z (word-other t (word t place lastWord) nextWord n q nextWord (λ e d. eqb-false _ 0 z (o e))));
         }
-      where
-        described-parent : (q : ℕ) → (q ≡ n → ⊥) → word after q parentWord ≡ word (lengthened place n t) q parentWord
-        described-parent q o = described-else place code n name (lengthened place n t) q parentWord (λ e. absurd (o e))
 
     -- places that are not made yet are as they were
     far : (q f : ℕ) → n < q → word after q f ≡ word t q f
