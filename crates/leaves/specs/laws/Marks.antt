@@ -96,7 +96,7 @@ module _ (text t : List ℕ) (n place : ℕ) (ready : Ready text t n place) wher
       kept : (s : Chain) → Ok s → Says Ok Ok (pastTurn commands place s)
       kept (chain i x) h =
           if-either (Says Ok Ok) (ltb i (length commands))
-          (if-either (Says Ok Ok) (isMark (getD commands i 0)) (if-either (λ y. Sound text y n) (eqb (getD commands i 0) someByte) (sound-plain text x n place nullWord 1 refl h) h) h)
+          (if-either (Says Ok Ok) (isMark (getD commands i 0)) (if-either (λ y. Sound text y n) (eqb (getD commands i 0) someByte) (sound-plain text x n place nullWord 1 refl (ready .here) h) h) h)
           h
 
   -- a primitive
@@ -111,8 +111,8 @@ module _ (text t : List ℕ) (n place : ℕ) (ready : Ready text t n place) wher
       go : (met : Met) → Ok (onMet here t (λ joint. out (T.Next behind n) (stored isNull joint place t)) met)
       go (M.Kind joint) = (
         if-either (λ x. Sound text x n) isNull
-            (sound-plain text _ n place nullWord 1 refl (sound-plain text t n place kindWord joint refl (ready .sound)))
-            (sound-plain text t n place kindWord joint refl (ready .sound)),
+            (sound-plain text _ n place nullWord 1 refl (ready .here) (sound-plain text t n place kindWord joint refl (ready .here) (ready .sound)))
+            (sound-plain text t n place kindWord joint refl (ready .here) (ready .sound)),
         le-refl n,
       )
       go (M.Refused refusal) = tt

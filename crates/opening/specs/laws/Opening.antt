@@ -143,7 +143,7 @@ module _ (text u : List ℕ) (did : Ensured) (s : SoundEnsured text u did) (chil
   child-place = let b : m ≤ placeLimit = child-sound .0 .linked .most in let h : child < m = child-sound .1 in omega arith
 
   pub child-held : (place : ℕ) (v : List ℕ) → v ≡ touched place child u → SoundEnsured text v (E.Child child m)
-  child-held place v h = (sound-touched text u v m place child h (child-sound .0), child-sound .1)
+  child-held place v h = (sound-touched text u v m place child h (child-sound .1) (child-sound .0), child-sound .1)
 
   pub held-ready : Ready text u m child
   held-ready = child-ready text u did child m s e
@@ -157,4 +157,4 @@ module _ (text u : List ℕ) (did : Ensured) (s : SoundEnsured text u did) (chil
 
 -- a field that was seen
 pub known-opened : (text t v : List ℕ) (n place child : ℕ) → Ready text t n place → child < n → v ≡ touched place child t → SoundOpened text v n (O.Child child n)
-known-opened text t v n place child ready l h = (record { sound = sound-touched text t v n place child h (ready .sound); here = l }, le-refl n)
+known-opened text t v n place child ready l h = (record { sound = sound-touched text t v n place child h l (ready .sound); here = l }, le-refl n)
