@@ -18,9 +18,9 @@ use Rattle.equality.specs.laws.Base.{same-true, or-cases}
 use Rattle.shapes.specs.declared.Step as Flat
 use Rattle.shapes.specs.Steps.{fieldCode, codeOf, nameOf}
 use Rattle.search.specs.declared.Slot.{Slot}
-use Rattle.places.specs.Layout.{kindWord, rootWord, blockWord, leftWord, nextWord, stepWord, rightWord, tagWord}
+use Rattle.places.specs.Layout.{kindWord, rootWord, blockWord, leftWord, nextWord, stepWord, rightWord, tagWord, positionWord}
 use Rattle.search.specs.Tree.{isNumbered, follow, slot, seek}
-use Rattle.growth.specs.Growth.{appended, tagged, entered}
+use Rattle.growth.specs.Growth.{appended, positionIn, tagged, entered}
 use Rattle.refine.specs.laws.numbered.Tree.{Spot, spot, Spots, no-spots, child, num, stepsS, spotAt, addS}
 use Rattle.refine.specs.laws.reading.Steps.{near, near-codes, near-number, stepCodeOf, Stands}
 use Rattle.refine.specs.laws.numbered.Numbers.{lastFrom, within, withinIn, nearIn, GoodIn, or-left, or-right, not-both, bounded, boundedIn, self, child-good, has-add-old, add-found}
@@ -347,33 +347,38 @@ numbered-sought text t x s st n p b k m ks h a =
     rw (d, f) (i .sought))
     (λ e. absent (seek-far text t p ks (h .index .0) (h .rep .1) s e (a .0)) e))
 
--- ---- a new child with its tag, entered if it is numbered
--- the tag is none of the words that say the tree
-grown-tag : (text t : List ℕ) (n p : ℕ) (b : Bool) (k m : ℕ) (ks : Spots) (s : Step) (t′ : List ℕ) → Grown text t n p b k m ks s t′ → (v : ℕ) → Grown text t n p b k m ks s (withWord t′ n tagWord v)
-grown-tag text t n p b k m ks s t′ g v =
-    let w : (q f : ℕ) → f < tagWord → word (withWord t′ n tagWord v) q f ≡ word t′ q f = λ q f l. word-other t′ n tagWord v q f (λ _ e. omega arith) in
+-- ---- a new child with its tag and position, entered if it is numbered
+-- these are none of the words that say the tree
+grown-tag : (text t : List ℕ) (n p : ℕ) (b : Bool) (k m : ℕ) (ks : Spots) (s : Step) (t′ : List ℕ) → Grown text t n p b k m ks s t′ → (at v : ℕ) → tagWord ≤ at →
+    Grown text t n p b k m ks s (withWord t′ n at v)
+grown-tag text t n p b k m ks s t′ g at v h =
+    let w : (q f : ℕ) → f < tagWord → word (withWord t′ n at v) q f ≡ word t′ q f = λ q f l. word-other t′ n at v q f (λ _ e. omega arith) in
     record {
       rep = (
         (λ f l. w p (kindWord + f) (omega arith) ∙ g .rep .0 f l),
-        frameIn text t′ (withWord t′ n tagWord v) p (addS s n ks) (g .rep .1) (λ q f l _. w q f (let y = l .1 in omega arith)),
-        same-block t′ (withWord t′ n tagWord v) p (addS s n ks) (w p blockWord (omega arith)) (g .rep .2),
+        frameIn text t′ (withWord t′ n at v) p (addS s n ks) (g .rep .1) (λ q f l _. w q f (let y = l .1 in omega arith)),
+        same-block t′ (withWord t′ n at v) p (addS s n ks) (w p blockWord (omega arith)) (g .rep .2),
       );
       good = g .good;
-      size = length-with t′ n tagWord v ∙ g .size;
-      words = λ q f l i d e. word-other t′ n tagWord v q f (λ x _. omega arith) ∙ g .words q f l i d e;
+      size = length-with t′ n at v ∙ g .size;
+      words = λ q f l i d e. word-other t′ n at v q f (λ x _. omega arith) ∙ g .words q f l i d e;
       root = w n rootWord (omega arith) ∙ g .root;
       left = w n leftWord (omega arith) ∙ g .left;
       right = w n rightWord (omega arith) ∙ g .right;
       step = w n stepWord (omega arith) ∙ g .step;
-      zeros = λ q f l y i. word-other t′ n tagWord v q f (λ x _. omega arith) ∙ g .zeros q f l y i;
+      zeros = λ q f l y i. word-other t′ n at v q f (λ x _. omega arith) ∙ g .zeros q f l y i;
     }
 
 pub make-after : (text t : List ℕ) (n p : ℕ) (x : Flat.Step) (s : Step) (b : Bool) (k m : ℕ) (ks : Spots) → Stands text x s → nearIn s ks ≡ false → Fits text t n (spot p b k m ks) → n < placeLimit
-    → After text t n (spot p b k m ks) (entered p (codeOf x) n (tagged text (nameOf x) n (appended p (codeOf x) (nameOf x) n t))) (n + 1) (spot p b k m (addS s n ks))
+    → After text t n (spot p b k m ks) (entered p (codeOf x) n (tagged text (nameOf x) (positionIn p t) n (appended p (codeOf x) (nameOf x) n t))) (n + 1) (spot p b k m (addS s n ks))
 unfolding entered tagged if_then_else_
 make-after text t n p x s b k m ks st far h room =
-    let t₄ : List ℕ = tagged text (nameOf x) n (appended p (codeOf x) (nameOf x) n t) in
-    let G = grown-tag text t n p b k m ks s (appended p (codeOf x) (nameOf x) n t) (append-grown text t n p x s b k m ks st far h room) (tagOf (bytesOf text (nameOf x))) in
+    let t₄ : List ℕ = tagged text (nameOf x) (positionIn p t) n (appended p (codeOf x) (nameOf x) n t) in
+    let t₂ : List ℕ = appended p (codeOf x) (nameOf x) n t in
+    let tag : ℕ = tagOf (bytesOf text (nameOf x)) in
+    let G =
+    grown-tag text t n p b k m ks s (withWord t₂ n tagWord tag)
+    (grown-tag text t n p b k m ks s t₂ (append-grown text t n p x s b k m ks st far h room) tagWord tag (omega arith)) positionWord (positionIn p t) (omega arith) in
     cases (isNumbered (codeOf x))
     (λ e. let l : fieldCode < stepCodeOf s = rw (st .code) at (ltb-true fieldCode (codeOf x) e) in
     subst (λ (c : ℕ). After text t n (spot p b k m ks) (entered p c n t₄) (n + 1) (spot p b k m (addS s n ks))) (sym (st .code)) (enter-after text t n p b k m ks h s far room t₄ G l))

@@ -20,7 +20,7 @@ use Rattle.shapes.specs.declared.Step as Flat
 use Rattle.shapes.specs.declared.Step.the-variants as S
 use Rattle.shapes.specs.Steps.{codeOf, noName, nameOf}
 use Rattle.growth.specs.declared.Ensured.the-variants as E
-use Rattle.growth.specs.Growth.{Ensuring, ensuring, confirmed, ensuredBy, ensured, appended, tagged, onward, touched, entered}
+use Rattle.growth.specs.Growth.{Ensuring, ensuring, confirmed, ensuredBy, ensured, appended, positionIn, tagged, onward, touched, entered}
 use Rattle.search.specs.Search.{findIn, inBlock, childAt}
 use Rattle.places.specs.Layout.{kindWord, samplesWord, firstWord, rootWord, blockWord, leftWord, nextWord, stepWord, heldWord, markWord, rightWord}
 use Rattle.refine.specs.laws.numbered.Tree.{Spot, spot, Spots, no-spots, child, num, belowS, stepsS, spotAt, putS, addS, makeS}
@@ -47,7 +47,7 @@ ensure-by text t n p x s at b k m ks st h c (absent z far) =
     (λ i. let l : n < placeLimit = ltb-true n placeLimit i in
     rw (i, lt-leb placeLimit n l)
     (subst (λ (c : ℕ). Ensures text s p b k m ks t n at (counted (n + 1) (addS s n ks))
-    (ensuring (E.Child c (n + 1)) (entered p (codeOf x) n (tagged text (nameOf x) n (appended p (codeOf x) (nameOf x) n t)))))
+    (ensuring (E.Child c (n + 1)) (entered p (codeOf x) n (tagged text (nameOf x) (positionIn p t) n (appended p (codeOf x) (nameOf x) n t)))))
     (ap num (add-found s n ks (far-has s ks far)))
     (there (add-among s n ks) (make-after text t n p x s b k m ks st far h l))))
     (λ i. rw (i, le-leb placeLimit n (ltb-false n placeLimit i)) no-place))
