@@ -8,38 +8,31 @@ use borrow.Author.Tests.{lt-ltb, le-ltb, le-leb, eq-eqb, ne-eqb}
 use lib.Dec.{ltb}
 use lib.ListN.{getD, set}
 use Rattle.logic.specs.Test.{if_then_else_}
-use Rattle.words.specs.Word.{placeWords, rowWords, tableWords, linksFrom, linksEnd, linkLimit, IsRow, isLink, hasWord, rowWord, indexOf, partOf, withPart, word, withWord}
-use Rattle.words.specs.laws.Word.{link-from, link-end, has-word}
+use Rattle.words.specs.Word.{tablePlaces, placeWords, tableWords, linksFrom, linksEnd, linkLimit, IsRow, isLink, hasWord, rowWord, indexOf, partOf, withPart, word, withWord}
+use Rattle.words.specs.laws.Word.{link-from, link-end, link-row, has-word}
 
 -- ---- a whole word
-pub index-before : (p f : ℕ) → f < linksFrom → p * rowWords + f ≡ indexOf p f
+pub index-before : (p f : ℕ) → f < linksFrom → f * tablePlaces + p ≡ indexOf p f
 unfolding indexOf rowWord if_then_else_
 index-before p f l = rw (lt-ltb f linksFrom l) refl
 
-pub index-behind : (p f : ℕ) → linksFrom ≤ f → isLink f ≡ false → p * rowWords + f - (linksEnd - linksFrom) / 2 ≡ indexOf p f
+pub index-behind : (p f : ℕ) → linksFrom ≤ f → isLink f ≡ false → (f - (linksEnd - linksFrom) / 2) * tablePlaces + p ≡ indexOf p f
 unfolding indexOf rowWord if_then_else_
 index-behind p f l e =
     let d : ltb f linksEnd ≡ false = rw (le-leb linksFrom f l) at e in
-    rw (le-ltb f linksFrom l, d) (omega arith)
+    rw (le-ltb f linksFrom l, d) refl
 
 -- ---- a link
-pub index-link : (p f : ℕ) → IsRow p → isLink f ≡ true → (p * rowWords + linksFrom + (f - linksFrom) / 2 ≡ indexOf p f) × (p * rowWords + linksFrom + (f - linksFrom) / 2 < tableWords)
-unfolding indexOf rowWord if_then_else_
+pub index-link : (p f : ℕ) → IsRow p → isLink f ≡ true → ((linksFrom + (f - linksFrom) / 2) * tablePlaces + p ≡ indexOf p f) × ((linksFrom + (f - linksFrom) / 2) * tablePlaces + p < tableWords)
+unfolding indexOf
 index-link p f r e =
     let l : linksFrom ≤ f = link-from f e in
     let m : f < linksEnd = link-end f e in
-    (rw (le-ltb f linksFrom l, lt-ltb f linksEnd m) (omega arith), omega arith)
+    let (_, q) = link-row f l m in
+    (rw q refl, omega arith)
 
--- one of them is the lower half
+-- stored in the half that it is
 module _ (f w : ℕ) (l : isLink f ≡ true) where
-  pub lower-part : f % 2 ≡ 0 → w % linkLimit ≡ partOf f w
-  unfolding partOf if_then_else_
-  lower-part e = rw (l, eq-eqb (f % 2) 0 e) refl
-
-  pub upper-part : (f % 2 ≡ 0 → ⊥) → w / linkLimit ≡ partOf f w
-  unfolding partOf if_then_else_
-  upper-part n = rw (l, ne-eqb (f % 2) 0 n) refl
-
   pub with-lower : (v : ℕ) → f % 2 ≡ 0 → v < linkLimit → w / linkLimit * linkLimit + v ≡ withPart f w v
   unfolding withPart if_then_else_
   with-lower v e i = rw (l, eq-eqb (f % 2) 0 e) (omega arith)

@@ -2,8 +2,8 @@
 -- stands above speaks of a place and a word of it, and goes by the laws.
 use mathlib.Core.Path.{_≡_}
 use mathlib.Core.Bool.{Bool, false, _&&_}
-use mathlib.Core.List.{List}
-use Prim.Native.Nat.{ℕ, _+_, _-_, _*_, _/_, _%_, _^_, _<_}
+use mathlib.Core.List.{List, [], _∷_}
+use Prim.Native.Nat.{ℕ, suc, _+_, _-_, _*_, _/_, _%_, _^_, _<_}
 use lib.Dec.{eqb, leb, ltb}
 use lib.ListN.{length, getD, set, replicate}
 use Rattle.logic.specs.Test.{if_then_else_}
@@ -64,9 +64,10 @@ rowWord field =
     else if ltb field linksEnd then linksFrom + (field - linksFrom) / 2
     else field - (linksEnd - linksFrom) / 2
 
--- where that stands: one place after another
+-- where that stands. The words of all places at one number of the row stand one after another, a plane, so that the tags of eight places
+-- can be looked at at a time.
 unfoldable pub indexOf : ℕ → ℕ → ℕ
-indexOf place field = place * rowWords + rowWord field
+indexOf place field = rowWord field * tablePlaces + place
 
 -- of the two links in a word, the one with the even number is the lower half
 abbrev pub isLower : ℕ → Bool
@@ -76,8 +77,8 @@ isLower field = eqb (field % 2) 0
 unfoldable pub partOf : ℕ → ℕ → ℕ
 partOf field w = if isLink field then (if isLower field then w % linkLimit else w / linkLimit) else w
 
--- that word of the row with a place's word stored, the other link as it was. What is too large for a lower link is cut off, so that the upper
--- one stays whatever is stored; code stores only what has room.
+-- that word of the row with a place's word stored, the other link as it was. What is too large for a lower link is cut off, so that the
+-- upper one stays whatever is stored; code stores only what has room.
 unfoldable pub withPart : ℕ → ℕ → ℕ → ℕ
 withPart field w value =
     if isLink field
@@ -98,3 +99,33 @@ withWord table place field value =
 -- a table whose words are all zero
 unfoldable pub zeros : List ℕ
 zeros = replicate tableWords 0
+
+-- ---- words zeroed
+-- those whose index passes a test, the others as they were
+unfoldable pub zeroedWhere : (ℕ → Bool) → List ℕ → List ℕ
+zeroedWhere test [] = []
+zeroedWhere test (w ∷ ws) = (if test 0 then 0 else w) ∷ zeroedWhere (λ i. test (suc i)) ws
+
+-- those from one index up to another
+unfoldable pub zeroedIn : List ℕ → ℕ → ℕ → List ℕ
+zeroedIn table from end = zeroedWhere (λ i. leb from i && ltb i end) table
+
+-- the words among which are the links that putting children in order stores: they fill two planes. The first, and the first behind them:
+abbrev pub ordersFrom : ℕ
+ordersFrom = 8
+
+abbrev pub ordersEnd : ℕ
+ordersEnd = 12
+
+-- the word is one of them
+abbrev pub isOrder : ℕ → Bool
+isOrder field = leb ordersFrom field && ltb field ordersEnd
+
+-- how many words of a plane are zeroed with the places below `count`: all where putting children in order stores links, for it is not shown
+-- to keep to those places
+unfoldable pub clearedIn : ℕ → ℕ → ℕ
+clearedIn plane count = if leb (rowWord ordersFrom) plane && ltb plane (rowWord ordersEnd) then tablePlaces else count
+
+-- the table with the places below `count` zeroed, and those planes
+unfoldable pub clearedTo : List ℕ → ℕ → List ℕ
+clearedTo table count = zeroedWhere (λ i. ltb (i % tablePlaces) (clearedIn (i / tablePlaces) count)) table

@@ -1,20 +1,30 @@
 // The words of a place in the lent work table: whole words, and links of 16 bits, two to a word of its row. Callers lend the
-// part that has a row for each place, and nothing else.
+// part that has a row for each place, and nothing else. The words of all places at one number of the row stand one after
+// another, a plane, so that the tags of eight places can be looked at at a time.
 ghost use mathlib.Core.Path.{_≡_};
 ghost use mathlib.Core.Bool.{true, false};
-ghost use Prim.Native.Nat.{_<_};
-ghost use Rattle.words.specs.Word.{tableWords, placeWords, linkLimit, IsTable, IsRow, isLink, indexOf, partOf, withPart, word, withWord, zeros};
+ghost use Prim.Native.Nat.{_<_, _≤_};
+ghost use lib.ListN.{length};
+ghost use Rattle.words.specs.Word.{tablePlaces, tableWords, placeWords, linkLimit, IsTable, IsRow, isLink, indexOf, partOf, withPart, word, withWord, zeros, zeroedIn, clearedIn, clearedTo};
 
 // So many words: a row for each place.
 pub const WORDS: usize = 16384;
 
-// Words of a row: rows stand one after another.
+// Words of a plane, one for each place.
+const PLACES: usize = 1024;
+
+// Words of a row, and so planes.
 const ROW_WORDS: usize = 16;
 
 // The first link, and the first word behind the links.
 const LINKS_FROM: usize = 6;
 
 const LINKS_END: usize = 14;
+
+// The first plane with links that putting children in order stores, and the first behind those planes.
+const ORDERS_FROM: usize = 7;
+
+const ORDERS_END: usize = 9;
 
 // A link is below this. A word with links is the lower one, and this times the upper one.
 const LINK_LIMIT: u32 = 65536;
@@ -25,9 +35,9 @@ fn whole_index(place: usize, field: usize) -> usize
     ensures { λ r. ⌜ (r ≡ indexOf place field) × (r < tableWords) ⌝ }
 {
     if field < LINKS_FROM {
-        return place * ROW_WORDS + field;
+        return field * PLACES + place;
     }
-    place * ROW_WORDS + field - (LINKS_END - LINKS_FROM) / 2
+    (field - (LINKS_END - LINKS_FROM) / 2) * PLACES + place
 }
 
 // Where the word stands that has a link in it.
@@ -35,7 +45,7 @@ fn link_index(place: usize, field: usize) -> usize
     requires { ⌜ IsRow place × (isLink field ≡ true) ⌝ }
     ensures { λ r. ⌜ (r ≡ indexOf place field) × (r < tableWords) ⌝ }
 {
-    place * ROW_WORDS + LINKS_FROM + (field - LINKS_FROM) / 2
+    (LINKS_FROM + (field - LINKS_FROM) / 2) * PLACES + place
 }
 
 // A whole word of a place.
@@ -95,14 +105,47 @@ pub fn set_link(table: &mut [u32], place: usize, field: usize, to: usize)
     table[at] = with_link(table[at], field, to);
 }
 
+// Zeroes the words from one index up to another.
+fn zero_words(table: &mut [u32], from: usize, end: usize)
+    requires { ⌜ (from ≤ end) × (end ≤ length (now table)) ⌝ }
+    ensures { λ _. ⌜ now (table .exit) ≡ zeroedIn (now (table .entry)) from end ⌝ }
+{
+    let mut i = from;
+    while i < end {
+        table[i] = 0;
+        i += 1;
+    }
+}
+
 // Zeroes every word.
 pub fn clear(table: &mut [u32])
     requires { ⌜ IsTable (now table) ⌝ }
     ensures { λ _. ⌜ now (table .exit) ≡ zeros ⌝ }
 {
-    let mut i = 0;
-    while i < WORDS {
-        table[i] = 0;
-        i += 1;
+    zero_words(table, 0, WORDS);
+}
+
+// How many words of a plane are zeroed with the places below `count`: all where putting children in order stores links,
+// for it is not shown to keep to those places.
+fn cleared_in(plane: usize, count: usize) -> usize
+    requires { ⌜ count ≤ tablePlaces ⌝ }
+    ensures { λ r. ⌜ (r ≡ clearedIn plane count) × (r ≤ tablePlaces) ⌝ }
+{
+    if ORDERS_FROM <= plane && plane < ORDERS_END {
+        return PLACES;
+    }
+    count
+}
+
+// Zeroes the words of the places below `count`, and the planes whole in which putting children in order stores links.
+pub fn clear_places(table: &mut [u32], count: usize)
+    requires { ⌜ IsTable (now table) × (count ≤ tablePlaces) ⌝ }
+    ensures { λ _. ⌜ now (table .exit) ≡ clearedTo (now (table .entry)) count ⌝ }
+{
+    let mut plane = 0;
+    while plane < ROW_WORDS {
+        let from = plane * PLACES;
+        zero_words(table, from, from + cleared_in(plane, count));
+        plane += 1;
     }
 }

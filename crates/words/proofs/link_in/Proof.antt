@@ -1,6 +1,6 @@
 -- `link_in` takes the half of a word that is the link.
 use borrow.Author.Needs.{needs}
-use Rattle.words.proofs.Index.{lower-part, upper-part}
+use Rattle.words.specs.laws.Word.{lower-part, upper-part}
 use Rattle.words.proofs.link_in.Statement.{statement}
 use Rattle.words.proofs.link_in.Tie as tie
 

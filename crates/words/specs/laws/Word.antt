@@ -1,16 +1,17 @@
--- Laws of the words of a table: what is read after a store, what stores in turn leave, and a table of zeros. None says where a word stands.
+-- Laws of the words of a table: what is read after a store, what stores in turn leave, a table of zeros, and places zeroed. None says
+-- where a word stands.
 use mathlib.Core.Path.{_≡_, refl, ap, sym, _∙_}
-use mathlib.Core.Bool.{true, false}
+use mathlib.Core.Bool.{Bool, true, false, _&&_}
 use mathlib.Core.List.{List, [], _∷_}
-use Prim.Native.Nat.{ℕ, zero, suc, _+_, _-_, _/_, _%_, _<_, _≤_}
+use Prim.Native.Nat.{ℕ, zero, suc, _+_, _-_, _*_, _/_, _%_, _<_, _≤_}
 use native.Mathlib.Omega.{arith}
-use borrow.Author.Tests.{lt-ltb, le-leb, lt-leb, leb-true, ltb-true, ltb-false, eqb-true, eqb-false, eq-eqb, ne-eqb}
+use borrow.Author.Tests.{lt-ltb, le-ltb, le-leb, lt-leb, leb-true, ltb-true, ltb-false, eqb-true, eqb-false, eq-eqb, ne-eqb}
 use lib.Dec.{eqb, leb, ltb}
 use lib.ListN.{length, getD, set, replicate, length-set, length-replicate}
-use lib.Seq.{getD-set-same, getD-set-other, set-getD, set-comm}
+use lib.Seq.{getD-set-same, getD-set-other, set-getD, set-comm, ext-getD}
 use Rattle.logic.specs.Test.{if_then_else_}
 use Rattle.logic.specs.laws.Test.{cases, both}
-use Rattle.words.specs.Word.{tablePlaces, placeWords, tableWords, rowWords, linksFrom, linksEnd, IsTable, IsRow, HasRoom, in-whole, in-each, isLink, isLower, hasWord, rowWord, indexOf, partOf, withPart, word, withWord, zeros}
+use Rattle.words.specs.Word.{tablePlaces, placeWords, tableWords, rowWords, linksFrom, linksEnd, linkLimit, IsTable, IsRow, HasRoom, in-whole, in-each, isLink, isLower, hasWord, rowWord, indexOf, partOf, withPart, word, withWord, zeros, zeroedWhere, ordersFrom, ordersEnd, isOrder, clearedIn, clearedTo}
 
 -- ---- the word of a row that a place's word is, or stands in
 pub link-from : (f : ℕ) → isLink f ≡ true → linksFrom ≤ f
@@ -18,6 +19,10 @@ link-from f e = both (leb linksFrom f) (ltb f linksEnd) e λ a b. leb-true links
 
 pub link-end : (f : ℕ) → isLink f ≡ true → f < linksEnd
 link-end f e = both (leb linksFrom f) (ltb f linksEnd) e λ a b. ltb-true f linksEnd b
+
+pub link-row : (f : ℕ) → linksFrom ≤ f → f < linksEnd → (isLink f ≡ true) × (rowWord f ≡ linksFrom + (f - linksFrom) / 2)
+unfolding rowWord if_then_else_
+link-row f l m = (rw (le-leb linksFrom f l, lt-ltb f linksEnd m) refl, rw (le-ltb f linksFrom l, lt-ltb f linksEnd m) refl)
 
 data Stands (f : ℕ) : Type 0 where
   before : f < linksFrom → isLink f ≡ false → rowWord f ≡ f → Stands f
@@ -32,7 +37,7 @@ stands f =
     (λ a.
     let l : linksFrom ≤ f = ltb-false f linksFrom a in
     cases (ltb f linksEnd)
-    (λ b. halves l (ltb-true f linksEnd b) (rw (le-leb linksFrom f l, b) refl) (rw (a, b) refl))
+    (λ b. let m : f < linksEnd = ltb-true f linksEnd b in let (i, r) = link-row f l m in halves l m i r)
     (λ b. behind (ltb-false f linksEnd b) (rw (le-leb linksFrom f l, b) refl) (rw (a, b) refl)))
 
 -- two in one are links, and one of them is the lower half
@@ -104,6 +109,16 @@ part-again f w v x =
     (λ l. cases (isLower f) (λ e. rw (l, e) (omega arith)) (λ e. rw (l, e) (omega arith)))
     (λ l. rw l refl)
 
+-- what each is
+module _ (f w : ℕ) (l : isLink f ≡ true) where
+  pub lower-part : f % 2 ≡ 0 → w % linkLimit ≡ partOf f w
+  unfolding partOf if_then_else_
+  lower-part e = rw (l, eq-eqb (f % 2) 0 e) refl
+
+  pub upper-part : (f % 2 ≡ 0 → ⊥) → w / linkLimit ≡ partOf f w
+  unfolding partOf if_then_else_
+  upper-part n = rw (l, ne-eqb (f % 2) 0 n) refl
+
 part-zero : (f : ℕ) → partOf f 0 ≡ 0
 unfolding partOf if_then_else_
 part-zero f = cases (isLink f) (λ l. cases (isLower f) (λ e. rw (l, e) refl) (λ e. rw (l, e) refl)) (λ l. rw l refl)
@@ -130,8 +145,8 @@ module _ (p f : ℕ) (e : hasWord p f ≡ true) where
   index-own q g d i =
       both (ltb p tablePlaces) (ltb f placeWords) e λ a b.
       both (ltb q tablePlaces) (ltb g placeWords) d λ c h.
-      let l : rowWord f < rowWords = row-inside f (ltb-true f placeWords b) in
-      let m : rowWord g < rowWords = row-inside g (ltb-true g placeWords h) in
+      let l : p < tablePlaces = ltb-true p tablePlaces a in
+      let m : q < tablePlaces = ltb-true q tablePlaces c in
       (omega arith, omega arith)
 
 -- ---- one store
@@ -240,3 +255,110 @@ zero-at (suc n) (suc i) = zero-at n i
 pub word-zero : (p f : ℕ) → word zeros p f ≡ 0
 unfolding word zeros if_then_else_
 word-zero p f = cases (hasWord p f) (λ a. rw (a, zero-at tableWords (indexOf p f)) (part-zero f)) (λ a. rw a refl)
+
+-- ---- words zeroed
+pub where-length : (z : ℕ → Bool) (t : List ℕ) → length (zeroedWhere z t) ≡ length t
+unfolding zeroedWhere
+where-length z [] = refl
+where-length z (w ∷ ws) = ap suc (where-length (λ i. z (suc i)) ws)
+
+pub where-at : (z : ℕ → Bool) (t : List ℕ) (i : ℕ) → getD (zeroedWhere z t) i 0 ≡ (if z i then 0 else getD t i 0)
+unfolding zeroedWhere if_then_else_
+where-at z [] i = cases (z i) (λ a. rw a refl) (λ a. rw a refl)
+where-at z (w ∷ ws) zero = refl
+where-at z (w ∷ ws) (suc i) = where-at (λ j. z (suc j)) ws i
+
+-- a table is that if each word of it is
+pub where-is : (z : ℕ → Bool) (t u : List ℕ) → length u ≡ length t → ((i : ℕ) → i < length t → getD u i 0 ≡ (if z i then 0 else getD t i 0)) → u ≡ zeroedWhere z t
+where-is z t u e h =
+    ext-getD 0 u (zeroedWhere z t) (e ∙ sym (where-length z t)) (λ i l. h i (rw e at l) ∙ sym (where-at z t i))
+
+-- all words, where those that are left were zero
+pub where-zeros : (z : ℕ → Bool) (t : List ℕ) → IsTable t → ((i : ℕ) → i < tableWords → z i ≡ false → getD t i 0 ≡ 0) → zeroedWhere z t ≡ zeros
+unfolding zeros if_then_else_
+where-zeros z t n h =
+    ext-getD 0 (zeroedWhere z t) (replicate tableWords 0) (where-length z t ∙ n ∙ sym (length-replicate {A = ℕ} tableWords 0)) (λ i l.
+    let b : i < tableWords = omega (arith, where-length z t) in
+    where-at z t i ∙ cases (z i) (λ a. rw (a, zero-at tableWords i) refl) (λ a. rw (a, zero-at tableWords i) (h i b a)))
+
+-- ---- what stands in a word of a row: a whole word, or two links
+data Held (k : ℕ) : Type 0 where
+  alone : (f : ℕ) → f < placeWords → isLink f ≡ false → rowWord f ≡ k → Held k
+  halved : (f : ℕ) → f + 1 < placeWords → isLink f ≡ true → isLink (f + 1) ≡ true → f % 2 ≡ 0 → rowWord f ≡ k → rowWord (f + 1) ≡ k → Held k
+
+held : (k : ℕ) → k < rowWords → Held k
+held k b = go (stands k) (stands (k + 4))
+  where
+    two : linksFrom ≤ k → k < 10 → Held k
+    two l m =
+        let (i, r) = link-row (k * 2 - linksFrom) (omega arith) (omega arith) in
+        let (j, s) = link-row (k * 2 - linksFrom + 1) (omega arith) (omega arith) in
+        halved (k * 2 - linksFrom) (omega arith) i j (omega arith) (omega arith) (omega arith)
+
+    go : Stands k → Stands (k + 4) → Held k
+    go (before l i r) s = alone k (omega arith) i r
+    go (halves l m i r) (behind n j s) = alone (k + 4) (omega arith) j (omega arith)
+    go (halves l m i r) (before n j s) = absurd (omega arith)
+    go (halves l m i r) (halves n o j s) = two l (omega arith)
+    go (behind l i r) (behind n j s) = alone (k + 4) (omega arith) j (omega arith)
+    go (behind l i r) (before n j s) = absurd (omega arith)
+    go (behind l i r) (halves n o j s) = absurd (omega arith)
+
+part-whole : (f w : ℕ) → isLink f ≡ false → partOf f w ≡ w
+unfolding partOf if_then_else_
+part-whole f w l = rw l refl
+
+-- it is zero if the place's words there are
+module _ (t : List ℕ) (p k : ℕ) (l : IsRow p) (b : k < rowWords) (h : (f : ℕ) → rowWord f ≡ k → word t p f ≡ 0) where
+  part-read : (f : ℕ) → f < placeWords → rowWord f ≡ k → partOf f (getD t (k * tablePlaces + p) 0) ≡ 0
+  unfolding word indexOf if_then_else_
+  part-read f m e = let z : word t p f ≡ 0 = h f e in rw (has-word p f l m, e) at z
+
+  row-zero : getD t (k * tablePlaces + p) 0 ≡ 0
+  row-zero = go (held k b)
+    where
+      w : ℕ
+      w = getD t (k * tablePlaces + p) 0
+
+      go : Held k → w ≡ 0
+      go (alone f m i r) = sym (part-whole f w i) ∙ part-read f m r
+      go (halved f m i j e r s) =
+          omega (arith, lower-part f w i e, upper-part (f + 1) w j (λ x. omega arith), part-read f (omega arith) r, part-read (f + 1) m s)
+
+-- ---- places zeroed
+order-rows : (rowWord ordersFrom ≡ 7) × (rowWord ordersEnd ≡ 9)
+unfolding rowWord if_then_else_
+order-rows = (refl, refl)
+
+-- a word that is left: its place is not below n, and its plane is none that is zeroed whole
+module _ (p k n : ℕ) (l : IsRow p) (z : ltb p (clearedIn k n) ≡ false) where
+  left-place : n ≤ p
+  unfolding clearedIn if_then_else_
+  left-place =
+      cases (leb (rowWord ordersFrom) k && ltb k (rowWord ordersEnd))
+      (λ a. let m : tablePlaces ≤ p = ltb-false p tablePlaces (rw a at z) in absurd (omega arith))
+      (λ a. ltb-false p n (rw a at z))
+
+  left-order : (f : ℕ) → rowWord f ≡ k → isOrder f ≡ false
+  unfolding clearedIn if_then_else_
+  left-order f e =
+      cases (isOrder f)
+      (λ a. both (leb ordersFrom f) (ltb f ordersEnd) a λ c d.
+      let i : ordersFrom ≤ f = leb-true ordersFrom f c in
+      let j : f < ordersEnd = ltb-true f ordersEnd d in
+      let (q, r) = link-row f (omega arith) (omega arith) in
+      let (x, y) = order-rows in
+      let m : tablePlaces ≤ p = ltb-false p tablePlaces (rw (x, y, le-leb 7 k (omega arith), lt-ltb k 9 (omega arith)) at z) in
+      absurd (omega arith))
+      (λ a. a)
+
+-- a table is zeros again, once the places that have words other than zero are zeroed
+pub cleared-zeros : (t : List ℕ) (n : ℕ) → IsTable t → ((p f : ℕ) → n ≤ p → isOrder f ≡ false → word t p f ≡ 0) → clearedTo t n ≡ zeros
+unfolding clearedTo
+cleared-zeros t n table h =
+    where-zeros (λ i. ltb (i % tablePlaces) (clearedIn (i / tablePlaces) n)) t table (λ i b z.
+    let p : ℕ = i % tablePlaces in
+    let k : ℕ = i / tablePlaces in
+    let l : IsRow p = omega arith in
+    let e : i ≡ k * tablePlaces + p = omega arith in
+    ap (λ j. getD t j 0) e ∙ row-zero t p k l (omega arith) (λ f r. h p f (left-place p k n l z) (left-order p k n l z f r)))
