@@ -8,6 +8,7 @@ use Rattle.refusal.specs.Number.{numberOf}
 use Rattle.model.specs.Answer as M
 use Rattle.model.specs.Answer.{Batch, Buffers, schemaOf, turnedDown, answerOf, answer}
 use Rattle.model.specs.Demand3.{batch}
+use Rattle.words.specs.Word.{zeros}
 use Rattle.leaves.specs.declared.Traced.the-variants as T
 use Rattle.leaves.specs.Leaves.{Out, out}
 use Rattle.samples.specs.Samples.{fromSamples}
@@ -47,25 +48,25 @@ Answers b lent r left = answerBy r left ≡ answer b lent
 abbrev pub AnswersRead : Batch → Buffers → Outcome → Buffers → Type 0
 AnswersRead b lent r left = answerBy r left ≡ answerRead b lent
 
--- ---- over the words of the table, before they are zeroed again
--- an outcome, the table and both buffers
+-- ---- over the words of a table
+-- an outcome and both buffers
 pub data Given : Type 0 where
-  given : Outcome → (table fields names : List ℕ) → Given
+  given : Outcome → (fields names : List ℕ) → Given
 
-abbrev pub asGiven : ℕ → List ℕ → Answered → Given
-asGiven end t (answered (E.Schema records bytes columns) fields names) = given (O.Schema records bytes columns) t fields names
-asGiven end t (answered (E.Refused refusal) fields names) = given (O.Refused refusal end) t fields names
+abbrev pub asGiven : ℕ → Answered → Given
+asGiven end (answered (E.Schema records bytes columns) fields names) = given (O.Schema records bytes columns) fields names
+asGiven end (answered (E.Refused refusal) fields names) = given (O.Refused refusal end) fields names
 
 -- what follows tracing: the children are put in order, and the schema is emitted
 abbrev pub emittedFrom : ℕ → List ℕ → List ℕ → List ℕ → List ℕ → Out → Given
 emittedFrom options commands text fields names (out (T.Refused refusal place) t) =
-    given (O.Refused refusal place) t fields names
+    given (O.Refused refusal place) fields names
 emittedFrom options commands text fields names (out (T.Next behind n) t) =
-    asGiven (length commands) (sortedPlaces text t n) (toSchemaAt options text (sortedPlaces text t n) fields names)
+    asGiven (length commands) (toSchemaAt options text (sortedPlaces text t n) fields names)
 
--- Tracer::from_samples and then Tracer::to_schema, on the words of a table that is lent
+-- Tracer::from_samples and then Tracer::to_schema, on the words of a table that is lent and ends as zeros
 abbrev pub TracesAndEmits : ℕ → Slice → Slice → Slice → Slice → Slice → Outcome → Type 0
 TracesAndEmits options commands text table fields names r =
-    given r (atExit table) (atExit fields) (atExit names)
+    (given r (atExit fields) (atExit names)
     ≡ emittedFrom options (atEntry commands) (atEntry text) (atEntry fields) (atEntry names)
-    (fromSamples (atEntry commands) (atEntry text) options (atEntry table))
+    (fromSamples (atEntry commands) (atEntry text) options (atEntry table))) × (atExit table ≡ zeros)

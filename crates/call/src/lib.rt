@@ -35,7 +35,8 @@ fn first_byte(commands: &[u8]) -> u8
     commands[0]
 }
 
-// Tracer::from_samples and then Tracer::to_schema, whose refusals stand at the commands' length.
+// Tracer::from_samples and then Tracer::to_schema, whose refusals stand at the commands' length, and the table zeroed: where it is
+// known how many places there are, theirs are all the words that are not.
 fn trace_and_emit(
     options: TracingOptions,
     commands: &[u8],
@@ -48,18 +49,20 @@ fn trace_and_emit(
     ensures { λ r. ⌜ TracesAndEmits (options .word) commands text table fields names r ⌝ }
 {
     match samples::from_samples(commands, text, options, table) {
-        Traced::Next(_, count) => match schema::to_schema(
-            options,
-            text,
-            count,
-            table,
-            fields,
-            names,
-        ) {
-            Emitted::Schema(records, bytes, columns) => Outcome::Schema(records, bytes, columns),
-            Emitted::Refused(refusal) => Outcome::Refused(refusal, commands.len()),
-        },
-        Traced::Refused(refusal, place) => Outcome::Refused(refusal, place),
+        Traced::Next(_, count) => {
+            let emitted = schema::to_schema(options, text, count, table, fields, names);
+            words::clear_places(table, count);
+            match emitted {
+                Emitted::Schema(records, bytes, columns) => {
+                    Outcome::Schema(records, bytes, columns)
+                }
+                Emitted::Refused(refusal) => Outcome::Refused(refusal, commands.len()),
+            }
+        }
+        Traced::Refused(refusal, place) => {
+            words::clear(table);
+            Outcome::Refused(refusal, place)
+        }
     }
 }
 
@@ -77,9 +80,7 @@ fn trace_part(
 {
     first_byte(commands);
     words::clear(part);
-    let outcome = trace_and_emit(options, commands, text, part, fields, names);
-    words::clear(part);
-    outcome
+    trace_and_emit(options, commands, text, part, fields, names)
 }
 
 fn is_long(commands: &[u8], text: &[u8]) -> bool

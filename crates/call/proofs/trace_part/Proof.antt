@@ -1,4 +1,4 @@
--- `trace_part` zeroes the part before and after.
+-- `trace_part` zeroes the part before.
 use borrow.Author.Needs.{needs}
 use mathlib.Core.Path.{_≡_}
 use mathlib.Core.List.{List}
@@ -20,12 +20,12 @@ use Rattle.call.proofs.trace_part.Tie as tie
 sound-at-first : (text u : List ℕ) → u ≡ zeros → Sound text u 1
 sound-at-first text u e = rw e (sound-zeros text)
 
-ended : (options : ℕ) (commands text t fields names u v records written : List ℕ) (o : Outcome) (z : List ℕ) →
-    given o v records written ≡ emittedFrom options commands text fields names (fromSamples commands text options u) → u ≡ zeros → z ≡ zeros →
+ended : (options : ℕ) (commands text t fields names u records written : List ℕ) (o : Outcome) (z : List ℕ) →
+    given o records written ≡ emittedFrom options commands text fields names (fromSamples commands text options u) → u ≡ zeros → z ≡ zeros →
     Bytes commands → length commands ≤ inputLimit → IsTable t →
     answerBy o (lent z records written) ≡ answerOf (batch options commands text) (lent t fields names) (schemaOf (batch options commands text))
-ended options commands text t fields names u v records written o z g e f bytes short whole =
-    rw f (given-is-answer options commands text t fields names bytes short whole o v records written (rw e at g))
+ended options commands text t fields names u records written o z g e f bytes short whole =
+    rw f (given-is-answer options commands text t fields names bytes short whole o records written (rw e at g))
 
 pub trace-part-spec : {M : Type 1} → statement M
 trace-part-spec =
@@ -34,7 +34,6 @@ trace-part-spec =
     (λ c κs. search needs)
     (λ c κs. search needs)
     (λ c κs. search (sound-at-first, needs))
-    (λ c κs. search needs)
     (λ c. search needs)
     (λ c. search needs)
     (λ c. search needs)

@@ -1,7 +1,7 @@
 -- Tracing and emission over a part of zeros, and the part zeroed again, are the model's answer; over the part, and so over the table that it is
 -- the first part of.
 use mathlib.Core.Path.{_≡_, refl, sym, ap, _∙_}
-use mathlib.Core.Bool.{Bool, true, false}
+use mathlib.Core.Bool.{Bool, true, false, false≢true}
 use mathlib.Core.List.{List, [], _∷_, _++_, append-nil}
 use mathlib.Core.Option.{Option, none, some}
 use Prim.Native.Nat.{ℕ, suc, _*_, _<_, _≤_}
@@ -9,7 +9,9 @@ use native.Mathlib.Omega.{arith}
 use lib.ListN.{length, getD, take, drop, replicate, length-take, drop-of-length-le}
 use Rattle.logic.specs.Test.{if_then_else_}
 use Rattle.refusal.specs.Number.{numberOf, shortBuffer}
-use Rattle.words.specs.Word.{tableWords, IsTable, zeros}
+use Rattle.words.specs.Word.{tableWords, IsTable, isOrder, clearedTo, zeros}
+use Rattle.words.specs.laws.Word.{cleared-zeros}
+use Rattle.order.specs.laws.Sort.{length-ordered, words-ordered}
 use Rattle.model.specs.Result.{Result, accepted, refused}
 use Rattle.model.specs.Reading.{values}
 use Rattle.model.specs.Tracing.{Tree, placeLimit, trace, counted}
@@ -49,6 +51,13 @@ cleared-all n t h = rw (drop-of-length-le t h, append-nil) refl
 cleared-part : (n : ℕ) (t : List ℕ) → cleared (take n t) n ++ drop n t ≡ cleared t n
 unfolding cleared
 cleared-part n t = let h : length (take n t) ≤ n = rw length-take (omega arith) in rw (drop-of-length-le (take n t) h, append-nil) refl
+
+-- the places that were made, zeroed after their children were put in order, leave all words zero
+pub cleared-ordered : (text t : List ℕ) (n : ℕ) → Sound text t n → clearedTo (sortedPlaces text t n) n ≡ zeros
+cleared-ordered text t n s =
+    let most : n ≤ placeLimit = s .linked .most in
+    cleared-zeros (sortedPlaces text t n) n (length-ordered text t n most ∙ s .linked .room)
+    λ p f l e. words-ordered text t n most p f (λ d. false≢true (sym e ∙ ap isOrder d)) (λ d. false≢true (sym e ∙ ap isOrder d)) ∙ s .blank p f l
 
 -- a sound table with fewer places is linked with more
 pub linked-more : (text t : List ℕ) (n : ℕ) → Sound text t n → Linked text t placeLimit
@@ -91,7 +100,7 @@ module _ (options : ℕ) (commands text t fields names : List ℕ) (bytes : Byte
 
   -- the answer of what was given, the table zeroed
   abbrev ended : Given → M.Answer
-  ended (given o u records written) = answerBy o (lent zeros records written)
+  ended (given o records written) = answerBy o (lent zeros records written)
 
   -- nothing stands past the places' words
   zeros-are : zeros ≡ cleared t tableWords
@@ -99,43 +108,43 @@ module _ (options : ℕ) (commands text t fields names : List ℕ) (bytes : Byte
   zeros-are = cleared-all tableWords t (omega arith)
 
   refused-is : (refusal : Refusal) (place : ℕ) (u : List ℕ) → out (T.Refused refusal place) u ≡ fromSamples commands text options zeros →
-      ended (given (O.Refused refusal place) u fields names) ≡ answerOf b (lent t fields names) (schemaOf b)
+      ended (given (O.Refused refusal place) fields names) ≡ answerOf b (lent t fields names) (schemaOf b)
   unfolding schemaOf answerOf outcome
   refused-is refusal place u e =
       let is : refused (numberOf refusal) place ≡ trace options (values options commands text) = rw (← e) at (traced-is-model options commands text bytes short) in
       rw (← is, zeros-are) refl
 
   -- a schema that fits both buffers, or does not
-  fits-or-not : (u : List ℕ) (schema : Fields) (isLong : Bool) (a : Answered) →
+  fits-or-not : (schema : Fields) (isLong : Bool) (a : Answered) →
       a ≡ (if isLong then answered (E.Refused F.ShortBuffer) fields names
       else answered (E.Schema (countIn schema) (length (namesIn schema)) (columnsIn schema)) (written (recordsIn schema) fields) (written (namesIn schema) names)) →
-      ended (asGiven (length commands) u a) ≡ (if isLong then turnedDown shortBuffer (length commands) (zeroed (lent t fields names)) else withSchema schema (lent t fields names))
+      ended (asGiven (length commands) a) ≡ (if isLong then turnedDown shortBuffer (length commands) (zeroed (lent t fields names)) else withSchema schema (lent t fields names))
   unfolding if_then_else_
-  fits-or-not u schema true a e = rw (e, zeros-are) refl
-  fits-or-not u schema false a e = rw (e, zeros-are) refl
+  fits-or-not schema true a e = rw (e, zeros-are) refl
+  fits-or-not schema false a e = rw (e, zeros-are) refl
 
   -- an answer of emission that is the model's
-  emits-is : (u : List ℕ) (r : Result Fields) (a : Answered) → Stands (length commands) r → Emits fields names r a →
-      ended (asGiven (length commands) u a) ≡ answerOf b (lent t fields names) r
+  emits-is : (r : Result Fields) (a : Answered) → Stands (length commands) r → Emits fields names r a →
+      ended (asGiven (length commands) a) ≡ answerOf b (lent t fields names) r
   unfolding answerOf
-  emits-is u (refused number place) a at (x, is, e) = rw (e, zeros-are, is, at) refl
-  emits-is u (accepted schema) a at e =
+  emits-is (refused number place) a at (x, is, e) = rw (e, zeros-are, is, at) refl
+  emits-is (accepted schema) a at e =
       let swap : countIn schema * 8 ≡ 8 * countIn schema = omega arith in
-      fits-or-not u schema (isShort schema (lent t fields names)) a (rw swap at e)
+      fits-or-not schema (isShort schema (lent t fields names)) a (rw swap at e)
 
   emitted-is : (behind n : ℕ) (u : List ℕ) → out (T.Next behind n) u ≡ fromSamples commands text options zeros →
       ended (emittedFrom options commands text fields names (out (T.Next behind n) u)) ≡ answerOf b (lent t fields names) (schemaOf b)
   unfolding schemaOf outcome
   emitted-is behind n u e =
       let is : counted n (treeOf text u) ≡ trace options (values options commands text) = rw (← e) at (traced-is-model options commands text bytes short) in
-      emits-is (sortedPlaces text u n) (schemaOf b) (toSchemaAt options text (sortedPlaces text u n) fields names)
+      emits-is (schemaOf b) (toSchemaAt options text (sortedPlaces text u n) fields names)
       (rw (← is) (emission-stands options (length commands) (treeOf text u)))
       (schema-is-model options commands text bytes short behind n u fields names (sym e))
 
-  -- what is given before the table is zeroed again
-  pub given-is-answer : (o : Outcome) (u records written : List ℕ) → given o u records written ≡ emittedFrom options commands text fields names (fromSamples commands text options zeros) →
+  -- what is given, the table zeroed again
+  pub given-is-answer : (o : Outcome) (records written : List ℕ) → given o records written ≡ emittedFrom options commands text fields names (fromSamples commands text options zeros) →
       answerBy o (lent zeros records written) ≡ answerOf b (lent t fields names) (schemaOf b)
-  given-is-answer o u records written e = ap ended e ∙ go (fromSamples commands text options zeros) refl
+  given-is-answer o records written e = ap ended e ∙ go (fromSamples commands text options zeros) refl
     where
       go : (w : Out) → w ≡ fromSamples commands text options zeros → ended (emittedFrom options commands text fields names w) ≡ answerOf b (lent t fields names) (schemaOf b)
       go (out (T.Refused refusal place) v) q = refused-is refusal place v q

@@ -105,7 +105,7 @@ module _ (text t : List ℕ) (n : ℕ) (most : n ≤ placeLimit) (room : IsTable
     done = sortedPlaces text t j
 
     same : (q f : ℕ) → f < placeWords → (f ≡ orderedFirstWord → ⊥) → (f ≡ orderedNextWord → ⊥) → word done q f ≡ word t q f
-    same q f = words-ordered text t j (omega arith) q f
+    same q f _ = words-ordered text t j (omega arith) q f
 
     sorted-children : (byName : Bool) (p : ℕ) (ks : Spots) → Placed text t n p (kindOf byName) ks → Lined (isBefore text t byName) done (numsOf ks) p (sortedChildren text byName p done)
     sorted-children byName p ks h =
@@ -272,4 +272,4 @@ module _ (text t u : List ℕ) (same : (q f : ℕ) → f < placeWords → (f ≡
         )
 
 pub says-ordered : (text t : List ℕ) (n : ℕ) (u : Spot) → n ≤ placeLimit → Rep text t u → Rep text (sortedPlaces text t n) u
-says-ordered text t n u most r = still-says text t (sortedPlaces text t n) (words-ordered text t n most) u r
+says-ordered text t n u most r = still-says text t (sortedPlaces text t n) (λ q f _. words-ordered text t n most q f) u r
