@@ -15,7 +15,7 @@ use Rattle.logic.specs.laws.Test.{cases}
 use Rattle.chrono.specs.declared.Matched.{Matched}
 use Rattle.chrono.specs.declared.Matched.the-variants.{Rest, No}
 use Rattle.chrono.specs.Grammar.{Grammar, nothing, one, many, _then_, _or_, byte, word, optional, leads, leadsMany, isEmpty, fits}
-use Rattle.chrono.specs.Date.{plus, minus, dot, colon, T', blank, Z', z', isDigit, digit, digits, oneOrTwoDigits, subsecond, naiveDate, naiveTime, naiveDatetime, shortOffset, longOffset, utcZone, utcDatetime}
+use Rattle.chrono.specs.Date.{plus, minus, dot, colon, T', blank, Z', z', isDigit, digit, digits, oneOrTwoDigits, subsecond, separator, naiveDate, naiveTime, naiveDatetime, shortOffset, longOffset, utcZone, utcDatetime}
 use Rattle.chrono.specs.Scan.{run, onward, instead, scan, ofRest}
 
 -- where `k` is to hold of what is left, a grammar is matched as `scan` finds it
@@ -26,7 +26,7 @@ nothing-exact : (k : List ℕ → Bool) → Exact nothing k
 unfolding leads scan
 nothing-exact k s i = refl
 
-one-exact : (t : ℕ → Bool) (k : List ℕ → Bool) → Exact (one t) k
+pub one-exact : (t : ℕ → Bool) (k : List ℕ → Bool) → Exact (one t) k
 unfolding leads scan if_then_else_
 one-exact t k s i =
     cases (ltb i (length s))
@@ -57,10 +57,10 @@ or-exact g h k a b f s i = go (scan g s i) refl
     go No e = rw (a s i ∙ ap (ofRest k s) e) (b s i)
 
 -- what a match tells of the text that it is found at
-no-rest : {P : Type 0} {j : ℕ} → No ≡ Rest j → P
+pub no-rest : {P : Type 0} {j : ℕ} → No ≡ Rest j → P
 no-rest e = let z : _≡_ {A = ℕ} 0 1 = cc in absurd (omega arith)
 
-one-at : (t : ℕ → Bool) (s : List ℕ) (i j : ℕ) → scan (one t) s i ≡ Rest j → (t (getD s i 0) ≡ true) × (drop i s ≡ getD s i 0 ∷ drop j s)
+pub one-at : (t : ℕ → Bool) (s : List ℕ) (i j : ℕ) → scan (one t) s i ≡ Rest j → (t (getD s i 0) ≡ true) × (drop i s ≡ getD s i 0 ∷ drop j s)
 unfolding scan if_then_else_
 one-at t s i j e =
     cases (ltb i (length s))
@@ -73,7 +73,7 @@ one-at t s i j e =
     (λ p. no-rest (rw (l, p) at e)))
     (λ l. no-rest (rw l at e))
 
-then-at : (g h : Grammar) (s : List ℕ) (i j : ℕ) → scan (g then h) s i ≡ Rest j → (m : ℕ) × (scan g s i ≡ Rest m) × (scan h s m ≡ Rest j)
+pub then-at : (g h : Grammar) (s : List ℕ) (i j : ℕ) → scan (g then h) s i ≡ Rest j → (m : ℕ) × (scan g s i ≡ Rest m) × (scan h s m ≡ Rest j)
 unfolding scan
 then-at g h s i j = go (scan g s i)
   where
@@ -81,7 +81,7 @@ then-at g h s i j = go (scan g s i)
     go (Rest m) e = (m, refl, e)
     go No e = no-rest e
 
-byte-at : (b : ℕ) (s : List ℕ) (i j : ℕ) → scan (byte b) s i ≡ Rest j → drop i s ≡ b ∷ drop j s
+pub byte-at : (b : ℕ) (s : List ℕ) (i j : ℕ) → scan (byte b) s i ≡ Rest j → drop i s ≡ b ∷ drop j s
 byte-at b s i j e = let (x, d) = one-at (λ c. eqb c b) s i j e in rw (← eqb-true (getD s i 0) b x) d
 
 word-at : (w s : List ℕ) (i j : ℕ) → scan (word w) s i ≡ Rest j → drop i s ≡ w ++ drop j s
@@ -123,7 +123,7 @@ Apart t (many q) = ⊥
 Apart t (g then h) = Apart t g
 Apart t (g or h) = Apart t g × Apart t h
 
-apart : (t : ℕ → Bool) (b : ℕ) → t b ≡ false → Apart t (byte b)
+pub apart : (t : ℕ → Bool) (b : ℕ) → t b ≡ false → Apart t (byte b)
 apart t b other c e = cases (eqb c b) (λ q. absurd (false≢true (sym other ∙ ap t (sym (eqb-true c b q)) ∙ e))) (λ q. q)
 
 or-stops : (t : ℕ → Bool) (g h : Grammar) (k : List ℕ → Bool) → Stops t (λ u. leads g u k) → Stops t (λ u. leads h u k) → Stops t (λ u. leads (g or h) u k)
@@ -184,7 +184,7 @@ module _ (k : List ℕ → Bool) (stops : Stops isDigit k) (no-dot : (u : List �
       (then-exact _ _ k (one-exact _ _)
       (then-exact _ _ k (two-exact _ (or-stops isDigit subsecond nothing k (after dot _ refl) stops)) subsecond-exact))))
 
-zone-exact : (k : List ℕ → Bool) → Exact utcZone k
+pub zone-exact : (k : List ℕ → Bool) → Exact utcZone k
 unfolding leads
 zone-exact k =
     byte-or-exact Z' _ k
@@ -217,25 +217,43 @@ whole : (g : Grammar) → Exact g isEmpty → Whole g
 unfolding fits
 whole g a s m r e f = f ∙ ap (ofRest isEmpty s) e ∙ sym (a s 0)
 
-time-last : Exact naiveTime isEmpty
+-- the parts where they stand: a date before nothing, before T and a time, before a separator, a time and a zone; a time before
+-- nothing and before a zone
+pub date-last : Exact naiveDate isEmpty
+date-last = date-exact isEmpty (λ c u e. refl)
+
+pub date-naive : Exact naiveDate (λ u. leads (byte T' then naiveTime) u isEmpty)
+unfolding leads
+date-naive = date-exact _ (after T' _ refl)
+
+pub date-utc : Exact naiveDate (λ u. leads (separator then naiveTime then utcZone) u isEmpty)
+unfolding leads
+date-utc = date-exact _ (or-stops isDigit (byte T') (byte blank) _ (after T' _ refl) (after blank _ refl))
+
+pub separator-exact : (k : List ℕ → Bool) → Exact separator k
+unfolding leads
+separator-exact k = byte-or-exact T' _ k (one-exact _ k) (λ u. refl)
+
+pub time-last : Exact naiveTime isEmpty
 time-last = time-exact isEmpty (λ c u e. refl) (λ u. refl)
 
+pub time-zone : Exact naiveTime (λ u. leads utcZone u isEmpty)
+unfolding leads
+time-zone = time-exact _ (apart-stops isDigit utcZone isEmpty zone-apart) (λ u. refl)
+
 pub whole-date : Whole naiveDate
-whole-date = whole naiveDate (date-exact isEmpty (λ c u e. refl))
+whole-date = whole naiveDate date-last
 
 pub whole-time : Whole naiveTime
 whole-time = whole naiveTime time-last
 
 pub whole-naive : Whole naiveDatetime
 unfolding leads
-whole-naive =
-    whole naiveDatetime
-    (then-exact _ _ isEmpty (date-exact _ (after T' _ refl)) (then-exact _ _ isEmpty (one-exact _ _) time-last))
+whole-naive = whole naiveDatetime (then-exact _ _ isEmpty date-naive (then-exact _ _ isEmpty (one-exact _ _) time-last))
 
 pub whole-utc : Whole utcDatetime
 unfolding leads
 whole-utc =
     whole utcDatetime
-    (then-exact _ _ isEmpty (date-exact _ (or-stops isDigit (byte T') (byte blank) _ (after T' _ refl) (after blank _ refl)))
-    (then-exact _ _ isEmpty (byte-or-exact T' _ _ (one-exact _ _) (λ u. refl))
-    (then-exact _ _ isEmpty (time-exact _ (apart-stops isDigit utcZone isEmpty zone-apart) (λ u. refl)) (zone-exact isEmpty))))
+    (then-exact _ _ isEmpty date-utc
+    (then-exact _ _ isEmpty (separator-exact _) (then-exact _ _ isEmpty time-zone (zone-exact isEmpty))))

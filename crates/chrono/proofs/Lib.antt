@@ -1,2 +1,4 @@
 pub mod Steps
 pub mod Exact
+pub mod Reading
+pub mod Fixed

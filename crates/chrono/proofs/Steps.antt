@@ -1,15 +1,20 @@
 -- What `scan` gives, one law for each way through a matcher's code.
 use mathlib.Core.Path.{_≡_, refl, sym, ap, _∙_}
-use mathlib.Core.Bool.{Bool, true, false}
+use mathlib.Core.Bool.{Bool, true, false, _&&_}
 use mathlib.Core.List.{List}
-use Prim.Native.Nat.{ℕ, _+_, _≤_, _<_}
-use lib.ListN.{length, getD}
+use Prim.Native.Nat.{ℕ, suc, _+_, _≤_, _<_}
+use lib.ListN.{length, getD, drop}
+use lib.Seq.{drop-cons}
 use borrow.Author.Tests.{lt-ltb, le-ltb}
 use Rattle.logic.specs.Test.{if_then_else_}
 use Rattle.chrono.specs.declared.Matched.{Matched}
 use Rattle.chrono.specs.declared.Matched.the-variants.{Rest, No}
 use Rattle.chrono.specs.Grammar.{Grammar, nothing, one, _then_, _or_}
-use Rattle.chrono.specs.Scan.{onward, instead, scan}
+use Rattle.chrono.specs.Scan.{run, onward, instead, scan}
+
+-- two tests together, each as its flag tells
+pub and-same : (a b x y : Bool) → a ≡ x → b ≡ y → (a && b) ≡ (x && y)
+and-same a b x y e f = rw (e, f)
 
 -- a byte of a class
 pub one-past : (t : ℕ → Bool) (s : List ℕ) (i : ℕ) → length s ≤ i → No ≡ scan (one t) s i
@@ -23,6 +28,15 @@ one-is t s i h e = rw (lt-ltb i (length s) h, e)
 pub one-not : (t : ℕ → Bool) (s : List ℕ) (i : ℕ) → i < length s → t (getD s i 0) ≡ false → No ≡ scan (one t) s i
 unfolding scan if_then_else_
 one-not t s i h e = rw (lt-ltb i (length s) h, e)
+
+-- a run of bytes of a class: it goes on with one more of them, and ends before another
+pub run-on : (t : ℕ → Bool) (s : List ℕ) (i : ℕ) → i < length s → t (getD s i 0) ≡ true → run t (drop i s) ≡ suc (run t (drop (suc i) s))
+unfolding run if_then_else_
+run-on t s i h e = rw (drop-cons s i 0 h, e)
+
+pub run-ends : (t : ℕ → Bool) (s : List ℕ) (i : ℕ) → i < length s → t (getD s i 0) ≡ false → run t (drop i s) ≡ 0
+unfolding run if_then_else_
+run-ends t s i h e = rw (drop-cons s i 0 h, e)
 
 -- one grammar after another
 pub then-next : {r m : Matched} (g h : Grammar) (s : List ℕ) (i j : ℕ) → r ≡ scan g s i → r ≡ Rest j → m ≡ scan h s j → m ≡ scan (g then h) s i

@@ -1,13 +1,16 @@
 // The four matchers of chrono.rs, and the type that a text observes (document 01, "Date texts"). No range is tested.
 // Each match reads on and never goes back: nothing that follows digits begins with one.
 ghost use mathlib.Core.Path.{_≡_};
-ghost use Prim.Native.Nat.{_+_};
-ghost use lib.ListN.{drop};
+ghost use Prim.Native.Nat.{_+_, _≤_};
+ghost use lib.ListN.{length, drop};
 ghost use Rattle.datatype.specs.Codes.{codeOf};
+ghost use Rattle.options.specs.Word.{stringType};
+ghost use Rattle.chrono.specs.declared.Matched.the-variants.{Rest};
 ghost use Rattle.chrono.specs.Grammar.{byte, word, optional, isEmpty, fits};
 ghost use Rattle.chrono.specs.Date.{isDigit, digit, digits, oneOrTwoDigits, optionalSign, subsecond, separator, naiveDate, naiveTime, naiveDatetime, zeroOffset, utcZone, utcDatetime};
 ghost use Rattle.chrono.specs.Scan.{run, scan, ofRest};
-ghost use Rattle.chrono.specs.Text.{textType};
+ghost use Rattle.chrono.specs.Fixed.{begins, twoDigits, joinedDigits, fixedDate, fixedTime, fixedDatetime};
+ghost use Rattle.chrono.specs.Text.{dateTexts, firstFit, textType};
 use datatype::DataType;
 use datatype::Zone;
 use options::TracingOptions;
@@ -281,24 +284,129 @@ pub fn matches_naive_date(s: &[u8]) -> bool
     is_whole(s, match_naive_date(s, 0))
 }
 
-// The type that a text observes: with guess_dates the first fit wins.
-pub fn text_type(s: &[u8], options: TracingOptions) -> DataType
-    ensures { λ r. ⌜ codeOf r ≡ textType (options .word) (now (s .entry)) ⌝ }
+// Whether a date or a time can begin as the text does.
+fn can_begin(s: &[u8]) -> bool
+    ensures { λ r. ⌜ r ≡ begins (now (s .entry)) ⌝ }
 {
-    if !options.guess_dates() {
+    if s.len() == 0 {
+        return false;
+    }
+    let b = s[0];
+    is_digit(b) | (b == b'+') | (b == b'-')
+}
+
+// The fixed forms. Their bytes are all there, so that no test has to come before another: they are joined by `&`.
+fn two_digits(s: &[u8], at: usize) -> bool
+    requires { ⌜ at + 2 ≤ length (now s) ⌝ }
+    ensures { λ r. ⌜ r ≡ twoDigits (now (s .entry)) at ⌝ }
+{
+    is_digit(s[at]) & is_digit(s[at + 1])
+}
+
+// That byte and two digits.
+fn joined_digits(s: &[u8], at: usize, c: u8) -> bool
+    requires { ⌜ at + 3 ≤ length (now s) ⌝ }
+    ensures { λ r. ⌜ r ≡ joinedDigits (now (s .entry)) at c ⌝ }
+{
+    (s[at] == c) & two_digits(s, at + 1)
+}
+
+// dddd-dd-dd at the start.
+fn fixed_date(s: &[u8]) -> bool
+    requires { ⌜ 10 ≤ length (now s) ⌝ }
+    ensures { λ r. ⌜ r ≡ fixedDate (now (s .entry)) ⌝ }
+{
+    two_digits(s, 0) & two_digits(s, 2) & joined_digits(s, 4, b'-') & joined_digits(s, 7, b'-')
+}
+
+// dd:dd:dd at `at`.
+fn fixed_time(s: &[u8], at: usize) -> bool
+    requires { ⌜ at + 8 ≤ length (now s) ⌝ }
+    ensures { λ r. ⌜ r ≡ fixedTime (now (s .entry)) at ⌝ }
+{
+    two_digits(s, at) & joined_digits(s, at + 2, b':') & joined_digits(s, at + 5, b':')
+}
+
+// dddd-dd-ddTdd:dd:dd at the start.
+fn fixed_datetime(s: &[u8]) -> bool
+    requires { ⌜ 19 ≤ length (now s) ⌝ }
+    ensures { λ r. ⌜ r ≡ fixedDatetime (now (s .entry)) ⌝ }
+{
+    fixed_date(s) & (s[10] == b'T') & fixed_time(s, 11)
+}
+
+// The type of a text that begins with a date, which ends at `at`.
+fn type_after_date(s: &[u8], at: usize, options: TracingOptions) -> DataType
+    requires { ⌜ Rest at ≡ scan naiveDate (now s) 0 ⌝ }
+    ensures { λ r. ⌜ codeOf r ≡ firstFit dateTexts (now (s .entry)) (stringType (options .word)) ⌝ }
+{
+    if s.len() <= at {
+        return DataType::Date32;
+    }
+    let Matched::Rest(time) = match_separator(s, at) else {
+        return options.string_type();
+    };
+    let Matched::Rest(zone) = match_naive_time(s, time) else {
+        return options.string_type();
+    };
+    if zone < s.len() {
+        if is_whole(s, match_utc_timezone(s, zone)) {
+            return DataType::Timestamp(Zone::Utc);
+        }
         return options.string_type();
     }
-    if matches_naive_datetime(s) {
+    if s[at] == b'T' {
         return DataType::Timestamp(Zone::Naive);
     }
-    if matches_utc_datetime(s) {
-        return DataType::Timestamp(Zone::Utc);
+    options.string_type()
+}
+
+// The first fit, by one reading: no text that begins with a date is a time.
+fn read_type(s: &[u8], options: TracingOptions) -> DataType
+    ensures { λ r. ⌜ codeOf r ≡ firstFit dateTexts (now (s .entry)) (stringType (options .word)) ⌝ }
+{
+    if let Matched::Rest(at) = match_naive_date(s, 0) {
+        return type_after_date(s, at, options);
     }
     if matches_naive_time(s) {
         return DataType::Time64;
     }
-    if matches_naive_date(s) {
-        return DataType::Date32;
+    options.string_type()
+}
+
+// The first fit. Most dates and times have one of the fixed forms, which their lengths tell; any other text is read.
+fn guessed_type(s: &[u8], options: TracingOptions) -> DataType
+    ensures { λ r. ⌜ codeOf r ≡ firstFit dateTexts (now (s .entry)) (stringType (options .word)) ⌝ }
+{
+    if !can_begin(s) {
+        return options.string_type();
+    }
+    if s.len() == 10 {
+        if fixed_date(s) {
+            return DataType::Date32;
+        }
+    } else if s.len() == 20 {
+        if fixed_datetime(s) & (s[19] == b'Z') {
+            return DataType::Timestamp(Zone::Utc);
+        }
+    } else if s.len() == 19 {
+        if fixed_datetime(s) {
+            return DataType::Timestamp(Zone::Naive);
+        }
+    } else if s.len() == 8 {
+        if fixed_time(s, 0) {
+            return DataType::Time64;
+        }
+    }
+    read_type(s, options)
+}
+
+// The type that a text observes: with guess_dates the first fit wins.
+pub fn text_type(s: &[u8], options: TracingOptions) -> DataType
+    ensures { λ r. ⌜ codeOf r ≡ textType (options .word) (now (s .entry)) ⌝ }
+{
+    if options.guess_dates() {
+        return guessed_type(s, options);
     }
     options.string_type()
 }

@@ -6,12 +6,11 @@ use Prim.Native.Nat.{ℕ, suc, _+_, _-_, _≤_, _<_}
 use native.Mathlib.Omega.{arith}
 use native.Mathlib.Numerals.{add-one}
 use lib.ListN.{length, getD, drop, drop-of-length-le}
-use lib.Seq.{drop-cons}
 use borrow.Author.Needs.{needs}
 use borrow.Author.Tests.{not-true, not-false}
-use Rattle.logic.specs.Test.{if_then_else_}
 use Rattle.chrono.specs.Date.{isDigit}
 use Rattle.chrono.specs.Scan.{run}
+use Rattle.chrono.proofs.Steps.{run-on, run-ends}
 use Rattle.chrono.proofs.skip_digits.Statement.{statement}
 use Rattle.chrono.proofs.skip_digits.Tie as tie
 
@@ -22,13 +21,11 @@ module _ (t : ℕ → Bool) (s : List ℕ) (i m : ℕ) (whole : i + run t (drop 
   run-past h = let e : i + 0 ≡ m = rw (drop-of-length-le s h) at whole in omega arith
 
   module _ (r : Bool) (h : i < length s) (e : r ≡ t (getD s i 0)) where
-    run-ends : r ≡ false → i ≡ m
-    unfolding run if_then_else_
-    run-ends f = let e : i + 0 ≡ m = rw (drop-cons s i 0 h, sym e ∙ f) at whole in omega arith
+    run-stays : r ≡ false → i ≡ m
+    run-stays f = omega (arith, run-ends t s i h (sym e ∙ f))
 
     run-more : r ≡ true → i + 1 + run t (drop (i + 1) s) ≡ m
-    unfolding run if_then_else_
-    run-more f = let e : i + suc (run t (drop (suc i) s)) ≡ m = rw (drop-cons s i 0 h, sym e ∙ f) at whole in rw add-one (omega arith)
+    run-more f = rw add-one (omega (arith, run-on t s i h (sym e ∙ f)))
 
 abbrev Inv-loop : tie.InvT-loop
 Inv-loop s at i₀ i = i + run isDigit (drop i s) ≡ at + run isDigit (drop at s)
@@ -45,7 +42,7 @@ skip-digits-spec =
     (λ c. search needs)
     (λ c. search needs)
     (λ c κs. search needs)
-    (λ c. search (run-ends, not-true, needs))
+    (λ c. search (run-stays, not-true, needs))
     (λ c. search needs)
     (λ c. search needs)
     (λ c. search (run-more, not-false, needs))

@@ -1,5 +1,5 @@
--- The test of a grammar passes for the texts that fit it, and for no other. No proof cites this: it says that the test, with which
--- contracts are stated, is what a grammar is read as.
+-- The test of a grammar passes for the texts that fit it, and for no other: the test, with which contracts are stated, is what a
+-- grammar is read as.
 use mathlib.Core.Path.{_≡_, refl, ap, _∙_}
 use mathlib.Core.Bool.{Bool, true, false, false≢true}
 use mathlib.Core.List.{List, [], _∷_, _++_, append-assoc, append-nil}
