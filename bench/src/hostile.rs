@@ -191,6 +191,9 @@ fn long() -> Vec<Hostile> {
         hostile("names of three-byte letters", move || {
             structs(letters(), long_parts(WIDTH, 3), number)
         }),
+        hostile("keys of three-byte letters, maps", move || {
+            maps(letters(), FULL, long_parts(WIDTH, 3))
+        }),
         hostile("texts of three-byte letters", move || texts(letters(), 3, DEFAULT)),
         hostile("texts of digits, guess_dates", || {
             texts(text_of("1", "1", 0), 1, DEFAULT | GUESS_DATES)

@@ -36,7 +36,7 @@ const USAGE: &str = "usage: bench shapes | times [SHAPE...] | once SHAPE ours|ru
 /// How often each side is timed, by turns, and for how long at least.
 const ROUNDS: usize = 21;
 const ROUND: Duration = Duration::from_millis(4);
-/// The same of hostile shapes, of which a call is long. If the first one takes longer than they may, it is not made again.
+/// The same of hostile shapes, of which a call is long. After one that takes longer than they may, the side is not called again.
 const HOSTILE_ROUNDS: usize = 3;
 const LONGEST: Duration = Duration::from_secs(1);
 
@@ -253,20 +253,18 @@ fn utf8_time(records: &Records) -> Duration {
 /// A line for a hostile shape: its name, commands, and nanoseconds of a call of ours, of the Rust, and of testing for UTF-8.
 fn hostile_times(name: &str) {
     let (mut case, first) = Case::hostile(hostile::named(name));
+    let is_short = |times: &[Duration]| times.last().map_or(true, |&time| time < LONGEST);
     let mut times = [Vec::new(), Vec::new(), Vec::new()];
+    times[0].extend(Some(first).filter(|&time| time >= LONGEST));
     for _ in 0..HOSTILE_ROUNDS {
-        let ours = if first < LONGEST {
-            case.time(Side::Ours, 1)
-        } else {
-            first
-        };
-        let round = [ours, case.time(Side::Rust, 1), utf8_time(&case.records)];
-        times
-            .iter_mut()
-            .zip(round)
-            .for_each(|(times, time)| times.push(time.as_nanos() as f64));
+        for (times, side) in times.iter_mut().zip([Side::Ours, Side::Rust]) {
+            if is_short(times) {
+                times.push(case.time(side, 1));
+            }
+        }
+        times[2].push(utf8_time(&case.records));
     }
-    let [ours, rust, utf8] = times.map(median);
+    let [ours, rust, utf8] = times.map(|times| median(times.iter().map(|time| time.as_nanos() as f64).collect()));
     println!("{name}\t{}\t{ours:.0}\t{rust:.0}\t{utf8:.0}", case.records.count());
 }
 

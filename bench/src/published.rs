@@ -63,8 +63,11 @@ impl<'a> Reader<'a> {
     fn name(&mut self) -> &'static str {
         let (offset, length) = (self.operand(), self.operand());
         let name = std::str::from_utf8(&self.text[offset..offset + length]).expect("shapes are UTF-8");
-        self.known.insert(name);
-        self.known.get(name).expect("it is there")
+        let known = self.known.get(name).copied();
+        known.unwrap_or_else(|| {
+            self.known.insert(name);
+            name
+        })
     }
 
     fn command(&mut self) -> Command {
