@@ -56,7 +56,7 @@ fn entries(b: &mut Batch, keys: &[Part]) {
     b.end();
 }
 
-/// A record with a list under a name of one letter.
+/// A record with a list under a name of one letter, which has so many bytes.
 fn list(b: &mut Batch, letter: usize, elements: impl Fn(&mut Batch)) {
     b.structure();
     b.part(FIELD, 0, letter);
@@ -81,6 +81,7 @@ fn maps(text: Vec<u8>, size: Size, keys: Vec<Part>) -> Batch {
     over(text, DEFAULT, size, |b| entries(b, &keys))
 }
 
+/// Lists of texts, each from another letter, which has so many bytes.
 fn texts(text: Vec<u8>, letter: usize, options: u16) -> Batch {
     let parts = long_parts(WIDTH, letter);
     let elements = |b: &mut Batch| parts.iter().for_each(|&(offset, length)| b.part(TEXT, offset, length));
@@ -252,6 +253,7 @@ pub fn all() -> Vec<Hostile> {
         .collect()
 }
 
+/// The batch of that name.
 pub fn named(name: &str) -> Batch {
     let found = all().into_iter().find(|(shape, _)| shape == name);
     let (_, make) = found.unwrap_or_else(|| panic!("no shape is named {name}"));
