@@ -5,10 +5,12 @@ mod batch;
 mod clock;
 #[path = "../../oracle/src/codes.rs"]
 mod codes;
+mod collisions;
 #[path = "../../oracle/src/commands.rs"]
 mod commands;
 #[path = "../../oracle/src/hex.rs"]
 mod hex;
+mod hostile;
 #[path = "../../oracle/src/internal/mod.rs"]
 mod internal;
 mod native;
@@ -21,6 +23,7 @@ use std::time::Duration;
 
 use serde::Serialize;
 
+use internal::error::Result;
 use internal::schema::tracer::Tracer;
 use internal::schema::SerdeArrowSchema;
 use native::{Sailing, Soundings};
@@ -28,15 +31,17 @@ use ours::Lent;
 use published::Records;
 use shapes::{Batch, Shape, Size};
 
-const USAGE: &str = "usage: bench shapes | times | once SHAPE ours|rust|native";
+const USAGE: &str = "usage: bench shapes | times [SHAPE...] | once SHAPE ours|rust|native | hostile [SHAPE]";
 
 /// How often each side is timed, by turns, and for how long at least.
 const ROUNDS: usize = 21;
 const ROUND: Duration = Duration::from_millis(4);
+/// The same of hostile shapes, of which a call is long. After one that takes longer than they may, the side is not called again.
+const HOSTILE_ROUNDS: usize = 3;
+const LONGEST: Duration = Duration::from_secs(1);
 
-fn trace(samples: impl Serialize, options: u16) -> SerdeArrowSchema {
-    let tracer = Tracer::from_samples(samples, codes::options(options)).expect("shapes are accepted");
-    tracer.to_schema().expect("shapes are accepted")
+fn trace(samples: impl Serialize, options: u16) -> Result<SerdeArrowSchema> {
+    Tracer::from_samples(samples, codes::options(options))?.to_schema()
 }
 
 // What is measured; the profiler counts between entering and leaving these.
@@ -50,7 +55,7 @@ fn bench_ours(lent: &mut Lent, batch: &Batch) {
 #[no_mangle]
 #[inline(never)]
 fn bench_rust(records: &Records, options: u16) {
-    black_box(trace(black_box(records), options));
+    drop(black_box(trace(black_box(records), options)));
 }
 
 #[no_mangle]
@@ -76,7 +81,7 @@ impl Native {
         }
     }
 
-    fn schema(&self, options: u16) -> SerdeArrowSchema {
+    fn schema(&self, options: u16) -> Result<SerdeArrowSchema> {
         match self {
             Native::Sailings(records) => trace(records, options),
             Native::Soundings(records) => trace(records, options),
@@ -103,7 +108,7 @@ impl Case {
     fn new(shape: Shape, size: Size) -> Self {
         let (batch, records) = shape.batch(size);
         let case = Case {
-            lent: Lent::new(),
+            lent: Lent::new(ours::BUFFERS),
             records: Records::new(&batch),
             native: Native::new(shape, records),
             batch,
@@ -119,6 +124,7 @@ impl Case {
         let mut schemas = vec![trace(&self.records, options)];
         schemas.extend(self.native.as_ref().map(|native| native.schema(options)));
         for schema in schemas {
+            let schema = schema.expect("shapes are accepted");
             let mut rust = batch::Answer::default();
             schema.fields.iter().for_each(|field| rust.add(field, 0));
             assert_eq!(
@@ -128,7 +134,7 @@ impl Case {
             );
             assert_eq!(answer.columns as usize, rust.columns);
         }
-        if let Shape::Wide(width) | Shape::Alike(width) = shape {
+        if let Shape::Wide(width) | Shape::Alike(width) | Shape::Shuffled(width) | Shape::Nested(width) = shape {
             assert_eq!(answer.columns as usize, width, "names are not told apart");
         }
         self
@@ -173,33 +179,104 @@ impl Case {
                 times[i].push(self.time(side, runs[i]).as_nanos() as f64 / f64::from(runs[i]));
             }
         }
-        let median = |mut times: Vec<f64>| {
-            times.sort_by(f64::total_cmp);
-            times[ROUNDS / 2]
-        };
         times.into_iter().map(median).collect()
+    }
+
+    /// A hostile batch, and how long ours took at first. Both sides must give one schema, or one refusal and place.
+    fn hostile(batch: Batch) -> (Self, Duration) {
+        let mut lent = Lent::new(ours::ENOUGH);
+        let start = clock::processor_time();
+        let answer = lent.trace(&batch);
+        let first = clock::processor_time() - start;
+        let question = batch::Question {
+            word: batch.options,
+            commands: &batch.commands,
+            text: &batch.text,
+        };
+        match batch::answer(&question, ours::ENOUGH.0, ours::ENOUGH.1) {
+            Ok(rust) => {
+                assert_eq!((answer.refusal, answer.columns as usize), (0, rust.columns));
+                assert!(
+                    lent.written(answer) == (&rust.records[..], &rust.names[..]),
+                    "the schemas differ"
+                );
+            }
+            Err((number, place)) => assert_eq!((answer.refusal, answer.place as usize), (number.into(), place)),
+        }
+        let case = Case {
+            lent,
+            records: Records::new(&batch),
+            native: None,
+            batch,
+        };
+        (case, first)
     }
 }
 
+fn median(mut times: Vec<f64>) -> f64 {
+    times.sort_by(f64::total_cmp);
+    times[times.len() / 2]
+}
+
+fn named(shape: Shape, size: Size) -> String {
+    format!("{shape}, {size}")
+}
+
 /// A line a shape: its name, commands, and nanoseconds a run of each side, parted by tabs.
-fn times() {
-    for (shape, size) in shapes::all() {
+fn times(only: &[&str]) {
+    let is_asked = |&(shape, size): &(Shape, Size)| only.is_empty() || only.contains(&named(shape, size).as_str());
+    for (shape, size) in shapes::all().into_iter().filter(is_asked) {
         let mut case = Case::new(shape, size);
         let sides: Vec<Side> = [Side::Ours, Side::Rust, Side::Native]
             .into_iter()
             .filter(|&s| case.has(s))
             .collect();
         let medians: Vec<String> = case.medians(&sides).iter().map(|time| format!("{time:.0}")).collect();
-        println!("{shape}, {size}\t{}\t{}", case.records.count(), medians.join("\t"));
+        println!(
+            "{}\t{}\t{}",
+            named(shape, size),
+            case.records.count(),
+            medians.join("\t")
+        );
     }
 }
 
+/// How long testing takes that all names and texts are UTF-8, as whoever hands the Rust bytes must.
+fn utf8_time(records: &Records) -> Duration {
+    let start = clock::processor_time();
+    for part in records.parts() {
+        black_box(std::str::from_utf8(black_box(part.as_bytes()))).expect("shapes are UTF-8");
+    }
+    clock::processor_time() - start
+}
+
+/// A line for a hostile shape: its name, commands, and nanoseconds of a call of ours, of the Rust, and of testing for UTF-8.
+fn hostile_times(name: &str) {
+    let (mut case, first) = Case::hostile(hostile::named(name));
+    let is_short = |times: &[Duration]| times.last().map_or(true, |&time| time < LONGEST);
+    let mut times = [Vec::new(), Vec::new(), Vec::new()];
+    times[0].extend(Some(first).filter(|&time| time >= LONGEST));
+    for _ in 0..HOSTILE_ROUNDS {
+        for (times, side) in times.iter_mut().zip([Side::Ours, Side::Rust]) {
+            if is_short(times) {
+                times.push(case.time(side, 1));
+            }
+        }
+        times[2].push(utf8_time(&case.records));
+    }
+    let [ours, rust, utf8] = times.map(|times| median(times.iter().map(|time| time.as_nanos() as f64).collect()));
+    println!("{name}\t{}\t{ours:.0}\t{rust:.0}\t{utf8:.0}", case.records.count());
+}
+
 fn once(name: &str, side: Side) {
-    let named = shapes::all()
+    let found = shapes::all()
         .into_iter()
-        .find(|(shape, size)| format!("{shape}, {size}") == name);
-    let (shape, size) = named.unwrap_or_else(|| panic!("no shape is named {name}"));
-    Case::new(shape, size).run(side);
+        .find(|&(shape, size)| named(shape, size) == name);
+    let mut case = match found {
+        Some((shape, size)) => Case::new(shape, size),
+        None => Case::hostile(hostile::named(name)).0,
+    };
+    case.run(side);
 }
 
 fn main() {
@@ -207,11 +284,13 @@ fn main() {
     match arguments.iter().map(String::as_str).collect::<Vec<_>>()[..] {
         ["shapes"] => shapes::all()
             .iter()
-            .for_each(|(shape, size)| println!("{shape}, {size}")),
-        ["times"] => times(),
+            .for_each(|&(shape, size)| println!("{}", named(shape, size))),
+        ["times", ref only @ ..] => times(only),
         ["once", name, "ours"] => once(name, Side::Ours),
         ["once", name, "rust"] => once(name, Side::Rust),
         ["once", name, "native"] => once(name, Side::Native),
+        ["hostile"] => hostile::all().iter().for_each(|(name, _)| println!("{name}")),
+        ["hostile", name] => hostile_times(name),
         _ => {
             eprintln!("{USAGE}");
             std::process::exit(1);

@@ -4,7 +4,9 @@ use crate::shapes::Batch;
 
 const TABLE: usize = 16_384;
 /// The buffers of schema-list.
-const BUFFER: usize = 65_536;
+pub const BUFFERS: (usize, usize) = (65_536, 65_536);
+/// Buffers that suffice for every batch (include/fasthrom.h).
+pub const ENOUGH: (usize, usize) = (2_097_152, 134_217_728);
 
 #[repr(C)]
 #[derive(Clone, Copy, Debug)]
@@ -40,11 +42,12 @@ pub struct Lent {
 }
 
 impl Lent {
-    pub fn new() -> Self {
+    /// A table, and buffers for so many bytes of fields and of names.
+    pub fn new((fields, names): (usize, usize)) -> Self {
         Lent {
             table: vec![0; TABLE],
-            fields: vec![0; BUFFER],
-            names: vec![0; BUFFER],
+            fields: vec![0; fields],
+            names: vec![0; names],
         }
     }
 

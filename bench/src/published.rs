@@ -2,7 +2,7 @@
 //! handed kinds and names that are known to be UTF-8, as it would be by values of its own.
 
 use std::cell::Cell;
-use std::collections::HashMap;
+use std::collections::HashSet;
 
 use serde::ser::{
     SerializeMap, SerializeSeq, SerializeStruct, SerializeStructVariant, SerializeTuple, SerializeTupleVariant,
@@ -42,11 +42,13 @@ enum Command {
     StructVariant(u32, &'static str),
 }
 
-/// Takes a batch's bytes apart. Serde wants the names of fields and variants to live forever.
+/// Takes a batch's bytes apart. Serde wants the names of fields and variants to live forever, and so the text does; equal names are
+/// handed as one.
 struct Reader<'a> {
     batch: &'a Batch,
+    text: &'static [u8],
     at: usize,
-    known: HashMap<&'a str, &'static str>,
+    known: HashSet<&'static str>,
 }
 
 impl<'a> Reader<'a> {
@@ -60,8 +62,12 @@ impl<'a> Reader<'a> {
 
     fn name(&mut self) -> &'static str {
         let (offset, length) = (self.operand(), self.operand());
-        let name = std::str::from_utf8(&self.batch.text[offset..offset + length]).expect("shapes are UTF-8");
-        self.known.entry(name).or_insert_with(|| String::from(name).leak())
+        let name = std::str::from_utf8(&self.text[offset..offset + length]).expect("shapes are UTF-8");
+        let known = self.known.get(name).copied();
+        known.unwrap_or_else(|| {
+            self.known.insert(name);
+            name
+        })
     }
 
     fn command(&mut self) -> Command {
@@ -110,8 +116,9 @@ impl Records {
     pub fn new(batch: &Batch) -> Self {
         let mut reader = Reader {
             batch,
+            text: batch.text.clone().leak(),
             at: 0,
-            known: HashMap::new(),
+            known: HashSet::new(),
         };
         let mut commands = Vec::new();
         while reader.at < batch.commands.len() {
@@ -125,6 +132,16 @@ impl Records {
 
     pub fn count(&self) -> usize {
         self.commands.len()
+    }
+
+    /// The names and texts, each as often as it is handed.
+    pub fn parts(&self) -> impl Iterator<Item = &'static str> + '_ {
+        self.commands.iter().filter_map(|command| match *command {
+            Command::Text(part) | Command::Field(part) => Some(part),
+            Command::UnitVariant(_, part) | Command::NewtypeVariant(_, part) => Some(part),
+            Command::TupleVariant(_, part, _) | Command::StructVariant(_, part) => Some(part),
+            _ => None,
+        })
     }
 
     fn next(&self) -> &Command {

@@ -4,12 +4,12 @@ use std::collections::HashMap;
 
 use crate::native;
 
-const MOST: usize = 65_535;
+pub const MOST: usize = 65_535;
 
 /// The Rust's default options, and those that are added to them.
-const DEFAULT: u16 = 30;
+pub const DEFAULT: u16 = 30;
 const COERCE_NUMBERS: u16 = 1 << 6;
-const GUESS_DATES: u16 = 1 << 8;
+pub const GUESS_DATES: u16 = 1 << 8;
 
 /// Commands as a host writes them: a field's name stands once in the text, a value's text once for each value.
 #[derive(Default)]
@@ -39,6 +39,20 @@ impl Batch {
         self.commands.push(code);
     }
 
+    /// A field or a text, wherever it stands in the text slice.
+    pub fn part(&mut self, code: u8, offset: usize, length: usize) {
+        self.value(code);
+        self.operands(offset, length);
+    }
+
+    /// A newtype variant, whose value follows, by its name's offset and length.
+    pub fn numbered(&mut self, number: usize, offset: usize, length: usize) {
+        self.value(0x19);
+        self.commands
+            .extend(u16::try_from(number).expect("at most 65,535").to_le_bytes());
+        self.operands(offset, length);
+    }
+
     pub fn structure(&mut self) {
         self.value(0x15);
     }
@@ -60,8 +74,7 @@ impl Batch {
             Some(&offset) => offset,
             None => self.add(name),
         };
-        self.value(0x16);
-        self.operands(offset, name.len());
+        self.part(0x16, offset, name.len());
     }
 
     /// A newtype variant, whose value follows.
@@ -70,9 +83,7 @@ impl Batch {
             Some(&offset) => offset,
             None => self.add(name),
         };
-        self.value(0x19);
-        self.commands.extend(u16::try_from(number).expect("at most 65,535").to_le_bytes());
-        self.operands(offset, name.len());
+        self.numbered(number, offset, name.len());
     }
 
     /// A text of its own, or an equal one before it once the text slice is full.
@@ -82,8 +93,7 @@ impl Batch {
         } else {
             self.known[text]
         };
-        self.value(0x0D);
-        self.operands(offset, text.len());
+        self.part(0x0D, offset, text.len());
     }
 }
 
@@ -105,7 +115,7 @@ impl std::fmt::Display for Size {
 }
 
 /// A batch of records, and how many they are.
-fn batch(options: u16, size: Size, record: impl Fn(&mut Batch, usize)) -> (Batch, usize) {
+pub fn batch(options: u16, size: Size, record: impl Fn(&mut Batch, usize)) -> (Batch, usize) {
     let (records, bytes) = match size {
         Size::Records(count) => (count, MOST),
         Size::KiB(count) => (usize::MAX, MOST.min(count * 1024)),
@@ -143,6 +153,12 @@ pub enum Shape {
     Wide(usize),
     /// So many fields of names that are equally long and begin alike.
     Alike(usize),
+    /// So many fields, in another order in each record.
+    Shuffled(usize),
+    /// So many fields, each a struct of one field.
+    Nested(usize),
+    /// Twenty fields, and in the first record a struct of 900 before them.
+    SeenOnce,
     /// One of so many variants a record, by turns.
     Variants(usize),
 }
@@ -157,12 +173,15 @@ impl std::fmt::Display for Shape {
             Shape::Deep => write!(f, "19 deep"),
             Shape::Wide(width) => write!(f, "{width} wide"),
             Shape::Alike(width) => write!(f, "{width} wide, names alike"),
+            Shape::Shuffled(width) => write!(f, "{width} shuffled"),
+            Shape::Nested(width) => write!(f, "{width} nested"),
+            Shape::SeenOnce => write!(f, "wide struct seen once"),
             Shape::Variants(width) => write!(f, "{width} variants"),
         }
     }
 }
 
-fn name(i: usize) -> String {
+pub fn name(i: usize) -> String {
     const SYLLABLES: [&str; 16] = [
         "ka", "ro", "min", "te", "sul", "va", "dor", "i", "pen", "ga", "lu", "bre", "no", "ta", "she", "or",
     ];
@@ -175,12 +194,50 @@ fn name(i: usize) -> String {
     )
 }
 
-fn wide(b: &mut Batch, width: usize, name: impl Fn(usize) -> String) {
-    b.structure();
-    for i in 0..width {
+/// Fields with numbers for values, each of the type that goes with its name.
+pub fn fields(b: &mut Batch, order: impl IntoIterator<Item = usize>, name: impl Fn(usize) -> String) {
+    for i in order {
         b.field(&name(i));
         b.value(2 + (i % 10) as u8);
     }
+}
+
+pub fn wide(b: &mut Batch, order: impl IntoIterator<Item = usize>, name: impl Fn(usize) -> String) {
+    b.structure();
+    fields(b, order, name);
+    b.end();
+}
+
+/// The numbers below a width, in an order that is the record's own. The first record has them as they come.
+fn shuffled(width: usize, record: usize) -> Vec<usize> {
+    let mut order: Vec<usize> = (0..width).collect();
+    let mut seed = record as u64 + 1;
+    for i in (1..width).rev().filter(|_| record > 0) {
+        seed = seed.wrapping_mul(6364136223846793005).wrapping_add(1442695040888963407);
+        order.swap(i, (seed >> 33) as usize % (i + 1));
+    }
+    order
+}
+
+fn nested(b: &mut Batch, width: usize) {
+    b.structure();
+    for i in 0..width {
+        b.field(&name(i));
+        b.structure();
+        b.field("x");
+        b.value(0x04);
+        b.end();
+    }
+    b.end();
+}
+
+fn seen_once(b: &mut Batch, record: usize) {
+    b.structure();
+    if record == 0 {
+        b.field("manifest");
+        wide(b, 0..900, name);
+    }
+    fields(b, 0..20, name);
     b.end();
 }
 
@@ -241,8 +298,11 @@ impl Shape {
             Shape::Dates => batch(DEFAULT | GUESS_DATES, size, dates),
             Shape::MapMode => batch(DEFAULT, size, map),
             Shape::Deep => batch(DEFAULT, size, deep),
-            Shape::Wide(width) => batch(DEFAULT, size, |b, _| wide(b, width, name)),
-            Shape::Alike(width) => batch(DEFAULT, size, |b, _| wide(b, width, |i| format!("column_{i:04}"))),
+            Shape::Wide(width) => batch(DEFAULT, size, |b, _| wide(b, 0..width, name)),
+            Shape::Alike(width) => batch(DEFAULT, size, |b, _| wide(b, 0..width, |i| format!("column_{i:04}"))),
+            Shape::Shuffled(width) => batch(DEFAULT, size, |b, i| wide(b, shuffled(width, i), name)),
+            Shape::Nested(width) => batch(DEFAULT, size, |b, _| nested(b, width)),
+            Shape::SeenOnce => batch(DEFAULT, size, seen_once),
             Shape::Variants(width) => batch(DEFAULT, size, |b, i| variants(b, i, width)),
         }
     }
@@ -267,6 +327,9 @@ pub fn all() -> Vec<(Shape, Size)> {
     }
     all.extend([2, 4, 16, 64, 128, 256, 512, 1_000].map(|width| (Shape::Wide(width), Size::KiB(64))));
     all.extend([8, 32, 64, 128, 256, 512, 1_000].map(|width| (Shape::Alike(width), Size::KiB(64))));
+    all.extend([20, 64, 256, 1_000].map(|width| (Shape::Shuffled(width), Size::KiB(64))));
+    all.extend([64, 256, 500].map(|width| (Shape::Nested(width), Size::KiB(64))));
+    all.push((Shape::SeenOnce, Size::KiB(64)));
     all.extend([4, 32, 128].map(|width| (Shape::Variants(width), Size::KiB(64))));
     all
 }
