@@ -8,7 +8,7 @@ each place, behind `refused NUMBER PLACE` where tracing is refused: then the pla
 half-traced. A line is the place's words, the two links of one word with a slash between them, the name as the offset
 and the length of where the text first gave it:
 
-    KIND NULL SAMPLES FIRST/LAST ROOT/BLOCK LEFT/RIGHT NEXT/PARENT STEP OFFSET+LENGTH HELD MARK TAG
+    KIND NULL SAMPLES FIRST/LAST ROOT/BLOCK LEFT/RIGHT NEXT/PARENT STEP OFFSET+LENGTH HELD MARK TAG POSITION
 
 The last line is how many bytes batches.bin has.
 """
@@ -128,8 +128,8 @@ class HalfTraced(Tracer):
         return min(self.announced.get(place, 0), len(place.children))
 
     def links(self):
-        """Of each place, by the links' names, where they lead; 0 is nowhere."""
-        links = [dict.fromkeys(("first", "last", "root", "block", "left", "right", "next"), 0) for _ in self.places]
+        """Of each place, by the links' names, where they lead, 0 being nowhere; and its position among its siblings."""
+        links = [dict.fromkeys(("first", "last", "root", "block", "left", "right", "next", "position"), 0) for _ in self.places]
         for place, own in zip(self.places, links):
             numbers = self.numbers(place)
             if numbers:
@@ -139,8 +139,11 @@ class HalfTraced(Tracer):
             # positions made at once are a block, if there was room for all; other numbered children stand in a tree
             if self.together(place) == self.announced.get(place):
                 own["block"] = self.together(place)
-            for number in numbers[self.together(place):]:
-                self.enter(links, own, number)
+            for before, number in zip([None, *numbers], numbers):
+                if number in numbers[self.together(place):]:
+                    # one behind the last before it; positions made at once are given none
+                    links[number]["position"] = 0 if before is None else links[before]["position"] + 1
+                    self.enter(links, own, number)
         return links
 
     def enter(self, links, own, number):
@@ -165,7 +168,7 @@ class HalfTraced(Tracer):
             KINDS.get(place.kind, place.kind), int(place.null), place.samples,
             f"{to['first']}/{to['last']}", f"{to['root']}/{to['block']}", f"{to['left']}/{to['right']}",
             f"{to['next']}/{self.as_child[child.parent].number}", step_code(child.step),
-            f"{child.offset}+{len(child.name)}", child.held, child.mark, tag(child.name))))
+            f"{child.offset}+{len(child.name)}", child.held, child.mark, tag(child.name), to["position"])))
 
 
 def expected(word, commands, text):

@@ -72,7 +72,8 @@ heldWord = 16
 abbrev pub markWord : ℕ
 markWord = 17
 
--- the tag of its name, of which equal names have the same, and its position among its siblings
+-- the tag of its name, of which equal names have the same, and its position among its siblings; a tuple's positions that are made at
+-- once have neither
 abbrev pub tagWord : ℕ
 tagWord = 18
 

@@ -61,7 +61,8 @@ fn print_as_child(table: &[u32], place: usize)
     print_name(table, place);
     print_word(table, place, places::HELD, b" ");
     print_word(table, place, places::MARK, b" ");
-    print_word(table, place, places::TAG, b"\n");
+    print_word(table, place, places::TAG, b" ");
+    print_word(table, place, places::POSITION, b"\n");
 }
 
 fn print_places(table: &[u32], count: usize)
