@@ -12,7 +12,7 @@ use Rattle.shapes.specs.Steps.{fieldCode}
 use Rattle.places.specs.Layout.{parentWord, tagWord, positionWord}
 use Rattle.search.specs.Search.{isAt, findFrom, findIn}
 
--- so many places are looked at together
+-- so many places are looked at together, and so many where children stand far apart; what is found is the same
 abbrev pub fewPlaces : ℕ
 fewPlaces = 8
 
@@ -29,12 +29,12 @@ fieldAmong text place name t from zero = 0
 fieldAmong text place name t from (suc count) =
     if isField text place name from t then from else fieldAmong text place name t (from + 1) count
 
--- where the first of so many groups of places starts, from one on, in which one has that tag; where they end if none has
+-- where the first of so many groups of sixteen starts, from a place on, in which one has that tag; where they end if none has
 unfoldable pub pastOthers : ℕ → List ℕ → ℕ → ℕ → ℕ
 pastOthers tag t from zero = from
 pastOthers tag t from (suc groups) = if hasAmong t from manyPlaces tagWord tag then from else pastOthers tag t (from + manyPlaces) groups
 
--- few of that many places up to the last child are children: it tells its position among them
+-- fewer than one in sixteen of that many places up to the last child are children: its position tells how many stand before it
 unfoldable pub isSparse : ℕ → ℕ → List ℕ → Bool
 isSparse span last t = ltb (word t last positionWord * manyPlaces) span
 

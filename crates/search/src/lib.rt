@@ -118,7 +118,7 @@ fn find_linked(
 }
 
 // The place's field with that name, where the places before one are passed. FEW places from a multiple of FEW on are all
-// in the table, so the search starts at one.
+// in the table, so the search starts at one. With this loop in `find_field` itself, small records take 4 % more instructions.
 fn find_from(
     text: &[u8],
     place: usize,
