@@ -1,3 +1,4 @@
 pub mod Search
+pub mod Scan
 pub mod Tree
 pub mod laws

@@ -1,18 +1,17 @@
 -- The child of a place at a step, found in the words of the table.
-use mathlib.Core.Path.{_≡_}
 use mathlib.Core.Bool.{Bool, true, false, _&&_}
 use mathlib.Core.List.{List}
-use Prim.Native.Nat.{ℕ, _+_, _<_, _≤_}
+use Prim.Native.Nat.{ℕ, _+_}
 use lib.Dec.{eqb, ltb}
 use Rattle.logic.specs.Test.{if_then_else_}
 use Rattle.logic.specs.Turns.{Turn, again, done, turns}
 use Rattle.text.specs.declared.Name.{Name}
-use Rattle.text.specs.Name.{bytesOf, eqName, tagOf}
+use Rattle.text.specs.Name.{bytesOf, eqName}
 use Rattle.words.specs.Word.{word, IsTable, IsRow}
 use Rattle.shapes.specs.declared.Step.{Step}
 use Rattle.shapes.specs.declared.Step.the-variants as S
 use Rattle.shapes.specs.Steps.{fieldCode, codeOf, noName, unpackedName, Inside}
-use Rattle.places.specs.Layout.{firstWord, blockWord, nextWord, stepWord, nameWord, Sound, turnLimit}
+use Rattle.places.specs.Layout.{firstWord, blockWord, nextWord, stepWord, nameWord, turnLimit}
 use Rattle.search.specs.Tree.{seek}
 
 -- what is asked where the name of a child is compared: the child is a row of the table, and both names lie in the text
@@ -39,14 +38,6 @@ findFrom text code name t child = turns (findTurn text code name t) (λ c. 0) tu
 
 abbrev pub findIn : List ℕ → ℕ → ℕ → Name → List ℕ → ℕ
 findIn text place code name t = findFrom text code name t (word t place firstWord)
-
--- from a later child on the search for a field finds what it finds from an earlier one on, whatever the name with that tag
-pub record Past (tag child here : ℕ) (t : List ℕ) : Type 0 where
-  pub rises : child ≤ here
-  pub below : (text : List ℕ) (n : ℕ) → Sound text t n → child < n → here < n
-  pub same :
-      (text : List ℕ) (n : ℕ) (name : Name) → Sound text t n → child < n → (child ≡ 0 → ⊥) → tag ≡ tagOf (bytesOf text name) →
-      findFrom text fieldCode name t here ≡ findFrom text fieldCode name t child
 
 -- a position in the place's block stands by its number, any other numbered child is found in the search tree, the others from sibling to
 -- sibling

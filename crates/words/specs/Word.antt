@@ -1,9 +1,9 @@
 -- The part of the work table that is lent to the tracer, and the words of a place in it. How a word is found is said here alone: what
 -- stands above speaks of a place and a word of it, and goes by the laws.
 use mathlib.Core.Path.{_≡_}
-use mathlib.Core.Bool.{Bool, false, _&&_}
+use mathlib.Core.Bool.{Bool, false, _&&_, _||_}
 use mathlib.Core.List.{List, [], _∷_}
-use Prim.Native.Nat.{ℕ, suc, _+_, _-_, _*_, _/_, _%_, _^_, _<_}
+use Prim.Native.Nat.{ℕ, zero, suc, _+_, _-_, _*_, _/_, _%_, _^_, _<_}
 use lib.Dec.{eqb, leb, ltb}
 use lib.ListN.{length, getD, set, replicate}
 use Rattle.logic.specs.Test.{if_then_else_}
@@ -88,6 +88,11 @@ withPart field w value =
 -- word `field` of a place, and 0 where the table has none
 unfoldable pub word : List ℕ → ℕ → ℕ → ℕ
 word table place field = if hasWord place field then partOf field (getD table (indexOf place field) 0) else 0
+
+-- one of so many places, from one on, has that value as that word
+unfoldable pub hasAmong : List ℕ → ℕ → ℕ → ℕ → ℕ → Bool
+hasAmong table from zero field value = false
+hasAmong table from (suc count) field value = hasAmong table from count field value || eqb (word table (from + count) field) value
 
 -- the table with that word stored, if it has it
 unfoldable pub withWord : List ℕ → ℕ → ℕ → ℕ → List ℕ

@@ -3,9 +3,10 @@
 // another, a plane, so that the tags of eight places can be looked at at a time.
 ghost use mathlib.Core.Path.{_≡_};
 ghost use mathlib.Core.Bool.{true, false};
-ghost use Prim.Native.Nat.{_<_, _≤_};
+ghost use Prim.Native.Nat.{_+_, _<_, _≤_};
 ghost use lib.ListN.{length};
-ghost use Rattle.words.specs.Word.{tablePlaces, tableWords, placeWords, linkLimit, IsTable, IsRow, isLink, indexOf, partOf, withPart, word, withWord, zeros, zeroedIn, clearedIn, clearedTo};
+ghost use Rattle.words.specs.Word.{tablePlaces, tableWords, placeWords, linkLimit, IsTable, IsRow, isLink, indexOf};
+ghost use Rattle.words.specs.Word.{partOf, withPart, word, withWord, hasAmong, zeros, zeroedIn, clearedIn, clearedTo};
 
 // So many words: a row for each place.
 pub const WORDS: usize = 16384;
@@ -103,6 +104,20 @@ pub fn set_link(table: &mut [u32], place: usize, field: usize, to: usize)
 {
     let at = link_index(place, field);
     table[at] = with_link(table[at], field, to);
+}
+
+// Whether one of so many places, from one on, has that value as that word. All are looked at: the compiler takes several at a time.
+pub fn has(table: &[u32], from: usize, count: usize, field: usize, value: u32) -> bool
+    requires { ⌜ IsTable (now table) × (from + count ≤ tablePlaces) × (field < placeWords) × (isLink field ≡ false) ⌝ }
+    ensures { λ r. ⌜ r ≡ hasAmong (now (table .entry)) from count field value ⌝ }
+{
+    let mut i = 0;
+    let mut some = false;
+    while i < count {
+        some = some | (get(table, from + i, field) == value);
+        i += 1;
+    }
+    some
 }
 
 // Zeroes the words from one index up to another.

@@ -3,7 +3,6 @@ use mathlib.Core.Path.{_≡_, refl, sym, ap, _∙_, fun-ext}
 use mathlib.Core.Bool.{Bool, true, false, false≢true}
 use mathlib.Core.List.{List}
 use Prim.Native.Nat.{_-_, ℕ, _+_, _%_, _<_, _≤_}
-use native.Mathlib.Nat.{le-refl}
 use native.Mathlib.Omega.{arith}
 use borrow.Author.Tests.{ne-eqb, eqb-true, eqb-false, ltb-true}
 use lib.Dec.{eqb, ltb}
@@ -19,7 +18,7 @@ use Rattle.text.specs.Utf8.{isUtf8}
 use Rattle.model.specs.Tracing.{placeLimit}
 use Rattle.shapes.specs.Steps.{fieldCode, unpackedName}
 use Rattle.places.specs.Layout.{firstWord, blockWord, nextWord, stepWord, nameWord, tagWord, Tagged, Sound, turnLimit}
-use Rattle.search.specs.Search.{isAt, findTurn, findFrom, findIn, inBlock, Past}
+use Rattle.search.specs.Search.{isAt, findTurn, findFrom, findIn, inBlock}
 use Rattle.places.specs.laws.Layout.{first-below, next-below}
 
 -- ---- the search for a child
@@ -112,44 +111,6 @@ pub other-tag : (text t : List ℕ) (child tag mark : ℕ) (name : Name) → Tag
 other-tag text t child tag mark name tags e d differ =
     cases (isAt text fieldCode name child t)
     (λ at. let h = field-stands text t child name at in absurd (differ (d ∙ tags (h .0) ∙ ap tagOf (h .1) ∙ sym e))) sym
-
--- children are passed that have another tag
-pub past-none : (tag child : ℕ) (t : List ℕ) → Past tag child child t
-past-none tag child t = record { rises = le-refl child; below = λ text n s h. h; same = λ text n name s h z e. refl }
-
-pub past-next : (tag child here mark x : ℕ) (t : List ℕ) → Past tag child here t → mark ≡ word t here tagWord → (mark ≡ tag → ⊥) → x ≡ word t here nextWord → x ≡ here + 1 → Past tag child (here + 1) t
-past-next tag child here mark x t p d differ e f =
-    let up : child ≤ here = p .rises in
-    record {
-      rises = omega arith;
-      below = λ text n s h. rw (← f) (next-below text t n here x s (p .below text n s h) e);
-      same = λ text n name s h z g.
-          let l : here < n = p .below text n s h in
-          rw (← f) (find-next text t n fieldCode name s here _ l (p .same text n name s h z g) false (omega arith) (other-tag text t here tag mark name (s .tags here l) g d differ) x refl e);
-    }
-
-module _ (text t : List ℕ) (n tag child here : ℕ) (s : Sound text t n) (h : child < n) (p : Past tag child here t) where
-  pub past-below : here < n
-  past-below = p .below text n s h
-
-  module _ (known : child ≡ 0 → ⊥) where
-    pub past-known : here ≡ 0 → ⊥
-    past-known z = let up : child ≤ here = p .rises in omega arith
-
-    pub past-falls : (x : ℕ) → x ≡ word t here nextWord → childrenLeft x < childrenLeft child
-    past-falls x e =
-        let up : child ≤ here = p .rises in
-        let m : n ≤ placeLimit = s .linked .most in
-        let b : here < n = past-below in
-        let l : childrenLeft x < childrenLeft here = left-falls text t n here x s b past-known e in
-        omega arith
-
-    module _ (name : Name) (r : ℕ) (at : Bool) (e : tag ≡ tagOf (bytesOf text name)) (whole : findFrom text fieldCode name t child ≡ r) (is-at : at ≡ isAt text fieldCode name here t) where
-      pub field-found : at ≡ true → here ≡ r
-      field-found = find-found text t n fieldCode name s here r past-below (p .same text n name s h known e ∙ whole) at past-known is-at
-
-      pub field-next : (x : ℕ) → at ≡ false → x ≡ word t here nextWord → findFrom text fieldCode name t x ≡ r
-      field-next = find-next text t n fieldCode name s here r past-below (p .same text n name s h known e ∙ whole) at past-known is-at
 
 -- ---- the search for another step is by its code alone
 module _ (text t : List ℕ) (code : ℕ) (name : Name) (no-field : code ≡ fieldCode → ⊥) where

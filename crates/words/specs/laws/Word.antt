@@ -10,8 +10,8 @@ use lib.Dec.{eqb, leb, ltb}
 use lib.ListN.{length, getD, set, replicate, length-set, length-replicate}
 use lib.Seq.{getD-set-same, getD-set-other, set-getD, set-comm, ext-getD}
 use Rattle.logic.specs.Test.{if_then_else_}
-use Rattle.logic.specs.laws.Test.{cases, both}
-use Rattle.words.specs.Word.{tablePlaces, placeWords, tableWords, rowWords, linksFrom, linksEnd, linkLimit, IsTable, IsRow, HasRoom, in-whole, in-each, isLink, isLower, hasWord, rowWord, indexOf, partOf, withPart, word, withWord, zeros, zeroedWhere, ordersFrom, ordersEnd, isOrder, clearedIn, clearedTo}
+use Rattle.logic.specs.laws.Test.{cases, both, neither}
+use Rattle.words.specs.Word.{tablePlaces, placeWords, tableWords, rowWords, linksFrom, linksEnd, linkLimit, IsTable, IsRow, HasRoom, in-whole, in-each, isLink, isLower, hasWord, rowWord, indexOf, partOf, withPart, word, withWord, hasAmong, zeros, zeroedWhere, ordersFrom, ordersEnd, isOrder, clearedIn, clearedTo}
 
 -- ---- the word of a row that a place's word is, or stands in
 pub link-from : (f : ℕ) → isLink f ≡ true → linksFrom ≤ f
@@ -240,6 +240,17 @@ with-swap t p f q g v w n =
     rw (getD-set-other t i j x 0 o, getD-set-other t j i y 0 (λ d. o (sym d))) (set-comm t i j x y (λ d. o (sym d))))))
     (λ b. rw (a, b) refl))
     (λ a. rw a refl)
+
+-- ---- several places
+-- where none has a value, each has another
+pub has-none : (t : List ℕ) (from count field value : ℕ) → hasAmong t from count field value ≡ false → (i : ℕ) → i < count → word t (from + i) field ≡ value → ⊥
+unfolding hasAmong
+has-none t from zero field value e i h = absurd (omega arith)
+has-none t from (suc count) field value e i h =
+    neither (hasAmong t from count field value) (eqb (word t (from + count) field) value) e λ before here.
+    cases (eqb i count)
+    (λ q. rw (eqb-true i count q) (eqb-false (word t (from + count) field) value here))
+    (λ q. let d : (i ≡ count → ⊥) = eqb-false i count q in has-none t from count field value before i (omega (arith, d)))
 
 -- ---- a table of zeros
 pub zeros-table : IsTable zeros
