@@ -1,8 +1,8 @@
 -- Blocks: many bytes that are all looked at, without leaving early, which the compiler does several at a time.
 use Prim.Native.Nat.{ℕ, zero, suc, _+_}
-use mathlib.Core.Bool.{Bool, false, not, _||_}
+use mathlib.Core.Bool.{Bool, false, _||_}
 use mathlib.Core.List.{List}
-use lib.Dec.{leb, eqb}
+use lib.Dec.{leb}
 use lib.ListN.{getD}
 
 -- one of so many indices, from one on, passes a test

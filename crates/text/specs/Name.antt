@@ -43,8 +43,8 @@ dots (b ∷ x) = if eqb b dot then suc (dots x) else dots x
 abbrev pub tagLimit : ℕ
 tagLimit = 2 ^ 32
 
--- What is multiplied by these, odd numbers without a pattern, tells in all higher bits: the state of a name over twelve bytes, and the first
--- four bytes, the middle four and the last four of another.
+-- What is multiplied by these, odd numbers without a pattern, tells in all higher bits: the state of a name over twelve bytes, and the
+-- first four bytes, the middle four and the last four of another.
 abbrev pub mixer : ℕ
 mixer = 1540483477
 

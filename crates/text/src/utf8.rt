@@ -2,7 +2,7 @@
 ghost use mathlib.Core.Path.{_≡_};
 ghost use Prim.Native.Nat.{_+_, _≤_, _<_};
 ghost use mathlib.Core.Bool.{not};
-ghost use mathlib.Core.List.{_∷_};
+ghost use mathlib.Core.List.{[], _∷_};
 ghost use lib.ListN.{length, drop, replicate};
 ghost use Rattle.text.specs.Utf8.{_to_, table, dueIn, isUtf8};
 ghost use Rattle.text.specs.Block.{anyFrom, isHigh};
@@ -74,7 +74,7 @@ fn past_ascii(bytes: &[u8]) -> usize
     i
 }
 
-// Whether the bytes are sequences of the table, one after another. Most are of one byte.
+// Whether the bytes are sequences of the table, one after another. Most are of one byte, and many of the others of three.
 pub fn is_utf8(bytes: &[u8]) -> bool
     ensures { λ r. ⌜ r ≡ isUtf8 (now (bytes .entry)) ⌝ }
 {
@@ -83,6 +83,8 @@ pub fn is_utf8(bytes: &[u8]) -> bool
         let first = bytes[i];
         if first < 0x80 {
             i += 1;
+        } else if is_three(bytes, i) {
+            i += 3;
         } else {
             let due = due_after(first);
             match due {
@@ -98,6 +100,23 @@ pub fn is_utf8(bytes: &[u8]) -> bool
         }
     }
     true
+}
+
+// Whether the row of the table of most letters of three bytes stands at an offset. It is tried at once, and without leaving early,
+// so that the compiler needs few branches.
+fn is_three(bytes: &[u8], at: usize) -> bool
+    requires { ⌜ at ≤ length (now bytes) ⌝ }
+    ensures { λ r. ⌜ r ≡ begins (0xE1 to 0xEC ∷ trailing ∷ trailing ∷ []) (drop at (now (bytes .entry))) ⌝ }
+{
+    if bytes.len() - at < 3 {
+        return false;
+    }
+    (0xE1 <= bytes[at])
+        & (bytes[at] <= 0xEC)
+        & (0x80 <= bytes[at + 1])
+        & (bytes[at + 1] <= 0xBF)
+        & (0x80 <= bytes[at + 2])
+        & (bytes[at + 2] <= 0xBF)
 }
 
 // The row of the table that begins with a byte above 7F.

@@ -1,10 +1,9 @@
 -- `tag::long_tag` mixes eight bytes a turn: each lane is as after so many steps as turns were made.
 use borrow.Author.Needs.{needs}
-use mathlib.Core.Path.{_≡_, refl, sym, ap, _∙_}
+use mathlib.Core.Path.{_≡_, refl, _∙_}
 use Prim.Native.Nat.{ℕ, suc, _+_, _*_, _-_, _/_, _%_, _≤_, _<_}
 use native.Mathlib.Omega.{arith}
 use mathlib.Core.List.{List}
-use lib.ListN.{length}
 use Rattle.text.specs.Name.{tagLimit, fourOf, mixedOf, laneOf, longTag}
 use Rattle.text.proofs.tag.long_tag.Statement.{statement}
 use Rattle.text.proofs.tag.long_tag.Tie as tie

@@ -1,7 +1,7 @@
 -- `utf8::are_ascii` looks at one byte after another: before each turn it tells of as many as turns were made.
 use borrow.Author.Needs.{needs}
 use mathlib.Core.Path.{_≡_}
-use Prim.Native.Nat.{ℕ, _-_, _≤_}
+use Prim.Native.Nat.{_-_, _≤_}
 use Rattle.text.specs.Block.{anyFrom, isHigh}
 use Rattle.text.proofs.Blocks.{none, more, all}
 use Rattle.text.proofs.utf8.are_ascii.Statement.{statement}
