@@ -21,6 +21,12 @@ module _ (test : ℕ → Bool) (at : ℕ) where
   pub all : (i count : ℕ) (some : Bool) → some ≡ anyFrom test at i → i ≤ count → count ≤ i → not some ≡ not (anyFrom test at count)
   all i count some e a b = let q : i ≡ count = omega arith in rw q at (ap not e)
 
+  -- a test that fails everywhere
+  pub no-index : (count : ℕ) → ((k : ℕ) → test k ≡ false) → anyFrom test at count ≡ false
+  unfolding anyFrom
+  no-index zero f = refl
+  no-index (suc count) f = rw (no-index count f, f (at + count))
+
   module _ (P : ℕ → Type 0) where
     past : (i count : ℕ) → ((k : ℕ) → k < at + count → test k ≡ false → P k → P (k + 1)) → anyFrom test at count ≡ false →
         at ≤ i → i ≤ at + count → P i → P (at + count)

@@ -1,8 +1,8 @@
 -- Blocks: many bytes that are all looked at, without leaving early, which the compiler does several at a time.
 use Prim.Native.Nat.{ℕ, zero, suc, _+_}
-use mathlib.Core.Bool.{Bool, false, _||_}
+use mathlib.Core.Bool.{Bool, false, not, _||_}
 use mathlib.Core.List.{List}
-use lib.Dec.{leb}
+use lib.Dec.{leb, eqb}
 use lib.ListN.{getD}
 
 -- one of so many indices, from one on, passes a test
@@ -13,3 +13,7 @@ anyFrom test at (suc count) = anyFrom test at count || test (at + count)
 -- the byte there is not below 80
 abbrev pub isHigh : List ℕ → ℕ → Bool
 isHigh bytes i = leb 0x80 (getD bytes i 0)
+
+-- the bytes of two slices differ there
+abbrev pub differ : List ℕ → List ℕ → ℕ → Bool
+differ a b i = not (eqb (getD a i 0) (getD b i 0))
