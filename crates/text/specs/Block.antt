@@ -14,6 +14,10 @@ anyFrom test at (suc count) = anyFrom test at count || test (at + count)
 abbrev pub isHigh : List ℕ → ℕ → Bool
 isHigh bytes i = leb 0x80 (getD bytes i 0)
 
+-- it is that one
+abbrev pub isByte : ℕ → List ℕ → ℕ → Bool
+isByte byte bytes i = eqb (getD bytes i 0) byte
+
 -- the bytes of two slices differ there
 abbrev pub differ : List ℕ → List ℕ → ℕ → Bool
 differ a b i = not (eqb (getD a i 0) (getD b i 0))
