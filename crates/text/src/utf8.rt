@@ -29,21 +29,6 @@ fn are_ascii(bytes: &[u8], at: usize, count: usize) -> bool
     !high
 }
 
-// The same of up to seven bytes: all, or none. The last four may have some of the first four among them.
-fn past_few(bytes: &[u8]) -> usize
-    requires { ⌜ length (now bytes) < 8 ⌝ }
-    ensures { λ r. ⌜ (r ≤ length (now (bytes .entry))) × (isUtf8 (drop r (now (bytes .entry))) ≡ isUtf8 (now (bytes .entry))) ⌝ }
-{
-    let n = bytes.len();
-    if n < 4 {
-        return 0;
-    }
-    if are_ascii(bytes, 0, 4) & are_ascii(bytes, n - 4, 4) {
-        return n;
-    }
-    0
-}
-
 // An index before which all bytes are sequences of one byte. How far it goes is its own choice: by blocks, which is quick. The
 // last eight bytes are looked at together, though some of them were passed.
 fn past_ascii(bytes: &[u8]) -> usize
@@ -72,6 +57,21 @@ fn past_ascii(bytes: &[u8]) -> usize
         return n;
     }
     i
+}
+
+// The same of up to seven bytes: all, or none. The last four may have some of the first four among them.
+fn past_few(bytes: &[u8]) -> usize
+    requires { ⌜ length (now bytes) < 8 ⌝ }
+    ensures { λ r. ⌜ (r ≤ length (now (bytes .entry))) × (isUtf8 (drop r (now (bytes .entry))) ≡ isUtf8 (now (bytes .entry))) ⌝ }
+{
+    let n = bytes.len();
+    if n < 4 {
+        return 0;
+    }
+    if are_ascii(bytes, 0, 4) & are_ascii(bytes, n - 4, 4) {
+        return n;
+    }
+    0
 }
 
 // Whether the bytes are sequences of the table, one after another. Most are of one byte, and many of the others of three.
