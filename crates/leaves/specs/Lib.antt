@@ -1,3 +1,4 @@
 pub mod Marks
 pub mod Leaves
+pub mod Quick
 pub mod laws

@@ -4,9 +4,11 @@ ghost use Prim.Native.Nat.{_<_};
 ghost use Rattle.words.specs.Word.{word, IsTable, IsRow};
 ghost use Rattle.leaves.specs.Leaves.{Out, stored, observedAt, isKnown};
 ghost use Rattle.leaves.specs.Marks.{Chain, isMark, marked, pastMarks};
+ghost use Rattle.leaves.specs.Quick.{sameAt, quickAt};
 use kinds::Met;
 use options::TracingOptions;
 use refusal::Refusal;
+use shapes::Leaf;
 
 // Where in the table a value is traced: its place, how many places there are, and how many levels are left for containers.
 pub struct Site {
@@ -107,4 +109,49 @@ pub fn observe(
         }
         Met::Refused(refusal) => Traced::Refused(refusal, here),
     }
+}
+
+// Whether a value of one byte stands at an offset, of the type that is at a place.
+fn is_same(commands: &[u8], at: usize, place: usize, table: &[u32]) -> bool
+    requires { ⌜ IsRow place × IsTable (now table) ⌝ }
+    ensures { λ r. ⌜ r ≡ sameAt (now (commands .entry)) at place (now (table .entry)) ⌝ }
+{
+    if commands.len() <= at {
+        return false;
+    }
+    let kind = words::get(table, place, places::KIND);
+    if commands::read_byte(commands, at) as u32 != kind {
+        return false;
+    }
+    shapes::is_own_byte(kind)
+}
+
+// The offset behind a primitive that is null or of the type that is there, or 0. Most values are: what stands before them and how
+// kinds meet need not be asked, and types of one byte are told without asking what command it is.
+pub fn past_quick(
+    commands: &[u8],
+    text: &[u8],
+    options: TracingOptions,
+    at: usize,
+    place: usize,
+    table: &mut [u32],
+) -> usize
+    requires { ⌜ IsRow place × IsTable (now table) ⌝ }
+    ensures { λ r. ⌜ Chain.chain r (now (table .exit)) ≡
+        quickAt (options .word) (now (commands .entry)) (now (text .entry)) at place (now (table .entry)) ⌝ }
+{
+    if is_same(commands, at, place, table) {
+        return at + 1;
+    }
+    let Leaf::Value(null, kind, next) = shapes::leaf_at(commands, text, options, at) else {
+        return 0;
+    };
+    if null {
+        words::set(table, place, places::NULL, 1);
+        return next;
+    }
+    if words::get(table, place, places::KIND) == kind {
+        return next;
+    }
+    0
 }

@@ -1,9 +1,10 @@
 -- The value at an offset, where it is a primitive.
+use mathlib.Core.Bool.{Bool, not, _&&_}
 use mathlib.Core.List.{List}
 use Prim.Native.Nat.{ℕ}
-use lib.Dec.{eqb}
+use lib.Dec.{eqb, ltb}
 use Rattle.logic.specs.Test.{if_then_else_}
-use Rattle.datatype.specs.Codes.{uint32}
+use Rattle.datatype.specs.Codes.{null, uint32}
 use Rattle.commands.specs.declared.Read.{Read}
 use Rattle.commands.specs.declared.Read.the-variants as R
 use Rattle.commands.specs.declared.Due.the-variants as D
@@ -20,6 +21,10 @@ charByte = 0x0C
 
 unfoldable pub plainKind : ℕ → ℕ
 plainKind byte = if eqb byte charByte then uint32 else byte
+
+-- a type whose code is its command's byte, and not Null
+unfoldable pub isOwnByte : ℕ → Bool
+isOwnByte kind = not (eqb kind null) && ltb kind charByte
 
 -- a shape as a leaf
 abbrev pub leafBy : ℕ → Shape → Leaf

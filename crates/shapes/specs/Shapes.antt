@@ -86,6 +86,9 @@ partAt commands text kind positions i at =
 
 -- ---- what the first bytes tell of a part, before its command is read
 -- a value with no operands: of the commands up to struct, text and tuple have some
+abbrev pub sequenceByte : ℕ
+sequenceByte = 0x12
+
 abbrev pub tupleByte : ℕ
 tupleByte = 0x13
 
@@ -113,6 +116,10 @@ namedAt commands text byte at = leb (at + 5) (length commands) && eqb (getD comm
 -- a command with that byte begins there
 unfoldable pub beginsAt : List ℕ → ℕ → ℕ → Bool
 beginsAt commands byte at = ltb at (length commands) && eqb (getD commands at 0) byte
+
+-- a sequence does
+abbrev pub sequenceAt : List ℕ → ℕ → Bool
+sequenceAt commands at = beginsAt commands sequenceByte at
 
 -- a struct does
 abbrev pub structAt : List ℕ → ℕ → Bool

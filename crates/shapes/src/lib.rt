@@ -9,8 +9,8 @@ ghost use Rattle.commands.specs.declared.Command.the-variants.{Text};
 ghost use Rattle.commands.specs.Commands.{readCommand, textByte};
 ghost use Rattle.model.specs.Kinds.{mapKind};
 ghost use Rattle.shapes.specs.Steps.{codeOf, nameOf, packedName, unpackedName, Inside};
-ghost use Rattle.shapes.specs.Shapes.{mapKindOf, shapeAt, valuePart, partAt, plainByte, plainAt, takesValue, beginsAt, structAt, namedAt};
-ghost use Rattle.shapes.specs.Leaf.{plainKind, leafAt};
+ghost use Rattle.shapes.specs.Shapes.{mapKindOf, shapeAt, valuePart, partAt, plainByte, plainAt, takesValue, beginsAt, sequenceAt, structAt, namedAt};
+ghost use Rattle.shapes.specs.Leaf.{plainKind, isOwnByte, leafAt};
 ghost use Rattle.shapes.specs.Field.{openerOf, dueOf, fieldAt};
 ghost use mathlib.Core.Bool.{true};
 use chrono::text_type;
@@ -157,6 +157,8 @@ const BYTES: u8 = 0x0E;
 
 const NONE: u8 = 0x0F;
 
+const SEQUENCE_BYTE: u8 = 0x12;
+
 const TUPLE_BYTE: u8 = 0x13;
 
 const STRUCT_BYTE: u8 = 0x15;
@@ -176,12 +178,23 @@ fn map_kind(options: TracingOptions) -> u32
     }
 }
 
-// The type that a text observes.
-fn text_kind(name: Name, text: &[u8], options: TracingOptions) -> u32
+// The type that a text observes, tried as a date where dates are guessed.
+fn tried_kind(name: Name, text: &[u8], options: TracingOptions) -> u32
     requires { ⌜ Inside (now text) name ⌝ }
     ensures { λ r. ⌜ r ≡ textType (options .word) (bytesOf (now (text .entry)) name) ⌝ }
 {
     text_type(name.bytes(text), options).code() as u32
+}
+
+// The type that a text observes. It stands apart from `tried_kind` so that where dates are not guessed the compiler makes no call.
+fn text_kind(name: Name, text: &[u8], options: TracingOptions) -> u32
+    requires { ⌜ Inside (now text) name ⌝ }
+    ensures { λ r. ⌜ r ≡ textType (options .word) (bytesOf (now (text .entry)) name) ⌝ }
+{
+    if options.guess_dates() {
+        return tried_kind(name, text, options);
+    }
+    options.string_type().code() as u32
 }
 
 // What a command begins.
@@ -274,6 +287,13 @@ fn begins_at(commands: &[u8], byte: u8, at: usize) -> bool
     commands::read_byte(commands, at) == byte
 }
 
+// Whether a sequence does.
+pub fn is_sequence_at(commands: &[u8], at: usize) -> bool
+    ensures { λ r. ⌜ r ≡ sequenceAt (now (commands .entry)) at ⌝ }
+{
+    begins_at(commands, SEQUENCE_BYTE, at)
+}
+
 // Whether a struct does.
 pub fn is_struct_at(commands: &[u8], at: usize) -> bool
     ensures { λ r. ⌜ r ≡ structAt (now (commands .entry)) at ⌝ }
@@ -286,6 +306,16 @@ fn plain_kind(byte: u8) -> u32
     ensures { λ r. ⌜ r ≡ plainKind byte ⌝ }
 {
     if byte == CHAR { 8 } else { byte as u32 }
+}
+
+// Types below this code have the byte of their command as it. 0C is a char, which is a UInt32.
+const OWN_BYTES: u32 = 12;
+
+// Whether a type is not Null, and its code its command's byte.
+pub fn is_own_byte(kind: u32) -> bool
+    ensures { λ r. ⌜ r ≡ isOwnByte kind ⌝ }
+{
+    kind != UNKNOWN && kind < OWN_BYTES
 }
 
 // A text that is a value.

@@ -22,8 +22,8 @@ use Rattle.shapes.specs.declared.Leaf.{Leaf}
 use Rattle.shapes.specs.declared.Leaf.the-variants as O
 use Rattle.shapes.specs.Shapes.{shapeAt, plainByte}
 use Rattle.shapes.specs.Leaf.{plainKind, leafBy, leafRead, leafAt}
-use Rattle.shapes.specs.laws.Leaf.{plain-shape}
-use Rattle.shapes.specs.laws.Bytes.{bare-read, before-text}
+use Rattle.shapes.specs.laws.Leaf.{past-none, plain-leaf}
+use Rattle.shapes.specs.laws.Bytes.{bare-read}
 use Rattle.shapes.proofs.leaf_at.Statement.{statement}
 use Rattle.shapes.proofs.leaf_at.Tie as tie
 
@@ -31,52 +31,16 @@ ended : (options : ℕ) (commands text : List ℕ) (at : ℕ) → length command
 unfolding leafAt readCommand badCommand if_then_else_
 ended options commands text at h = rw (le-leb _ _ h)
 
--- a command past none (0F) begins no leaf
-past : (options : ℕ) (text : List ℕ) (command : Command) (behind : ℕ) → 15 < byteOf command → O.Other ≡ leafBy behind (shapeAt options text command)
-unfolding shapeAt
-past options text C.Unit behind h = absurd (omega arith)
-past options text C.Bool behind h = absurd (omega arith)
-past options text C.I8 behind h = absurd (omega arith)
-past options text C.I16 behind h = absurd (omega arith)
-past options text C.I32 behind h = absurd (omega arith)
-past options text C.I64 behind h = absurd (omega arith)
-past options text C.U8 behind h = absurd (omega arith)
-past options text C.U16 behind h = absurd (omega arith)
-past options text C.U32 behind h = absurd (omega arith)
-past options text C.U64 behind h = absurd (omega arith)
-past options text C.F32 behind h = absurd (omega arith)
-past options text C.F64 behind h = absurd (omega arith)
-past options text C.Char behind h = absurd (omega arith)
-past options text (C.Text name) behind h = absurd (omega arith)
-past options text C.Bytes behind h = absurd (omega arith)
-past options text C.None behind h = absurd (omega arith)
-past options text C.Some behind h = refl
-past options text C.NewtypeStruct behind h = refl
-past options text C.Sequence behind h = refl
-past options text (C.Tuple n) behind h = refl
-past options text C.Map behind h = refl
-past options text C.Struct behind h = refl
-past options text (C.Field name) behind h = refl
-past options text C.End behind h = refl
-past options text (C.UnitVariant k name) behind h = refl
-past options text (C.NewtypeVariant k name) behind h = refl
-past options text (C.TupleVariant k name n) behind h = refl
-past options text (C.StructVariant k name) behind h = refl
-
 module _ (options : ℕ) (commands text : List ℕ) (at byte : ℕ) (there : at < length commands) (is : byte ≡ getD commands at 0) where
   by-read : (answer : Read) → readCommand commands text at D.Value ≡ answer → 15 < byte → O.Other ≡ leafRead options text answer
   by-read (R.Command command next) e h =
       let b : byteOf command ≡ getD commands at 0 = good commands text at D.Value command next e .byte in
-      past options text command next (omega arith)
+      past-none options text command next (omega arith)
   by-read (R.Refused refusal place) e h = refl
 
   none-follows : textByte ≤ byte → (byte ≡ 0x0D → ⊥) → (byte ≡ 0x0E → ⊥) → (byte ≡ 0x0F → ⊥) → O.Other ≡ leafAt options commands text at
   unfolding leafAt
   none-follows h a b c = by-read (readCommand commands text at D.Value) refl (omega arith)
-
-  plain-there : (kind : ℕ) → byte < textByte → kind ≡ plainKind byte → O.Value (eqb byte 0) kind (at + 1) ≡ leafAt options commands text at
-  unfolding leafAt
-  plain-there kind h k = rw (bare-read commands text at byte D.Value (sym is) there (before-text byte h) refl, plain-shape text commands (at + 1) options byte h, k)
 
   -- a command with no operands
   alone : (which : ℕ) (command : Command) (leaf : Leaf) → byte ≡ which → formOf which ≡ plain command → plainByte which ≡ true →
@@ -100,7 +64,7 @@ leaf-at-spec =
     (λ c κs. search needs)
     (λ c κs. search needs)
     (λ c. search needs)
-    (λ c. search (plain-there, needs))
+    (λ c. search (plain-leaf, needs))
     (λ c κs. search needs)
     (λ c. search needs)
     (λ c κs. search needs)

@@ -23,7 +23,7 @@ use Rattle.commands.specs.declared.Read.the-variants as R
 use Rattle.commands.specs.Commands.{Form, plain, counted, variant, countedVariant, textByte, fieldByte, nameAt, named, forms, formOf, operands, width, made, nameIn, stands, badName, badKey, endByte, readCommand}
 use Rattle.commands.specs.laws.Commands.{nameOf, Good, good, name-inside, read-made, read-misnamed}
 use Rattle.shapes.specs.Steps.{Inside}
-use Rattle.shapes.specs.Shapes.{tupleByte, structByte, plainByte, takesValue, beginsAt, structAt, namedAt}
+use Rattle.shapes.specs.Shapes.{tupleByte, sequenceByte, structByte, plainByte, takesValue, beginsAt, sequenceAt, structAt, namedAt}
 
 -- ---- a value with no operands
 isBare : Form → Bool
@@ -87,12 +87,20 @@ begun commands byte at flag f e k =
     both (ltb at (length commands)) (eqb (getD commands at 0) byte) (sym f ∙ e) λ l b.
     k (ltb-true at (length commands) l) (eqb-true (getD commands at 0) byte b)
 
-pub struct-read : (commands text : List ℕ) (at : ℕ) → structAt commands at ≡ true → readCommand commands text at D.Value ≡ R.Command C.Struct (at + 1)
-unfolding formOf made plainByte
-struct-read commands text at e = begun commands structByte at _ refl e λ there is. bare-read commands text at structByte D.Value is there refl refl
+module _ (commands text : List ℕ) (at : ℕ) where
+  begins-read : (byte : ℕ) → beginsAt commands byte at ≡ true → plainByte byte ≡ true → readCommand commands text at D.Value ≡ R.Command (made (formOf byte) commands (at + 1)) (at + 1)
+  begins-read byte e bare = begun commands byte at _ refl e λ there is. bare-read commands text at byte D.Value is there bare refl
 
-pub struct-inside : (commands : List ℕ) (at : ℕ) (flag : Bool) → flag ≡ structAt commands at → flag ≡ true → at < length commands
-struct-inside commands at flag f e = begun commands structByte at flag f e λ there is. there
+  pub sequence-read : sequenceAt commands at ≡ true → readCommand commands text at D.Value ≡ R.Command C.Sequence (at + 1)
+  unfolding formOf made plainByte
+  sequence-read e = begins-read sequenceByte e refl
+
+  pub struct-read : structAt commands at ≡ true → readCommand commands text at D.Value ≡ R.Command C.Struct (at + 1)
+  unfolding formOf made plainByte
+  struct-read e = begins-read structByte e refl
+
+pub begins-inside : (commands : List ℕ) (byte at : ℕ) (flag : Bool) → flag ≡ beginsAt commands byte at → flag ≡ true → at < length commands
+begins-inside commands byte at flag f e = begun commands byte at flag f e λ there is. there
 
 pub end-read : (commands text : List ℕ) (at : ℕ) (due : Due) (flag : Bool) → stands due endByte ≡ true → badKey due endByte ≡ false →
     flag ≡ beginsAt commands endByte at → flag ≡ true → readCommand commands text at due ≡ R.Command C.End (at + 1)

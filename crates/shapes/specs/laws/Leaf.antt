@@ -1,27 +1,32 @@
 -- Laws of a primitive at an offset: what is known of one, and the values before text.
-use mathlib.Core.Path.{_≡_, refl, sym, _∙_}
-use mathlib.Core.Bool.{Bool}
+use mathlib.Core.Path.{_≡_, refl, sym, ap, _∙_}
+use mathlib.Core.Bool.{Bool, true, false, not}
 use mathlib.Core.List.{List}
 use Prim.{tt}
-use Prim.Native.Nat.{ℕ, zero, suc, _<_}
+use Prim.Native.Nat.{ℕ, zero, suc, _+_, _<_, _≤_}
 use native.Mathlib.Omega.{arith}
-use borrow.Author.Tests.{eqb-true, eqb-false}
-use lib.Dec.{eqb}
+use borrow.Author.Tests.{eqb-true, eqb-false, ne-eqb, ltb-true, ltb-false, not-true}
+use lib.Dec.{eqb, ltb}
+use lib.ListN.{length, getD}
 use Rattle.logic.specs.Test.{if_then_else_}
-use Rattle.logic.specs.laws.Test.{cases}
+use Rattle.logic.specs.laws.Test.{cases, both}
+use Rattle.datatype.specs.Codes.{null}
 use Rattle.commands.specs.declared.Command.{Command}
+use Rattle.commands.specs.declared.Command.the-variants as C
 use Rattle.commands.specs.declared.Read.{Read}
 use Rattle.commands.specs.declared.Read.the-variants as R
 use Rattle.commands.specs.declared.Due.the-variants as D
 use Rattle.commands.specs.Commands.{formOf, made, textByte, readCommand}
+use Rattle.commands.specs.laws.Commands.{byteOf, good, next-above, next-within}
 use Rattle.model.specs.Kinds.{sequenceKind}
 use Rattle.shapes.specs.declared.Shape.{Shape}
 use Rattle.shapes.specs.declared.Shape.the-variants as H
 use Rattle.shapes.specs.declared.Leaf.{Leaf}
 use Rattle.shapes.specs.declared.Leaf.the-variants as O
 use Rattle.shapes.specs.Shapes.{shapeAt}
-use Rattle.shapes.specs.laws.Shapes.{leaf-below}
-use Rattle.shapes.specs.Leaf.{leafAt, leafBy, leafRead, plainKind}
+use Rattle.shapes.specs.laws.Shapes.{leaf-below, null-untyped}
+use Rattle.shapes.specs.laws.Bytes.{bare-read, before-text}
+use Rattle.shapes.specs.Leaf.{charByte, isOwnByte, leafAt, leafBy, leafRead, plainKind}
 
 -- ---- what is known of a leaf
 pub record LeafThere (options : ℕ) (commands text : List ℕ) (at : ℕ) (isNull : Bool) (kind behind : ℕ) : Type 0 where
@@ -55,6 +60,56 @@ module _ (options : ℕ) (commands text : List ℕ) (at : ℕ) (leaf : Leaf) (e 
   unfolding leafAt
   leaf-there = by-read options commands text at isNull kind behind (readCommand commands text at D.Value) refl (sym e ∙ h)
 
+-- ---- where a leaf stands
+-- a command past none (0F) begins no leaf
+pub past-none : (options : ℕ) (text : List ℕ) (command : Command) (behind : ℕ) → 15 < byteOf command → O.Other ≡ leafBy behind (shapeAt options text command)
+unfolding shapeAt
+past-none options text C.Unit behind h = absurd (omega arith)
+past-none options text C.Bool behind h = absurd (omega arith)
+past-none options text C.I8 behind h = absurd (omega arith)
+past-none options text C.I16 behind h = absurd (omega arith)
+past-none options text C.I32 behind h = absurd (omega arith)
+past-none options text C.I64 behind h = absurd (omega arith)
+past-none options text C.U8 behind h = absurd (omega arith)
+past-none options text C.U16 behind h = absurd (omega arith)
+past-none options text C.U32 behind h = absurd (omega arith)
+past-none options text C.U64 behind h = absurd (omega arith)
+past-none options text C.F32 behind h = absurd (omega arith)
+past-none options text C.F64 behind h = absurd (omega arith)
+past-none options text C.Char behind h = absurd (omega arith)
+past-none options text (C.Text name) behind h = absurd (omega arith)
+past-none options text C.Bytes behind h = absurd (omega arith)
+past-none options text C.None behind h = absurd (omega arith)
+past-none options text C.Some behind h = refl
+past-none options text C.NewtypeStruct behind h = refl
+past-none options text C.Sequence behind h = refl
+past-none options text (C.Tuple n) behind h = refl
+past-none options text C.Map behind h = refl
+past-none options text C.Struct behind h = refl
+past-none options text (C.Field name) behind h = refl
+past-none options text C.End behind h = refl
+past-none options text (C.UnitVariant k name) behind h = refl
+past-none options text (C.NewtypeVariant k name) behind h = refl
+past-none options text (C.TupleVariant k name n) behind h = refl
+past-none options text (C.StructVariant k name) behind h = refl
+
+module _ (options : ℕ) (commands text : List ℕ) (at kind behind : ℕ) where
+  pub leaf-inside : (isNull : Bool) → LeafThere options commands text at isNull kind behind → at < length commands
+  leaf-inside isNull leaf =
+      let above : at < behind = next-above commands text at D.Value _ (leaf .command) behind refl (leaf .read) in
+      let within : behind ≤ length commands = next-within commands text at D.Value _ (leaf .command) behind refl (leaf .read) in
+      omega arith
+
+  pub leaf-byte : (isNull : Bool) → LeafThere options commands text at isNull kind behind → getD commands at 0 < 16
+  leaf-byte isNull leaf =
+      let is : byteOf (leaf .command) ≡ getD commands at 0 = good commands text at D.Value (leaf .command) behind (leaf .read) .byte in
+      cases (ltb 15 (byteOf (leaf .command)))
+      (λ e. absurd (other isNull kind behind (past-none options text (leaf .command) behind (ltb-true 15 (byteOf (leaf .command)) e) ∙ ap (leafBy behind) (leaf .shape))))
+      (λ e. let h : byteOf (leaf .command) ≤ 15 = ltb-false 15 (byteOf (leaf .command)) e in omega arith)
+
+  pub leaf-untyped : LeafThere options commands text at true kind behind → kind ≡ null
+  leaf-untyped leaf = null-untyped options text (leaf .command) _ refl kind (leaf .shape)
+
 -- ---- the values before text are leaves, by going through them
 module _ (text commands : List ℕ) (at : ℕ) where
   module _ (options : ℕ) where
@@ -73,3 +128,24 @@ module _ (text commands : List ℕ) (at : ℕ) where
     pub plain-shape : (byte : ℕ) → byte < textByte → shapeAt options text (made (formOf byte) commands at) ≡ H.Leaf (eqb byte 0) (plainKind byte)
     unfolding AreLeaves IsLeaf shapeAt made formOf plainKind if_then_else_
     plain-shape byte h = leaf-among textByte (refl, (refl, (refl, (refl, (refl, (refl, (refl, (refl, (refl, (refl, (refl, (refl, (refl, tt))))))))))))) byte h
+
+pub plain-leaf : (options : ℕ) (commands text : List ℕ) (at byte : ℕ) → at < length commands → byte ≡ getD commands at 0 → (kind : ℕ) → byte < textByte → kind ≡ plainKind byte →
+    O.Value (eqb byte 0) kind (at + 1) ≡ leafAt options commands text at
+unfolding leafAt
+plain-leaf options commands text at byte there is kind h k =
+    rw (bare-read commands text at byte D.Value (sym is) there (before-text byte h) refl, plain-shape text commands (at + 1) options byte h, k)
+
+-- ---- types whose code is their command's byte
+pub own-known : (kind : ℕ) → isOwnByte kind ≡ true → (kind ≡ null → ⊥) × (kind < charByte)
+unfolding isOwnByte
+own-known kind own = both (not (eqb kind null)) (ltb kind charByte) own λ p q. (eqb-false kind null (not-true (eqb kind null) p), ltb-true kind charByte q)
+
+pub own-leaf : (options : ℕ) (commands text : List ℕ) (at : ℕ) → at < length commands → isOwnByte (getD commands at 0) ≡ true →
+    O.Value false (getD commands at 0) (at + 1) ≡ leafAt options commands text at
+unfolding plainKind if_then_else_
+own-leaf options commands text at there own =
+    let byte = getD commands at 0 in
+    let known = own-known byte own in
+    let small : byte < charByte = known .1 in
+    rw (ne-eqb byte 0 (known .0)) at
+    (plain-leaf options commands text at byte there refl byte (omega arith) (rw (ne-eqb byte charByte (λ e. omega arith)) refl))

@@ -1,7 +1,7 @@
 -- What is known of a part and of a shape that was read.
 use Prim.{Unit, tt}
 use mathlib.Core.Path.{_≡_, refl, sym, _∙_}
-use mathlib.Core.Bool.{Bool, true, false, _&&_}
+use mathlib.Core.Bool.{Bool, true, false, false≢true, _&&_}
 use mathlib.Core.List.{List}
 use mathlib.Core.Option.{some}
 use Prim.Native.Nat.{ℕ, _+_, _%_, _<_, _≤_}
@@ -10,6 +10,7 @@ use native.Mathlib.Omega.{arith}
 use lib.Dec.{eqb, ltb}
 use lib.ListN.{length, getD}
 use Rattle.logic.specs.Test.{if_then_else_}
+use Rattle.datatype.specs.Codes.{null}
 use Rattle.options.specs.Word.{mapAsStruct, stringType, bytesAsLargeBinary, stringAsLargeUtf8, guessDates}
 use Rattle.text.specs.declared.Name.{Name}
 use Rattle.text.specs.Utf8.{reads}
@@ -125,31 +126,31 @@ text-below options s =
     (λ e. if-has P _ (λ e. omega arith) (λ e. if-has P _ (λ e. omega arith) (λ e. if-has P _ (λ e. omega arith) (λ e. if-has P _ (λ e. omega arith) (λ e. string)))))
     (λ e. string)
 
--- what is known of the shape of a command: a leaf is of a primitive type, parts are those of a container, and a variant has the command's name
+-- what is known of the shape of a command: a leaf is of a primitive type, a null of none, parts are those of a container, and a variant has the command's name
 abbrev pub KnownShape : Command → Shape → Type 0
-KnownShape command (H.Leaf isNull type) = type < sequenceKind
+KnownShape command (H.Leaf isNull type) = (type < sequenceKind) × (isNull ≡ true → type ≡ null)
 KnownShape command (H.Parts kind n) = isParted kind ≡ true
 KnownShape command (H.Variant number name contents) = L.nameOf command ≡ some name
 KnownShape command H.NoValue = Unit {0}
 
 pub shape-known : (options : ℕ) (text : List ℕ) (command : Command) → KnownShape command (shapeAt options text command)
 unfolding shapeAt isParted
-shape-known options text C.Unit = omega arith
-shape-known options text C.Bool = omega arith
-shape-known options text C.I8 = omega arith
-shape-known options text C.I16 = omega arith
-shape-known options text C.I32 = omega arith
-shape-known options text C.I64 = omega arith
-shape-known options text C.U8 = omega arith
-shape-known options text C.U16 = omega arith
-shape-known options text C.U32 = omega arith
-shape-known options text C.U64 = omega arith
-shape-known options text C.F32 = omega arith
-shape-known options text C.F64 = omega arith
-shape-known options text C.Char = omega arith
-shape-known options text (C.Text name) = text-below options _
-shape-known options text C.Bytes = if-has (λ (type : ℕ). type < sequenceKind) (bytesAsLargeBinary options) (λ e. omega arith) (λ e. omega arith)
-shape-known options text C.None = omega arith
+shape-known options text C.Unit = (omega arith, λ e. refl)
+shape-known options text C.Bool = (omega arith, λ e. absurd (false≢true e))
+shape-known options text C.I8 = (omega arith, λ e. absurd (false≢true e))
+shape-known options text C.I16 = (omega arith, λ e. absurd (false≢true e))
+shape-known options text C.I32 = (omega arith, λ e. absurd (false≢true e))
+shape-known options text C.I64 = (omega arith, λ e. absurd (false≢true e))
+shape-known options text C.U8 = (omega arith, λ e. absurd (false≢true e))
+shape-known options text C.U16 = (omega arith, λ e. absurd (false≢true e))
+shape-known options text C.U32 = (omega arith, λ e. absurd (false≢true e))
+shape-known options text C.U64 = (omega arith, λ e. absurd (false≢true e))
+shape-known options text C.F32 = (omega arith, λ e. absurd (false≢true e))
+shape-known options text C.F64 = (omega arith, λ e. absurd (false≢true e))
+shape-known options text C.Char = (omega arith, λ e. absurd (false≢true e))
+shape-known options text (C.Text name) = (text-below options _, λ e. absurd (false≢true e))
+shape-known options text C.Bytes = (if-has (λ (type : ℕ). type < sequenceKind) (bytesAsLargeBinary options) (λ e. omega arith) (λ e. omega arith), λ e. absurd (false≢true e))
+shape-known options text C.None = (omega arith, λ e. refl)
 shape-known options text C.Some = tt
 shape-known options text C.NewtypeStruct = tt
 shape-known options text C.Sequence = refl
@@ -175,7 +176,10 @@ module _ (commands text : List ℕ) (at : ℕ) (due : Due) (answer : Read) (comm
 
 module _ (options : ℕ) (text : List ℕ) (command : Command) (shape : Shape) (e : shape ≡ shapeAt options text command) where
   pub leaf-below : (isNull : Bool) (type : ℕ) → shape ≡ H.Leaf isNull type → type < sequenceKind
-  leaf-below isNull type h = rw (sym e ∙ h) at (shape-known options text command)
+  leaf-below isNull type h = (rw (sym e ∙ h) at (shape-known options text command)) .0
+
+  pub null-untyped : (type : ℕ) → shape ≡ H.Leaf true type → type ≡ null
+  null-untyped type h = (rw (sym e ∙ h) at (shape-known options text command)) .1 refl
 
   pub parts-parted : (kind n : ℕ) → shape ≡ H.Parts kind n → isParted kind ≡ true
   parts-parted kind n h = rw (sym e ∙ h) at (shape-known options text command)
