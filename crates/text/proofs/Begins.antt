@@ -1,10 +1,12 @@
 -- Whether the bytes at an index begin with what is due: the bytes end there, the first is out of its range, or it is in it.
 use mathlib.Core.Path.{_≡_}
+use native.Mathlib.Omega.{arith}
 use Prim.Native.Nat.{ℕ, _+_, _≤_, _<_}
-use mathlib.Core.Bool.{Bool, false}
-use mathlib.Core.List.{List, _∷_}
+use mathlib.Core.Bool.{Bool, true, false, false≢true}
+use mathlib.Core.List.{List, [], _∷_}
 use lib.ListN.{length, getD, drop, drop-of-length-le}
-use Rattle.text.specs.Utf8.{Range, _to_}
+use Rattle.logic.specs.laws.Test.{both}
+use Rattle.text.specs.Utf8.{Range, _to_, within}
 use Rattle.text.specs.laws.Utf8.{within-true, within-below, within-above}
 use Rattle.text.specs.Due.{begins}
 use Rattle.text.proofs.Steps.{drop-at}
@@ -26,3 +28,11 @@ module _ (bytes : List ℕ) (i low high : ℕ) (due : List Range) where
       r ≡ begins due (drop (i + 1) bytes) → r ≡ begins (low to high ∷ due) (drop i bytes)
   unfolding begins
   stepped r h p q e = rw (drop-at bytes i h, within-true low high (getD bytes i 0) p q) e
+
+-- what begins with what is due has as many bytes
+pub begins-length : (due : List Range) (bytes : List ℕ) → begins due bytes ≡ true → length due ≤ length bytes
+unfolding begins
+begins-length [] bytes e = omega arith
+begins-length (range ∷ due) [] e = absurd (false≢true e)
+begins-length (range ∷ due) (b ∷ bytes) e =
+    both (within range b) (begins due bytes) e λ p q. let h : length due ≤ length bytes = begins-length due bytes q in omega arith

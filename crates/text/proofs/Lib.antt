@@ -1,3 +1,5 @@
 pub mod Steps
+pub mod Blocks
+pub mod Compared
 pub mod Begins
 pub mod Ascii

@@ -1,11 +1,11 @@
 // UTF-8, by the Unicode standard's table of well-formed byte sequences.
 ghost use mathlib.Core.Path.{_≡_};
-ghost use Prim.Native.Nat.{_≤_};
-ghost use mathlib.Core.Bool.{_&&_};
-ghost use mathlib.Core.List.{_∷_};
-ghost use lib.Dec.{ltb};
+ghost use Prim.Native.Nat.{_+_, _≤_, _<_};
+ghost use mathlib.Core.Bool.{not};
+ghost use mathlib.Core.List.{[], _∷_};
 ghost use lib.ListN.{length, drop, replicate};
 ghost use Rattle.text.specs.Utf8.{_to_, table, dueIn, isUtf8};
+ghost use Rattle.text.specs.Block.{anyFrom, isHigh};
 ghost use Rattle.text.specs.Due.{dueOf, trailing, begins};
 
 // What is due after a first byte: a byte in a range, which is given by its ends, and then so many from 80 to BF;
@@ -15,39 +15,66 @@ enum Due {
     Nothing,
 }
 
-// Whether four bytes are below 80.
-fn are_ascii(a: u8, b: u8, c: u8, d: u8) -> bool
-    ensures { λ r. ⌜ r ≡ (ltb a 0x80 && ltb b 0x80 && ltb c 0x80 && ltb d 0x80) ⌝ }
+// Whether so many bytes, from an offset on, are below 80. All are looked at: the compiler takes several at a time.
+fn are_ascii(bytes: &[u8], at: usize, count: usize) -> bool
+    requires { ⌜ at + count ≤ length (now bytes) ⌝ }
+    ensures { λ r. ⌜ r ≡ not (anyFrom (isHigh (now (bytes .entry))) at count) ⌝ }
 {
-    if 0x80 <= a {
-        return false;
+    let mut i = 0;
+    let mut high = false;
+    while i < count {
+        high = high | (0x80 <= bytes[at + i]);
+        i += 1;
     }
-    if 0x80 <= b {
-        return false;
-    }
-    if 0x80 <= c {
-        return false;
-    }
-    d < 0x80
+    !high
 }
 
-// An index before which all bytes are sequences of one byte. How far it goes is its own choice: by four bytes at a time,
-// which is quick.
+// The same of up to seven bytes: all, or none. The last four may have some of the first four among them.
+fn past_few(bytes: &[u8]) -> usize
+    requires { ⌜ length (now bytes) < 8 ⌝ }
+    ensures { λ r. ⌜ (r ≤ length (now (bytes .entry))) × (isUtf8 (drop r (now (bytes .entry))) ≡ isUtf8 (now (bytes .entry))) ⌝ }
+{
+    let n = bytes.len();
+    if n < 4 {
+        return 0;
+    }
+    if are_ascii(bytes, 0, 4) & are_ascii(bytes, n - 4, 4) {
+        return n;
+    }
+    0
+}
+
+// An index before which all bytes are sequences of one byte. How far it goes is its own choice: by blocks, which is quick. The
+// last eight bytes are looked at together, though some of them were passed.
 fn past_ascii(bytes: &[u8]) -> usize
     ensures { λ r. ⌜ (r ≤ length (now (bytes .entry))) × (isUtf8 (drop r (now (bytes .entry))) ≡ isUtf8 (now (bytes .entry))) ⌝ }
 {
+    let n = bytes.len();
+    if n < 8 {
+        return past_few(bytes);
+    }
     let mut i = 0;
-    while 4 <= bytes.len() - i {
-        if are_ascii(bytes[i], bytes[i + 1], bytes[i + 2], bytes[i + 3]) {
-            i += 4;
+    while 64 <= n - i {
+        if are_ascii(bytes, i, 64) {
+            i += 64;
         } else {
             return i;
         }
     }
+    while 8 <= n - i {
+        if are_ascii(bytes, i, 8) {
+            i += 8;
+        } else {
+            return i;
+        }
+    }
+    if are_ascii(bytes, n - 8, 8) {
+        return n;
+    }
     i
 }
 
-// Whether the bytes are sequences of the table, one after another. Most are of one byte.
+// Whether the bytes are sequences of the table, one after another. Most are of one byte, and many of the others of three.
 pub fn is_utf8(bytes: &[u8]) -> bool
     ensures { λ r. ⌜ r ≡ isUtf8 (now (bytes .entry)) ⌝ }
 {
@@ -56,6 +83,8 @@ pub fn is_utf8(bytes: &[u8]) -> bool
         let first = bytes[i];
         if first < 0x80 {
             i += 1;
+        } else if is_three(bytes, i) {
+            i += 3;
         } else {
             let due = due_after(first);
             match due {
@@ -71,6 +100,23 @@ pub fn is_utf8(bytes: &[u8]) -> bool
         }
     }
     true
+}
+
+// Whether the row of the table of most letters of three bytes stands at an offset. It is tried at once, and without leaving early,
+// so that the compiler needs few branches.
+fn is_three(bytes: &[u8], at: usize) -> bool
+    requires { ⌜ at ≤ length (now bytes) ⌝ }
+    ensures { λ r. ⌜ r ≡ begins (0xE1 to 0xEC ∷ trailing ∷ trailing ∷ []) (drop at (now (bytes .entry))) ⌝ }
+{
+    if bytes.len() - at < 3 {
+        return false;
+    }
+    (0xE1 <= bytes[at])
+        & (bytes[at] <= 0xEC)
+        & (0x80 <= bytes[at + 1])
+        & (bytes[at + 1] <= 0xBF)
+        & (0x80 <= bytes[at + 2])
+        & (bytes[at + 2] <= 0xBF)
 }
 
 // The row of the table that begins with a byte above 7F.

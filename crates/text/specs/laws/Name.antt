@@ -1,17 +1,15 @@
--- Laws of names: equality is equality of bytes, the order is strict and total; dots, a byte at a time; and what a tag is, by the length.
+-- Laws of names: equality is equality of bytes, the order is strict and total; dots, a byte at a time.
 use mathlib.Core.Path.{_≡_, refl, sym, ap, _∙_}
-use Prim.Native.Nat.{ℕ, suc, _+_, _*_, _-_, _%_, _≤_, _<_}
+use Prim.Native.Nat.{ℕ, suc, _+_, _≤_, _<_}
 use native.Mathlib.Omega.{arith}
 use mathlib.Core.Bool.{true, false, false≢true, true≢false}
 use mathlib.Core.List.{List, [], _∷_}
 use lib.Dec.{ltb, eqb}
-use lib.ListN.{length, getD, length-take, length-drop}
-use lib.Seq.{getD-drop, getD-take}
+use lib.ListN.{length, length-take, length-drop}
 use borrow.Author.Tests.{ltb-true, ltb-false, eqb-true, lt-ltb, le-ltb, eq-eqb, ne-eqb}
-use Rattle.logic.specs.Test.{if_then_else_}
 use Rattle.logic.specs.laws.Test.{if-passed, if-failed, cases, both}
 use Rattle.text.specs.declared.Name.{Name}
-use Rattle.text.specs.Name.{bytesOf, eqName, ltName, dot, dots, tagOf}
+use Rattle.text.specs.Name.{bytesOf, eqName, ltName, dot, dots}
 
 pub eqName-true : (x y : List ℕ) → eqName x y ≡ true → x ≡ y
 unfolding eqName
@@ -39,26 +37,6 @@ pub unequal-lengths : (text : List ℕ) (name other : Name) → name .offset + n
 unequal-lengths text name other h g e =
     cases (eqName (bytesOf text name) (bytesOf text other))
     (λ p. absurd (e (sym (length-bytes text name h) ∙ ap length (eqName-true (bytesOf text name) (bytesOf text other) p) ∙ length-bytes text other g))) sym
-
--- a tag is read off the text: a short name has its length, any other its length and the bytes before its end
-module _ (text : List ℕ) (name : Name) (inside : name .offset + name .length ≤ length text) where
-  pub tag-short : name .length < 3 → name .length ≡ tagOf (bytesOf text name)
-  unfolding tagOf if_then_else_
-  tag-short h = rw (length-bytes text name inside, lt-ltb (name .length) 3 h)
-
-  byte-before : (k : ℕ) → 0 < k → k ≤ name .length → getD (bytesOf text name) (name .length - k) 0 ≡ getD text (name .offset + name .length - k) 0
-  byte-before k z h =
-      let i : name .length - k < name .length = omega arith in
-      let e : name .offset + (name .length - k) ≡ name .offset + name .length - k = omega arith in
-      rw (getD-take, getD-drop, e)
-
-  pub tag-long : (tag : ℕ) → 3 ≤ name .length →
-      tag ≡ name .length % 256 + 256 * getD text (name .offset + name .length - 1) 0 + 65536 * getD text
-      (name .offset + name .length - 2) 0 + 16777216 * getD text (name .offset + name .length - 3) 0 →
-      tag ≡ tagOf (bytesOf text name)
-  unfolding tagOf if_then_else_
-  tag-long tag h e =
-      e ∙ rw (length-bytes text name inside, le-ltb (name .length) 3 h, byte-before 1 (omega arith) (omega arith), byte-before 2 (omega arith) (omega arith), byte-before 3 (omega arith) h)
 
 -- how two numbers stand to one another
 order : {P : Type 0} (a b : ℕ) → (a < b → P) → (a ≡ b → P) → (b < a → P) → P

@@ -1,19 +1,28 @@
--- `utf8::are_ascii` compares one byte after the other.
-use borrow.Author.Tests.{lt-ltb, le-ltb}
+-- `utf8::are_ascii` looks at one byte after another: before each turn it tells of as many as turns were made.
+use borrow.Author.Needs.{needs}
+use mathlib.Core.Path.{_≡_}
+use Prim.Native.Nat.{_-_, _≤_}
+use Rattle.text.specs.Block.{anyFrom, isHigh}
+use Rattle.text.proofs.Blocks.{none, more, all}
 use Rattle.text.proofs.utf8.are_ascii.Statement.{statement}
 use Rattle.text.proofs.utf8.are_ascii.Tie as tie
 
-returns : tie.Need-returns
-returns c = rw (le-ltb _ _ (c .if1 .taken))
+abbrev Inv-loop : tie.InvT-loop
+Inv-loop bytes at count i₀ high₀ i high = (high ≡ anyFrom (isHigh bytes) at i) × (i ≤ count)
 
-returns-2 : tie.Need-returns-2
-returns-2 c = rw (lt-ltb _ _ (c .before .if1 .left), le-ltb _ _ (c .if2 .taken))
-
-returns-3 : tie.Need-returns-3
-returns-3 c = rw (lt-ltb _ _ (c .before .before .if1 .left), lt-ltb _ _ (c .before .if2 .left), le-ltb _ _ (c .if3 .taken))
-
-returns-4 : tie.Need-returns-4
-returns-4 c = rw (lt-ltb _ _ (c .before .before .if1 .left), lt-ltb _ _ (c .before .if2 .left), lt-ltb _ _ (c .if3 .left))
+abbrev μ-loop : tie.MeasureT-loop
+μ-loop bytes at count i₀ high₀ i high = count - i
 
 pub are-ascii-spec : {M : Type 1} → statement M
-are-ascii-spec = tie.close (tie.spec returns returns-2 returns-3 returns-4)
+are-ascii-spec =
+    tie.close
+    (tie.spec
+    Inv-loop
+    μ-loop
+    (λ c. (search (none, needs), search needs))
+    (λ c. search needs)
+    (λ c. search needs)
+    (λ c. search needs)
+    (λ c. search needs)
+    (λ c. (search (more, needs), search needs))
+    (λ c. search (all, needs)))
