@@ -127,7 +127,7 @@ fn is_sparse(span: usize, last: usize, table: &[u32]) -> bool
     (words::get(table, last, places::POSITION) as usize) * MANY < span
 }
 
-// The place's field with that name, found from child to child.
+// The place's field with that name, found from child to child. Long names are found so, and names are compared in blocks.
 fn find_linked(
     text: &[u8],
     place: usize,
