@@ -71,12 +71,12 @@ pub enum Ensured {
     Refused(Refusal),
 }
 
-// The child that was found, whose name must be the one given (a variant's number has one name).
+// The child that was found, whose name must be the one given (a variant's number has one name), and may be long.
 fn confirm(text: &[u8], name: Name, child: usize, count: usize, table: &[u32]) -> Ensured
     requires { ⌜ Comparable (now text) (now table) name child ⌝ }
     ensures { λ r. ⌜ r ≡ confirmed (now (text .entry)) name child count (now (table .entry)) ⌝ }
 {
-    if shapes::unpacked(words::get(table, child, places::NAME)).equals(name, text) {
+    if shapes::unpacked(words::get(table, child, places::NAME)).equals_long(name, text) {
         Ensured::Child(child, count)
     } else {
         Ensured::Refused(Refusal::TwoNames)

@@ -1,9 +1,9 @@
 -- Elements of a sequence that change nothing: the present sample holds one already, and they are of the type that it has.
-use mathlib.Core.Bool.{Bool, not, _&&_}
+use mathlib.Core.Bool.{Bool, true, not, _&&_}
 use mathlib.Core.List.{List, [], _∷_}
-use Prim.Native.Nat.{ℕ, suc, _+_}
+use Prim.Native.Nat.{ℕ, zero, suc, _+_}
 use lib.Dec.{eqb, ltb}
-use lib.ListN.{drop}
+use lib.ListN.{getD, drop}
 use Rattle.logic.specs.Test.{if_then_else_}
 use Rattle.datatype.specs.Codes.{null}
 use Rattle.words.specs.Word.{word}
@@ -32,6 +32,15 @@ runOf byte (b ∷ bs) = if eqb b byte then suc (runOf byte bs) else 0
 -- the offset behind such elements
 unfoldable pub behindRun : List ℕ → ℕ → ℕ → ℕ
 behindRun commands byte at = at + runOf byte (drop at commands)
+
+-- so many commands are looked at together; where the run ends is the same
+abbrev pub blockLength : ℕ
+blockLength = 16
+
+-- so many commands, from an offset on, are that byte
+unfoldable pub areAll : List ℕ → ℕ → ℕ → ℕ → Bool
+areAll commands byte at zero = true
+areAll commands byte at (suc count) = areAll commands byte at count && eqb (getD commands (at + count) 0) byte
 
 unfoldable pub pastHeld : List ℕ → ℕ → ℕ → ℕ
 pastHeld commands kind at = if isOwnByte kind then behindRun commands kind at else at

@@ -9,7 +9,7 @@ use Rattle.logic.specs.Test.{if_then_else_}
 use Rattle.text.specs.declared.Name.{Name}
 use Rattle.words.specs.Word.{word, hasAmong}
 use Rattle.shapes.specs.Steps.{fieldCode}
-use Rattle.places.specs.Layout.{parentWord, tagWord, positionWord}
+use Rattle.places.specs.Layout.{parentWord, stepWord, tagWord, positionWord}
 use Rattle.search.specs.Search.{isAt, findFrom, findIn}
 
 -- so many places are looked at together, and so many where children stand far apart; what is found is the same
@@ -18,6 +18,14 @@ fewPlaces = 8
 
 abbrev pub manyPlaces : ℕ
 manyPlaces = 16
+
+-- what is tested before the names are compared: a child of the place is a field, and has that tag
+unfoldable pub isTagged : ℕ → ℕ → ℕ → List ℕ → Bool
+isTagged place tag child t =
+    eqb (word t child tagWord) tag
+    && not (eqb child 0)
+    && eqb (word t child parentWord) place
+    && eqb (word t child stepWord) fieldCode
 
 -- a child of the place is its field with that name; the root, place 0, is nobody's child
 unfoldable pub isField : List ℕ → ℕ → Name → ℕ → List ℕ → Bool

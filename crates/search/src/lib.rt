@@ -9,7 +9,7 @@ ghost use Rattle.shapes.specs.Steps.{fieldCode, codeOf, noName, Inside};
 ghost use Rattle.places.specs.Layout.{Tagged, Ready, firstWord, lastWord};
 ghost use Rattle.search.specs.Tree.{isNumbered, sideWord, follow, seek};
 ghost use Rattle.search.specs.Search.{Comparable, findIn, inBlock, childAt};
-ghost use Rattle.search.specs.Scan.{fewPlaces, manyPlaces, isField, fieldAmong, pastOthers, isSparse, Passed};
+ghost use Rattle.search.specs.Scan.{fewPlaces, manyPlaces, isTagged, isField, fieldAmong, pastOthers, isSparse, Passed};
 ghost use mathlib.Core.Bool.{true, _&&_};
 use shapes::Step;
 use text::Name;
@@ -22,12 +22,15 @@ const MANY: usize = 16;
 // So far.
 const FAR: usize = 64;
 
-// Whether one place is another's field with that name. The tags of the names are compared first: most differ there. The
-// root, place 0, is nobody's child.
-fn is_field(text: &[u8], place: usize, name: Name, tag: u32, child: usize, table: &[u32]) -> bool
-    requires { ⌜ Comparable (now text) (now table) name child ⌝ }
-    requires { ⌜ (tag ≡ tagOf (bytesOf (now text) name)) × Tagged (now text) (now table) child ⌝ }
-    ensures { λ r. ⌜ r ≡ isField (now (text .entry)) place name child (now (table .entry)) ⌝ }
+// No usual name is longer. Such names leave the search by number, whose comparison goes byte by byte and is small: names of
+// 60,000 bytes that overlap in the text would take long there.
+const LONG: u16 = 255;
+
+// Whether one place is another's field and its name has that tag. The tags are compared first: most differ there. The root,
+// place 0, is nobody's child.
+fn is_tagged(place: usize, tag: u32, child: usize, table: &[u32]) -> bool
+    requires { ⌜ IsRow child × IsTable (now table) ⌝ }
+    ensures { λ r. ⌜ r ≡ isTagged place tag child (now (table .entry)) ⌝ }
 {
     if words::get(table, child, places::TAG) != tag {
         return false;
@@ -38,11 +41,40 @@ fn is_field(text: &[u8], place: usize, name: Name, tag: u32, child: usize, table
     if words::link(table, child, places::PARENT) != place {
         return false;
     }
-    if words::get(table, child, places::STEP) != shapes::FIELD {
+    words::get(table, child, places::STEP) == shapes::FIELD
+}
+
+// Whether one place is another's field with that name.
+fn is_field(text: &[u8], place: usize, name: Name, tag: u32, child: usize, table: &[u32]) -> bool
+    requires { ⌜ Comparable (now text) (now table) name child ⌝ }
+    requires { ⌜ (tag ≡ tagOf (bytesOf (now text) name)) × Tagged (now text) (now table) child ⌝ }
+    ensures { λ r. ⌜ r ≡ isField (now (text .entry)) place name child (now (table .entry)) ⌝ }
+{
+    if !is_tagged(place, tag, child, table) {
         return false;
     }
     let own = shapes::unpacked(words::get(table, child, places::NAME));
     own.equals(name, text)
+}
+
+// The same, where the names are compared in blocks.
+fn is_long_field(
+    text: &[u8],
+    place: usize,
+    name: Name,
+    tag: u32,
+    child: usize,
+    table: &[u32],
+) -> bool
+    requires { ⌜ Comparable (now text) (now table) name child ⌝ }
+    requires { ⌜ (tag ≡ tagOf (bytesOf (now text) name)) × Tagged (now text) (now table) child ⌝ }
+    ensures { λ r. ⌜ r ≡ isField (now (text .entry)) place name child (now (table .entry)) ⌝ }
+{
+    if !is_tagged(place, tag, child, table) {
+        return false;
+    }
+    let own = shapes::unpacked(words::get(table, child, places::NAME));
+    own.equals_long(name, text)
 }
 
 // The first of FEW places, from one on, that is the place's field with that name, or 0. Mostly none of them has the tag.
@@ -95,7 +127,7 @@ fn is_sparse(span: usize, last: usize, table: &[u32]) -> bool
     (words::get(table, last, places::POSITION) as usize) * MANY < span
 }
 
-// The place's field with that name, found from child to child.
+// The place's field with that name, found from child to child. Long names are found so, and names are compared in blocks.
 fn find_linked(
     text: &[u8],
     place: usize,
@@ -109,7 +141,7 @@ fn find_linked(
 {
     let mut child = words::link(table, place, places::FIRST);
     while child != 0 {
-        if is_field(text, place, name, tag, child, table) {
+        if is_long_field(text, place, name, tag, child, table) {
             return child;
         }
         child = words::link(table, child, places::NEXT);
@@ -146,7 +178,7 @@ fn find_from(
 
 // The field of a place with that name, found in first-seen order; 0 where there is none, for no child is place 0. Children
 // stand in ascending order, so places are looked at by number from the first child to the last; from child to child where
-// few of them are children.
+// few of them are children, or the name is long.
 pub fn find_field(text: &[u8], place: usize, name: Name, count: usize, table: &[u32]) -> usize
     requires { ⌜ Ready (now text) (now table) count place × Inside (now text) name ⌝ }
     ensures { λ r. ⌜ (r ≡ findIn (now (text .entry)) place fieldCode name (now (table .entry))) × (r < count) ⌝ }
@@ -156,6 +188,9 @@ pub fn find_field(text: &[u8], place: usize, name: Name, count: usize, table: &[
         return 0;
     }
     let tag = name.tag(text);
+    if LONG < name.length {
+        return find_linked(text, place, name, tag, count, table);
+    }
     let last = words::link(table, place, places::LAST);
     let mut here = first / FEW * FEW;
     if FAR <= last - first {

@@ -1,4 +1,4 @@
--- `past_run`: from each offset on the run ends where it does as a whole.
+-- `past_run`: behind the blocks, and from each offset on, the run ends where it does as a whole.
 use Prim.Native.Nat.{_-_}
 use borrow.Author.Needs.{needs}
 use mathlib.Core.Path.{_≡_}
@@ -20,6 +20,7 @@ past-run-spec =
     (tie.spec
     Inv-loop
     μ-loop
+    (λ c κs. search needs)
     (λ c. search needs)
     (λ c κs. search needs)
     (λ c. search (run-other, needs))

@@ -2,9 +2,9 @@
 use mathlib.Core.Path.{_≡_, refl, sym, _∙_}
 use mathlib.Core.Bool.{Bool, true, false, not}
 use mathlib.Core.List.{List, _∷_}
-use Prim.Native.Nat.{ℕ, suc, _+_, _<_, _≤_}
+use Prim.Native.Nat.{ℕ, zero, suc, _+_, _<_, _≤_}
 use native.Mathlib.Omega.{arith}
-use borrow.Author.Tests.{eq-eqb, ne-eqb, ltb-true}
+use borrow.Author.Tests.{eq-eqb, ne-eqb, eqb-true, ltb-true}
 use lib.Dec.{eqb, ltb}
 use lib.ListN.{length, getD, drop, drop-of-length-le}
 use lib.Seq.{drop-cons}
@@ -17,7 +17,7 @@ use Rattle.datatype.specs.Codes.{null}
 use Rattle.words.specs.Word.{word}
 use Rattle.places.specs.Layout.{kindWord, samplesWord, firstWord, stepWord, nameWord, markWord}
 use Rattle.shapes.specs.Leaf.{charByte}
-use Rattle.runs.specs.Runs.{behindRun, isHeld, isOwnByte, pastHeld, pastSame, runOf}
+use Rattle.runs.specs.Runs.{areAll, behindRun, isHeld, isOwnByte, pastHeld, pastSame, runOf}
 
 -- ---- one test of a held element after the other
 module _ (place child : ℕ) (t : List ℕ) where
@@ -76,6 +76,16 @@ module _ (commands : List ℕ) (byte here r : ℕ) (whole : behindRun commands b
     unfolding behindRun runOf if_then_else_
     run-more b is e = let shift : here + 1 + runOf byte (drop (here + 1) commands) ≡ here + suc (runOf byte (drop (here + 1) commands)) =
         omega arith in shift ∙ (rw (front, ← is, eq-eqb b byte e) at whole)
+
+-- past several commands that all are that byte
+pub run-block : (commands : List ℕ) (byte here r : ℕ) → behindRun commands byte here ≡ r → (count : ℕ) → here + count ≤ length commands → areAll commands byte here count ≡ true →
+    behindRun commands byte (here + count) ≡ r
+unfolding areAll
+run-block commands byte here r whole zero h e = rw add-zero whole
+run-block commands byte here r whole (suc count) h e =
+    both (areAll commands byte here count) (eqb (getD commands (here + count) 0) byte) e λ before is.
+    let q : here + count + 1 ≡ here + suc count = omega arith in
+    rw q at (run-more commands byte (here + count) r (run-block commands byte here r whole count (omega arith) before) (omega arith) _ refl (eqb-true _ _ is))
 
 pub own-fits : (kind : ℕ) (own : Bool) → own ≡ isOwnByte kind → own ≡ true → kind < 256
 unfolding isOwnByte

@@ -1,6 +1,6 @@
 -- Laws of the search for a field among places by number.
 use mathlib.Core.Path.{_≡_, refl, sym, ap, _∙_}
-use mathlib.Core.Bool.{true, false, not}
+use mathlib.Core.Bool.{Bool, true, false, not, false≢true}
 use mathlib.Core.List.{List}
 use Prim.Native.Nat.{ℕ, zero, suc, _+_, _%_, _<_, _≤_}
 use native.Mathlib.Omega.{arith}
@@ -9,15 +9,15 @@ use lib.Dec.{eqb, ltb}
 use Rattle.logic.specs.Test.{if_then_else_}
 use Rattle.logic.specs.laws.Test.{cases, both}
 use Rattle.text.specs.declared.Name.{Name}
-use Rattle.text.specs.Name.{bytesOf, tagOf}
+use Rattle.text.specs.Name.{bytesOf, eqName, tagOf}
 use Rattle.words.specs.Word.{word, IsRow, hasAmong}
 use Rattle.words.specs.laws.Word.{has-none}
 use Rattle.model.specs.Tracing.{placeLimit}
-use Rattle.shapes.specs.Steps.{fieldCode}
-use Rattle.places.specs.Layout.{firstWord, lastWord, nextWord, parentWord, stepWord, tagWord, Tagged, Sound, Ready}
+use Rattle.shapes.specs.Steps.{fieldCode, unpackedName}
+use Rattle.places.specs.Layout.{firstWord, lastWord, nextWord, parentWord, stepWord, nameWord, tagWord, Tagged, Sound, Ready}
 use Rattle.places.specs.laws.Layout.{first-below, last-below, next-below}
 use Rattle.search.specs.Search.{isAt, findFrom, findIn}
-use Rattle.search.specs.Scan.{fewPlaces, manyPlaces, isField, fieldAmong, pastOthers, Passed}
+use Rattle.search.specs.Scan.{fewPlaces, manyPlaces, isTagged, isField, fieldAmong, pastOthers, Passed}
 use Rattle.search.specs.laws.Search.{find-none, find-found, find-next, field-stands, other-tag}
 
 -- ---- one place
@@ -44,6 +44,28 @@ module _ (text t : List ℕ) (place : ℕ) (name : Name) (c : ℕ) where
   pub child-field : (c ≡ 0 → ⊥) → word t c parentWord ≡ place → isField text place name c t ≡ isAt text fieldCode name c t
   unfolding isField
   child-field z e = rw (ne-eqb c 0 z, eq-eqb _ _ e) (cases (isAt text fieldCode name c t) (λ a. rw a) (λ a. rw a))
+
+-- what the tests before the comparison of the names tell
+module _ (text t : List ℕ) (place : ℕ) (name : Name) (tag child : ℕ) (tagged : Bool) (is : tagged ≡ isTagged place tag child t) where
+  pub no-tagged : Tagged text t child → tag ≡ tagOf (bytesOf text name) → tagged ≡ false → false ≡ isField text place name child t
+  unfolding isTagged
+  no-tagged tags e f =
+      cases (isField text place name child t)
+      (λ a.
+      let k = field-known text t place name child a in
+      let s = field-stands text t child name (k .at) in
+      let m : word t child tagWord ≡ tag = tags (s .0) ∙ ap tagOf (s .1) ∙ sym e in
+      absurd (false≢true (sym f ∙ is ∙ rw (eq-eqb _ _ m, ne-eqb child 0 (k .known), eq-eqb _ _ (k .child), eq-eqb _ _ (s .0)))))
+      sym
+
+  pub tagged-named : (known : ℕ) (own : Name) (same : Bool) → tagged ≡ true → known ≡ word t child nameWord → own ≡ unpackedName known →
+      same ≡ eqName (bytesOf text own) (bytesOf text name) → same ≡ isField text place name child t
+  unfolding isTagged isAt if_then_else_
+  tagged-named known own same p a b d =
+      both _ (eqb (word t child stepWord) fieldCode) (sym is ∙ p) λ rest step.
+      both _ (eqb (word t child parentWord) place) rest λ first parent.
+      both (eqb (word t child tagWord) tag) (not (eqb child 0)) first λ mark some.
+      rw (child-field text t place name child (eqb-false child 0 (not-true (eqb child 0) some)) (eqb-true _ _ parent), step) (rw (b, a) at d)
 
 -- places that are not made yet are no fields
 pub all-tagged : (text t : List ℕ) (n c : ℕ) → Sound text t n → Tagged text t c
