@@ -105,6 +105,11 @@ fn read_parted(
         let at = here + 1;
         return read_container(commands, text, options, kind, 0, here, at, site, table);
     }
+    if shapes::is_sequence_at(commands, here) {
+        let kind = shapes::SEQUENCE;
+        let at = here + 1;
+        return read_container(commands, text, options, kind, 0, here, at, site, table);
+    }
     let read = commands::read_command(commands, text, here, Due::Value);
     let Read::Command(command, next) = read else {
         return Traced::Refused(read.refusal(), read.place());
@@ -218,18 +223,26 @@ fn read_fields(
             Opened::Ended => return Traced::Next(at + 1, grown.count),
             Opened::Refused(refusal) => return Traced::Refused(refusal, at),
             Opened::Child(child, more) => {
-                let name = commands::read_name(commands, at + 1);
-                let below = Site {
-                    place: child,
-                    count: more,
-                    levels: grown.levels,
-                };
-                match read_named(commands, text, options, name, at + 5, below, table) {
-                    Traced::Next(behind, still) => {
-                        at = behind;
-                        grown.count = still;
+                let quick = leaves::past_quick(commands, text, options, at + 5, child, table);
+                if quick != 0 {
+                    at = quick;
+                    grown.count = more;
+                } else {
+                    let name = commands::read_name(commands, at + 1);
+                    let below = Site {
+                        place: child,
+                        count: more,
+                        levels: grown.levels,
+                    };
+                    match read_named(commands, text, options, name, at + 5, below, table) {
+                        Traced::Next(behind, still) => {
+                            at = behind;
+                            grown.count = still;
+                        }
+                        Traced::Refused(refusal, offset) => {
+                            return Traced::Refused(refusal, offset);
+                        }
                     }
-                    Traced::Refused(refusal, offset) => return Traced::Refused(refusal, offset),
                 }
             }
         }

@@ -2,15 +2,14 @@
 use mathlib.Core.Bool.{Bool, true, not, _&&_}
 use mathlib.Core.List.{List, [], _∷_}
 use Prim.Native.Nat.{ℕ, zero, suc, _+_}
-use lib.Dec.{eqb, ltb}
+use lib.Dec.{eqb}
 use lib.ListN.{getD, drop}
 use Rattle.logic.specs.Test.{if_then_else_}
-use Rattle.datatype.specs.Codes.{null}
 use Rattle.words.specs.Word.{word}
 use Rattle.shapes.specs.declared.Step.the-variants as S
 use Rattle.shapes.specs.Steps.{codeOf, noName, packedName}
 use Rattle.places.specs.Layout.{kindWord, samplesWord, firstWord, stepWord, nameWord, markWord}
-use Rattle.shapes.specs.Leaf.{charByte}
+use Rattle.shapes.specs.Leaf.{isOwnByte}
 
 -- the child is an element that the place's present sample holds
 unfoldable pub isHeld : ℕ → ℕ → List ℕ → Bool
@@ -19,10 +18,6 @@ isHeld place child t =
     && eqb (word t child stepWord) (codeOf S.Element)
     && eqb (word t child nameWord) (packedName noName)
     && eqb (word t child markWord) (word t place samplesWord)
-
--- a type whose code is its command's byte, and not Null
-unfoldable pub isOwnByte : ℕ → Bool
-isOwnByte kind = not (eqb kind null) && ltb kind charByte
 
 -- how many bytes there are of one sort
 unfoldable pub runOf : ℕ → List ℕ → ℕ

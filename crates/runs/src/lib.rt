@@ -4,7 +4,7 @@ ghost use Prim.Native.Nat.{_+_, _≤_};
 ghost use lib.ListN.{length};
 ghost use Rattle.words.specs.Word.{word, IsTable, IsRow};
 ghost use Rattle.places.specs.Layout.{firstWord};
-ghost use Rattle.runs.specs.Runs.{blockLength, isHeld, isOwnByte, areAll, behindRun, pastHeld, pastSame};
+ghost use Rattle.runs.specs.Runs.{blockLength, isHeld, areAll, behindRun, pastHeld, pastSame};
 
 // Whether the child is an element that the place's present sample holds.
 fn is_held(place: usize, child: usize, table: &[u32]) -> bool
@@ -21,16 +21,6 @@ fn is_held(place: usize, child: usize, table: &[u32]) -> bool
         return false;
     }
     words::get(table, child, places::MARK) == words::get(table, place, places::SAMPLES)
-}
-
-// Types below this code have the byte of their command as it. 0C is a char, which is a UInt32.
-const OWN_BYTES: u32 = 12;
-
-// Whether a type is not Null, and its code its command's byte.
-fn is_own_byte(kind: u32) -> bool
-    ensures { λ r. ⌜ r ≡ isOwnByte kind ⌝ }
-{
-    kind != shapes::UNKNOWN && kind < OWN_BYTES
 }
 
 // So many commands of a run are looked at together.
@@ -80,7 +70,7 @@ fn past_run(commands: &[u8], byte: u8, at: usize) -> usize
 fn past_held(commands: &[u8], kind: u32, at: usize) -> usize
     ensures { λ r. ⌜ r ≡ pastHeld (now (commands .entry)) kind at ⌝ }
 {
-    if is_own_byte(kind) {
+    if shapes::is_own_byte(kind) {
         past_run(commands, kind as u8, at)
     } else {
         at

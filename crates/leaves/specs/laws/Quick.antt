@@ -17,7 +17,7 @@ use Rattle.model.specs.Kinds.{sequenceKind, isContainer}
 use Rattle.shapes.specs.declared.Leaf.{Leaf}
 use Rattle.shapes.specs.declared.Leaf.the-variants as O
 use Rattle.shapes.specs.Leaf.{isOwnByte, leafAt}
-use Rattle.shapes.specs.laws.Leaf.{LeafThere, leaf-there, leaf-untyped, own-leaf}
+use Rattle.shapes.specs.laws.Leaf.{LeafThere, leaf-there, leaf-above, leaf-untyped, own-leaf}
 use Rattle.kinds.specs.declared.Met.the-variants as M
 use Rattle.kinds.specs.Meeting.{meeting}
 use Rattle.places.specs.Layout.{kindWord, nullWord}
@@ -79,6 +79,7 @@ observed-null options levels here behind place n t =
 pub record Quick (options : ℕ) (commands text : List ℕ) (at place n : ℕ) (t : List ℕ) (behind : ℕ) (u : List ℕ) : Type 0 where
   pub isNull : Bool
   pub kind : ℕ
+  pub is : leafAt options commands text at ≡ O.Value isNull kind behind
   pub leaf : LeafThere options commands text at isNull kind behind
   pub seen : (levels : ℕ) → out (T.Next behind n) u ≡ observed options isNull kind levels at behind place n t
 
@@ -86,17 +87,21 @@ module _ (options : ℕ) (commands text : List ℕ) (at place n : ℕ) (t : List
   nothing : chain behind u ≡ chain 0 t → Quick options commands text at place n t behind u
   nothing e = absurd (some cc)
 
-  by-value : (isNull : Bool) (kind next : ℕ) → LeafThere options commands text at isNull kind next →
+  by-value : (isNull : Bool) (kind next : ℕ) → leafAt options commands text at ≡ O.Value isNull kind next → LeafThere options commands text at isNull kind next →
       chain behind u ≡ quickLeaf place t (O.Value isNull kind next) → Quick options commands text at place n t behind u
   unfolding if_then_else_
-  by-value true kind next there e =
+  by-value true kind next l there e =
       let b : next ≡ behind = cc in
       let d : withWord t place nullWord 1 ≡ u = cc in
       let leaf : LeafThere options commands text at true kind behind = rw b at there in
       record {
-        isNull = true; kind = kind; leaf = leaf;
-        seen = λ levels. rw (← d, leaf-untyped options commands text at kind behind leaf) (observed-null options levels at behind place n t) }
-  by-value false kind next there e =
+        isNull = true;
+        kind = kind;
+        is = rw b at l;
+        leaf = leaf;
+        seen = λ levels. rw (← d, leaf-untyped options commands text at kind behind leaf) (observed-null options levels at behind place n t);
+      }
+  by-value false kind next l there e =
       cases (eqb (word t place kindWord) kind)
       (λ q.
       let f : chain behind u ≡ chain next t = rw q at e in
@@ -104,14 +109,34 @@ module _ (options : ℕ) (commands text : List ℕ) (at place n : ℕ) (t : List
       let d : t ≡ u = cc in
       let leaf : LeafThere options commands text at false kind behind = rw b at there in
       record {
-        isNull = false; kind = kind; leaf = leaf;
-        seen = λ levels. rw (← d) (observed-again options kind levels at behind place n t (eqb-true (word t place kindWord) kind q) (leaf .below)) })
+        isNull = false;
+        kind = kind;
+        is = rw b at l;
+        leaf = leaf;
+        seen = λ levels. rw (← d) (observed-again options kind levels at behind place n t (eqb-true (word t place kindWord) kind q) (leaf .below));
+      })
       (λ q. nothing (rw q at e))
 
   by-leaf : (leaf : Leaf) → leaf ≡ leafAt options commands text at → chain behind u ≡ quickLeaf place t leaf → Quick options commands text at place n t behind u
-  by-leaf (O.Value isNull kind next) l e = by-value isNull kind next (leaf-there options commands text at _ l isNull kind next refl) e
+  by-leaf (O.Value isNull kind next) l e = by-value isNull kind next (sym l) (leaf-there options commands text at _ l isNull kind next refl) e
   by-leaf O.Other l e = nothing e
 
   pub quick-is : chain behind u ≡ quickAt options commands text at place t → Quick options commands text at place n t behind u
   unfolding quickAt
   quick-is e = by-leaf (leafAt options commands text at) refl e
+
+-- where nothing is passed the table is as it was
+module _ (options : ℕ) (commands text : List ℕ) (at place : ℕ) (t u : List ℕ) where
+  none-by : (leaf : Leaf) → leaf ≡ leafAt options commands text at → chain 0 u ≡ quickLeaf place t leaf → u ≡ t
+  unfolding if_then_else_
+  none-by (O.Value true kind behind) l e =
+      let b : 0 ≡ behind = cc in
+      let there : at < behind = leaf-above options commands text at kind behind true (leaf-there options commands text at _ l true kind behind refl) in
+      absurd (omega arith)
+  none-by (O.Value false kind behind) l e =
+      cases (eqb (word t place kindWord) kind) (λ q. let f : chain 0 u ≡ chain behind t = rw q at e in cc) (λ q. let f : chain 0 u ≡ chain 0 t = rw q at e in cc)
+  none-by O.Other l e = cc
+
+  pub quick-none : (behind : ℕ) → behind ≡ 0 → chain behind u ≡ quickAt options commands text at place t → u ≡ t
+  unfolding quickAt
+  quick-none behind z e = none-by (leafAt options commands text at) refl (rw z at e)

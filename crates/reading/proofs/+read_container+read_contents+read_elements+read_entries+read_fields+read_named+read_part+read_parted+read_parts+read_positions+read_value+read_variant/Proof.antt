@@ -8,11 +8,13 @@ use Rattle.model.specs.Kinds.{sequenceKind, mapKind, tupleKind}
 use Rattle.shapes.specs.laws.Shapes.{text-inside, variant-good, parts-parted}
 use Rattle.places.specs.Layout.{Ready}
 use Rattle.reading.specs.Reading.{partsFrom, partsBy, readers}
-use Rattle.reading.specs.laws.Readers.{contents-unit, contents-value, contents-positions, contents-fields, value-leaf, value-parted, named-parted, unnamed, part-child, part-refused, struct-fits, parted-struct, parted-refused, parted-leaf, parted-parts, parted-variant, parted-none, container-parts, container-refused, variant-child, variant-refused}
+use Rattle.reading.specs.laws.Readers.{contents-unit, contents-value, contents-positions, contents-fields, value-leaf, value-parted, named-parted, unnamed, part-child, part-refused, begun-fits, parted-sequence, parted-struct, parted-refused, parted-leaf, parted-parts, parted-variant, parted-none, container-parts, container-refused, variant-child, variant-refused}
+use Rattle.reading.specs.laws.Quick.{quick-read, quick-sound}
+use Rattle.leaves.specs.laws.Quick.{quick-none}
 use Rattle.reading.specs.laws.Runs.{elements-same}
 use Rattle.runs.specs.laws.Runs.{same-above}
 use Rattle.reading.specs.laws.Loops.{parts-end, parts-refused, parts-stopped, parts-more, parts-less, parts-counted, count-fits, element-part, elements-more, part-unnamed, element-unnamed, position-unnamed, entry-unnamed, position-part, positions-end, whole-fits, name-fits, name-whole, name-inside, end-fits, fields-ended, fields-refused, fields-stopped, fields-more, fields-less, by-fields, by-elements, by-entries, by-positions}
-use Rattle.reading.specs.laws.Sound.{held-from, opened-left, opened-ready, opened-from, chosen-left, chosen-from, field-ready, field-grows, field-still, field-ends, traced-from, traced-grows, traced-ready, traced-first, falls-parts, falls-contents, falls-named, struct-parted, tuple-parted}
+use Rattle.reading.specs.laws.Sound.{held-from, opened-left, opened-ready, opened-from, chosen-left, chosen-from, field-ready, field-grows, field-still, field-ends, traced-from, traced-grows, traced-ready, traced-first, falls-parts, falls-contents, falls-named, sequence-parted, struct-parted, tuple-parted}
 use Rattle.places.specs.laws.Layout.{is-place, has-room}
 use Rattle.opening.specs.laws.Opening.{held-ready}
 use Rattle.leaves.specs.laws.Marks.{past-ready, observed-sound}
@@ -64,6 +66,7 @@ use Rattle.commands.proofs.Read.refusal.Reads as refusal-reads
 use Rattle.commands.proofs.read_command.Reads as read-command-reads
 use Rattle.kinds.proofs.is_struct.Reads as is-struct-reads
 use Rattle.opening.proofs.hold.Reads as hold-reads
+use Rattle.shapes.proofs.is_sequence_at.Reads as is-sequence-at-reads
 use Rattle.shapes.proofs.is_struct_at.Reads as is-struct-at-reads
 use Rattle.shapes.proofs.leaf_at.Reads as leaf-at-reads
 use Rattle.reading.proofs.lower.Reads as lower-reads
@@ -72,6 +75,7 @@ use Rattle.opening.proofs.open_container.Reads as open-container-reads
 use Rattle.opening.proofs.open_field.Reads as open-field-reads
 use Rattle.opening.proofs.open_variant.Reads as open-variant-reads
 use Rattle.leaves.proofs.past_marks.Reads as past-marks-reads
+use Rattle.leaves.proofs.past_quick.Reads as past-quick-reads
 use Rattle.runs.proofs.past_same.Reads as past-same-reads
 use Rattle.commands.proofs.read_name.Reads as read-name-reads
 use Rattle.shapes.proofs.entry_part.Reads as entry-part-reads
@@ -214,7 +218,16 @@ abbrev entries-claims : ℕ → read-entries-lts.Claims
 entries-claims t = (entry-part-reads.Asked, entry-part-reads.Learnt, part-below t, read-part.Post)
 
 abbrev fields-claims : ℕ → read-fields-lts.Claims
-fields-claims t = (open-field-reads.Asked, open-field-reads.Learnt, read-name-reads.Asked, read-name-reads.Learnt, named-below t, read-named.Post)
+fields-claims t = (
+  open-field-reads.Asked,
+  open-field-reads.Learnt,
+  past-quick-reads.Asked,
+  past-quick-reads.Learnt,
+  read-name-reads.Asked,
+  read-name-reads.Learnt,
+  named-below t,
+  read-named.Post,
+)
 
 abbrev named-claims : ℕ → read-named-lts.Claims
 named-claims t = (
@@ -239,6 +252,8 @@ parted-claims t = (
   is-struct-at-reads.Learnt,
   container-below t,
   read-container.Post,
+  is-sequence-at-reads.Asked,
+  is-sequence-at-reads.Learnt,
   read-command-reads.Asked,
   read-command-reads.Learnt,
   refusal-reads.Asked,
@@ -450,42 +465,83 @@ pub +read-container+read-contents+read-elements+read-entries+read-fields+read-na
     (λ c. search needs)
     (λ c. (search (fields-refused, needs), search needs))
     (λ c. search needs)
-    (λ c. search (name-fits, needs))
-    (λ c κs. search (name-whole, needs))
     (λ c. search (whole-fits, needs))
-    (λ c κs. (search needs, (search (field-ready, needs), search (name-inside, needs))))
+    (λ c κs.
+    let ready = field-ready _ _ _ _ (c .before .before .before .before .before .before .open-field .ensures .1) _ _ (c .before .before .child .given .1) in
+    (is-place _ _ _ _ ready, has-room _ _ _ _ ready))
+    (λ c.
+    let is = c .before .before .before .before .before .before .before .before .before .before .before .before .before .before .before .before .pre .1 .1 in
+    let inv = c .before .before .before .before .before .before .before .before .before .before .before .before .loop .inv in
+    let field = c .before .before .before .before .before .before .before .before .before .before .open-field .ensures in
+    let child = c .before .before .before .before .before .before .child .given .1 in
+    let quick = c .before .before .before .past-quick .ensures in
+    let read = quick-read _ _ _ _ _ _ _ _ _ quick (c .if1 .taken) _ in
+    fields-less _ _ _ _ _ _ _ _ _ is _ (inv .0) _ _ (field .0) _ _ child _ refl _ _ read _ _ refl)
+    (λ c.
+    let is = c .before .before .before .before .before .before .before .before .before .before .before .before .before .before .before .before .pre .1 .1 in
+    let inv = c .before .before .before .before .before .before .before .before .before .before .before .before .loop .inv in
+    let field = c .before .before .before .before .before .before .before .before .before .before .open-field .ensures in
+    let child = c .before .before .before .before .before .before .child .given .1 in
+    let quick = c .before .before .before .past-quick .ensures in
+    let read = quick-read _ _ _ _ _ _ _ _ _ quick (c .if1 .taken) _ in
+    let sound = quick-sound _ _ _ _ _ _ _ _ _ quick (c .if1 .taken) (field-ready _ _ _ _ (field .1) _ _ child) in
+    let more = fields-more _ _ _ _ _ _ _ _ _ is _ (inv .0) _ _ (field .0) _ _ child _ refl _ _ read _ _ refl in
+    let still = field-still _ _ _ _ (field .1) _ _ _ child (inv .1 .here) in
+    (more, record { sound = sound; here = still }, le-trans (inv .2) (field-grows _ _ _ _ (field .1) _ _ child), search needs, search needs))
+    (λ c. search (name-fits, needs))
+    (λ c κs.
+    let is = c .before .before .before .before .before .before .before .before .before .before .before .before .before .before .before .before .pre .1 .1 in
+    let inv = c .before .before .before .before .before .before .before .before .before .before .before .before .loop .inv in
+    let field = c .before .before .before .before .before .before .before .before .before .before .open-field .ensures in
+    let child = c .before .before .before .before .before .before .child .given .1 in
+    name-whole _ _ _ _ _ _ _ _ _ is _ (inv .0) _ _ (field .0) _ _ child)
+    (λ c. search (whole-fits, needs))
+    (λ c κs.
+    let is = c .before .before .before .before .before .before .before .before .before .before .before .before .before .before .before .before .before .before .pre .1 .1 in
+    let inv = c .before .before .before .before .before .before .before .before .before .before .before .before .before .before .loop .inv in
+    let field = c .before .before .before .before .before .before .before .before .before .before .before .before .open-field .ensures in
+    let child = c .before .before .before .before .before .before .before .before .child .given .1 in
+    let quick = c .before .before .before .before .before .past-quick .ensures in
+    let same = quick-none _ _ _ _ _ _ _ _ (c .before .before .if1 .left) quick in
+    (search needs, (rw same (field-ready _ _ _ _ (field .1) _ _ child), name-inside _ _ _ _ _ _ _ _ _ is _ (inv .0) _ _ (field .0) _ _ child _ (c .before .read-name .ensures))))
     (λ c. search needs)
     (λ c.
-    let is = c .before .before .before .before .before .before .before .before .before .before .before .before .before .before .before .before .before .before .before .pre .1 .1 in
-    let inv = c .before .before .before .before .before .before .before .before .before .before .before .before .before .before .before .loop .inv in
-    let field = c .before .before .before .before .before .before .before .before .before .before .before .before .before .open-field .ensures in
-    let child = c .before .before .before .before .before .before .before .before .before .child .given .1 in
+    let is = c .before .before .before .before .before .before .before .before .before .before .before .before .before .before .before .before .before .before .before .before .before .before .before .before .pre .1 .1 in
+    let inv = c .before .before .before .before .before .before .before .before .before .before .before .before .before .before .before .before .before .before .before .before .loop .inv in
+    let field = c .before .before .before .before .before .before .before .before .before .before .before .before .before .before .before .before .before .before .open-field .ensures in
+    let child = c .before .before .before .before .before .before .before .before .before .before .before .before .before .before .child .given .1 in
+    let quick = c .before .before .before .before .before .before .before .before .before .before .before .past-quick .ensures in
+    let same = quick-none _ _ _ _ _ _ _ _ (c .before .before .before .before .before .before .before .before .if1 .left) quick in
     let name = c .before .before .before .before .before .before .before .read-name .ensures in
     let read = c .before .before .before .before .before .read-named .ensures in
     let next = c .before .behind .given .1 in
-    fields-less _ _ _ _ _ _ _ _ _ is _ (inv .0) _ _ (field .0) _ _ child _ name _ _ (read .0) _ _ next)
+    fields-less _ _ _ _ _ _ _ _ _ is _ (inv .0) _ _ (field .0) _ _ child _ name _ _ (rw same at (read .0)) _ _ next)
     (λ c.
-    let is = c .before .before .before .before .before .before .before .before .before .before .before .before .before .before .before .before .before .before .before .pre .1 .1 in
-    let inv = c .before .before .before .before .before .before .before .before .before .before .before .before .before .before .before .loop .inv in
-    let field = c .before .before .before .before .before .before .before .before .before .before .before .before .before .open-field .ensures in
-    let child = c .before .before .before .before .before .before .before .before .before .child .given .1 in
+    let is = c .before .before .before .before .before .before .before .before .before .before .before .before .before .before .before .before .before .before .before .before .before .before .before .before .pre .1 .1 in
+    let inv = c .before .before .before .before .before .before .before .before .before .before .before .before .before .before .before .before .before .before .before .before .loop .inv in
+    let field = c .before .before .before .before .before .before .before .before .before .before .before .before .before .before .before .before .before .before .open-field .ensures in
+    let child = c .before .before .before .before .before .before .before .before .before .before .before .before .before .before .child .given .1 in
+    let quick = c .before .before .before .before .before .before .before .before .before .before .before .past-quick .ensures in
+    let same = quick-none _ _ _ _ _ _ _ _ (c .before .before .before .before .before .before .before .before .if1 .left) quick in
     let name = c .before .before .before .before .before .before .before .read-name .ensures in
     let read = c .before .before .before .before .before .read-named .ensures in
     let next = c .before .behind .given .1 in
-    let more = fields-more _ _ _ _ _ _ _ _ _ is _ (inv .0) _ _ (field .0) _ _ child _ name _ _ (read .0) _ _ next in
+    let more = fields-more _ _ _ _ _ _ _ _ _ is _ (inv .0) _ _ (field .0) _ _ child _ name _ _ (rw same at (read .0)) _ _ next in
     let still = field-still _ _ _ _ (field .1) _ _ _ child (inv .1 .here) in
     let grows = field-grows _ _ _ _ (field .1) _ _ child in
     (more, traced-ready _ _ _ _ (read .1) _ _ next _ still, le-trans (inv .2) (le-trans grows (traced-grows _ _ _ _ (read .1) _ _ next)), search needs, search needs))
     (λ c. search needs)
     (λ c. search needs)
     (λ c.
-    let is = c .before .before .before .before .before .before .before .before .before .before .before .before .before .before .before .before .before .before .before .pre .1 .1 in
-    let inv = c .before .before .before .before .before .before .before .before .before .before .before .before .before .before .before .loop .inv in
-    let field = c .before .before .before .before .before .before .before .before .before .before .before .before .before .open-field .ensures in
-    let child = c .before .before .before .before .before .before .before .before .before .child .given .1 in
+    let is = c .before .before .before .before .before .before .before .before .before .before .before .before .before .before .before .before .before .before .before .before .before .before .before .before .pre .1 .1 in
+    let inv = c .before .before .before .before .before .before .before .before .before .before .before .before .before .before .before .before .before .before .before .before .loop .inv in
+    let field = c .before .before .before .before .before .before .before .before .before .before .before .before .before .before .before .before .before .before .open-field .ensures in
+    let child = c .before .before .before .before .before .before .before .before .before .before .before .before .before .before .child .given .1 in
+    let quick = c .before .before .before .before .before .before .before .before .before .before .before .past-quick .ensures in
+    let same = quick-none _ _ _ _ _ _ _ _ (c .before .before .before .before .before .before .before .before .if1 .left) quick in
     let name = c .before .before .before .before .before .before .before .read-name .ensures in
     let read = c .before .before .before .before .before .read-named .ensures in
-    (fields-stopped _ _ _ _ _ _ _ _ _ is _ (inv .0) _ _ (field .0) _ _ child _ name _ _ (read .0) _ _ (c .before .refusal2 .given .1), search needs)))
+    (fields-stopped _ _ _ _ _ _ _ _ _ is _ (inv .0) _ _ (field .0) _ _ child _ name _ _ (rw same at (read .0)) _ _ (c .before .refusal2 .given .1), search needs)))
     (λ t. read-named-lts.spec (named-claims t) (named-at t)
     read-named.Post
     (λ c κs. search (is-place, has-room, needs))
@@ -512,10 +568,15 @@ pub +read-container+read-contents+read-elements+read-entries+read-fields+read-na
     (λ t. read-parted-lts.spec (parted-claims t) (parted-at t)
     read-parted.Post
     (λ c κs. search needs)
-    (λ c. search (struct-fits, needs))
+    (λ c. search (begun-fits, needs))
     (λ c κs. (search needs, (search needs, search struct-parted)))
     (λ c. search needs)
     (λ c. (search (parted-struct, needs), search needs))
+    (λ c κs. search needs)
+    (λ c. search (begun-fits, needs))
+    (λ c κs. (search needs, (search needs, search sequence-parted)))
+    (λ c. search needs)
+    (λ c. (search (parted-sequence, needs), search needs))
     (λ c κs. search needs)
     (λ c. search needs)
     (λ c. search needs)

@@ -25,8 +25,8 @@ use Rattle.shapes.specs.declared.Shape.{Shape}
 use Rattle.shapes.specs.declared.Shape.the-variants as H
 use Rattle.shapes.specs.Steps.{noName, nameOf, Unnamed, Good}
 use Rattle.shapes.specs.laws.Shapes.{no-name-good}
-use Rattle.shapes.specs.Shapes.{shapeAt, structAt}
-use Rattle.shapes.specs.laws.Bytes.{struct-read, struct-inside}
+use Rattle.shapes.specs.Shapes.{shapeAt, beginsAt, sequenceAt, structAt}
+use Rattle.shapes.specs.laws.Bytes.{sequence-read, struct-read, begins-inside}
 use Rattle.growth.specs.declared.Ensured.{Ensured}
 use Rattle.growth.specs.declared.Ensured.the-variants as E
 use Rattle.growth.specs.declared.Made.{Made}
@@ -161,9 +161,9 @@ module _ (commands text : List ℕ) (options at place n : ℕ) (t : List ℕ) (h
 pub unnamed : (text : List ℕ) (step : Step) → Unnamed step → Good text (nameOf step)
 unnamed text step u = rw (u .name) (no-name-good text)
 
--- a struct that begins there is inside the commands
-pub struct-fits : (commands : List ℕ) (here most : ℕ) (is : Bool) → is ≡ structAt commands here → is ≡ true → length commands < most → here + 1 < most
-struct-fits commands here most is s e l = let h : here < length commands = struct-inside commands here is s e in omega arith
+-- what begins there is inside the commands
+pub begun-fits : (commands : List ℕ) (byte here most : ℕ) (is : Bool) → is ≡ beginsAt commands byte here → is ≡ true → length commands < most → here + 1 < most
+begun-fits commands byte here most is s e l = let h : here < length commands = begins-inside commands byte here is s e in omega arith
 
 -- ---- past its marks
 module _ (commands text : List ℕ) (options levels here place n : ℕ) (t : List ℕ) where
@@ -172,6 +172,12 @@ module _ (commands text : List ℕ) (options levels here place n : ℕ) (t : Lis
       o ≡ parted commands text options levels here place n t
   unfolding parted shapeAt
   parted-struct is o s e p = rw (struct-read commands text here (sym s ∙ e)) p
+
+  pub parted-sequence : (is : Bool) (o : Out) → is ≡ sequenceAt commands here → is ≡ true →
+      o ≡ containerBy commands text options levels (innerOf commands text options levels) sequenceKind 0 here (here + 1) place n t →
+      o ≡ parted commands text options levels here place n t
+  unfolding parted shapeAt
+  parted-sequence is o s e p = rw (sequence-read commands text here (sym s ∙ e)) p
 
   module _ (read : Read) (r : read ≡ readCommand commands text here D.Value) where
     pub parted-refused : (x refusal : Refusal) (y offset : ℕ) → x ≡ refusalOf read → y ≡ placeOf read → read ≡ R.Refused refusal offset →

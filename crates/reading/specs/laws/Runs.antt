@@ -35,14 +35,11 @@ use Rattle.reading.specs.laws.Readers.{part-child}
 use Rattle.opening.specs.laws.Opening.{held-child}
 use Rattle.reading.specs.laws.Loops.{element-unnamed, elements-more}
 use Rattle.shapes.specs.laws.Bytes.{bare-read, before-text}
-use Rattle.shapes.specs.Leaf.{charByte, plainKind}
+use Rattle.shapes.specs.Leaf.{charByte, plainKind, isOwnByte}
+use Rattle.shapes.specs.laws.Leaf.{own-known}
 use Rattle.reading.specs.laws.Leaf.{value-plain}
 use Rattle.leaves.specs.laws.Leaves.{observed-again}
-use Rattle.runs.specs.Runs.{behindRun, isHeld, isOwnByte, pastHeld, pastSame, runOf}
-
-own-known : (kind : ℕ) → isOwnByte kind ≡ true → (kind ≡ null → ⊥) × (kind < charByte)
-unfolding isOwnByte
-own-known kind own = both (not (eqb kind null)) (ltb kind charByte) own λ p q. (eqb-false kind null (not-true (eqb kind null) p), ltb-true kind charByte q)
+use Rattle.runs.specs.Runs.{behindRun, isHeld, pastHeld, pastSame, runOf}
 
 own-observed : (options kind levels here behind place n : ℕ) (t : List ℕ) → isOwnByte kind ≡ true → word t place kindWord ≡ kind →
     out (T.Next behind n) t ≡ observed options (eqb kind 0) (plainKind kind) levels here behind place n t

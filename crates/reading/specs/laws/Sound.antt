@@ -176,6 +176,10 @@ pub falls-named : (levels lower dots measure : ℕ) → 8 * levels + 3 ≡ measu
 falls-named levels lower dots measure e l = let m : lower ≤ levels = rw l (sub-le levels dots) in omega arith
 
 -- ---- the kinds that commands open
+pub sequence-parted : isParted sequenceKind ≡ true
+unfolding isParted
+sequence-parted = refl
+
 pub struct-parted : isParted structKind ≡ true
 unfolding isParted
 struct-parted = refl

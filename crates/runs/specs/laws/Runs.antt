@@ -13,11 +13,11 @@ use native.Mathlib.Nat.{add-zero, le-refl}
 use Rattle.logic.specs.Test.{if_then_else_}
 use Rattle.logic.specs.laws.Test.{both}
 use Rattle.logic.specs.laws.Flag.{if-either}
-use Rattle.datatype.specs.Codes.{null}
 use Rattle.words.specs.Word.{word}
 use Rattle.places.specs.Layout.{kindWord, samplesWord, firstWord, stepWord, nameWord, markWord}
-use Rattle.shapes.specs.Leaf.{charByte}
-use Rattle.runs.specs.Runs.{areAll, behindRun, isHeld, isOwnByte, pastHeld, pastSame, runOf}
+use Rattle.shapes.specs.Leaf.{charByte, isOwnByte}
+use Rattle.shapes.specs.laws.Leaf.{own-known}
+use Rattle.runs.specs.Runs.{areAll, behindRun, isHeld, pastHeld, pastSame, runOf}
 
 -- ---- one test of a held element after the other
 module _ (place child : ℕ) (t : List ℕ) where
@@ -88,8 +88,7 @@ run-block commands byte here r whole (suc count) h e =
     rw q at (run-more commands byte (here + count) r (run-block commands byte here r whole count (omega arith) before) (omega arith) _ refl (eqb-true _ _ is))
 
 pub own-fits : (kind : ℕ) (own : Bool) → own ≡ isOwnByte kind → own ≡ true → kind < 256
-unfolding isOwnByte
-own-fits kind own e p = both (not (eqb kind null)) (ltb kind charByte) (sym e ∙ p) λ some small. let h : kind < charByte = ltb-true kind charByte small in omega arith
+own-fits kind own e p = let small : kind < charByte = own-known kind (sym e ∙ p) .1 in omega arith
 
 pub same-above : (commands : List ℕ) (at place : ℕ) (t : List ℕ) (behind : ℕ) → behind ≡ pastSame commands at place t → at ≤ behind
 unfolding pastSame pastHeld behindRun

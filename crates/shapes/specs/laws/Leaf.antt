@@ -94,9 +94,12 @@ past-none options text (C.TupleVariant k name n) behind h = refl
 past-none options text (C.StructVariant k name) behind h = refl
 
 module _ (options : ℕ) (commands text : List ℕ) (at kind behind : ℕ) where
+  pub leaf-above : (isNull : Bool) → LeafThere options commands text at isNull kind behind → at < behind
+  leaf-above isNull leaf = next-above commands text at D.Value _ (leaf .command) behind refl (leaf .read)
+
   pub leaf-inside : (isNull : Bool) → LeafThere options commands text at isNull kind behind → at < length commands
   leaf-inside isNull leaf =
-      let above : at < behind = next-above commands text at D.Value _ (leaf .command) behind refl (leaf .read) in
+      let above : at < behind = leaf-above isNull leaf in
       let within : behind ≤ length commands = next-within commands text at D.Value _ (leaf .command) behind refl (leaf .read) in
       omega arith
 
