@@ -2,6 +2,7 @@
 ghost use mathlib.Core.Path.{_≡_};
 ghost use Prim.Native.Nat.{_<_};
 ghost use Rattle.words.specs.Word.{word, IsTable, IsRow};
+ghost use Rattle.shapes.specs.Leaf.{Told};
 ghost use Rattle.leaves.specs.Leaves.{Out, stored, observedAt, isKnown};
 ghost use Rattle.leaves.specs.Marks.{Chain, isMark, marked, pastMarks};
 ghost use Rattle.leaves.specs.Quick.{sameAt, quickAt};
@@ -136,7 +137,7 @@ pub fn past_quick(
     place: usize,
     table: &mut [u32],
 ) -> usize
-    requires { ⌜ IsRow place × IsTable (now table) ⌝ }
+    requires { ⌜ IsRow place × IsTable (now table) × Told options (now text) ⌝ }
     ensures { λ r. ⌜ Chain.chain r (now (table .exit)) ≡
         quickAt (options .word) (now (commands .entry)) (now (text .entry)) at place (now (table .entry)) ⌝ }
 {

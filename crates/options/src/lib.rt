@@ -1,18 +1,33 @@
-// TracingOptions (tracing_options.rs): made from the options word, passed by value, each question a method.
+// TracingOptions (tracing_options.rs): made from the options word, passed by value, each question a method. With them goes what is
+// known of the text, so that all who read one need not ask again.
 ghost use mathlib.Core.Path.{_≡_};
+ghost use mathlib.Core.Bool.{false};
 ghost use Rattle.datatype.specs.Codes.{codeOf};
 ghost use Rattle.options.specs.Word.{unknownBit, allowNullFields, mapAsStruct, sequenceAsLargeList, stringAsLargeUtf8, bytesAsLargeBinary, stringDictionaryEncoding, coerceNumbers, allowToString, guessDates, enumsWithoutDataAsStrings, stringType, binaryType, listType, dictionaryType};
 use datatype::DataType;
 
 pub struct TracingOptions {
     pub word: u16,
+    // Whether the text is known to have no byte above 7F. Then no name in it need be tested for UTF-8.
+    pub ascii: bool,
 }
 
 impl TracingOptions {
+    // Of a text of which nothing is known.
     pub fn new(word: u16) -> Self
-        ensures { λ r. ⌜ r .word ≡ word ⌝ }
+        ensures { λ r. ⌜ (r .word ≡ word) × (r .ascii ≡ false) ⌝ }
     {
-        TracingOptions { word }
+        TracingOptions { word, ascii: false }
+    }
+
+    // The same options, with what is known of the text.
+    pub fn over(self, ascii: bool) -> Self
+        ensures { λ r. ⌜ (r .word ≡ self .word) × (r .ascii ≡ ascii) ⌝ }
+    {
+        TracingOptions {
+            word: self.word,
+            ascii,
+        }
     }
 
     // Whether a bit is set that means nothing (refusal 1).

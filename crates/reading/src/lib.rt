@@ -6,6 +6,7 @@ ghost use Prim.Native.Nat.{_-_};
 ghost use Rattle.model.specs.Kinds.{sequenceKind, mapKind, tupleKind, isStruct};
 ghost use Rattle.shapes.specs.Steps.{Unnamed, Inside, Good};
 ghost use Rattle.shapes.specs.Shapes.{isParted};
+ghost use Rattle.shapes.specs.Leaf.{Told};
 ghost use Rattle.places.specs.Layout.{Ready};
 ghost use Rattle.reading.specs.Reading.{dotsIn, valueAt, parted};
 ghost use Rattle.reading.specs.Promises.{named, container, variant, inside, parts, part, Reads};
@@ -43,7 +44,7 @@ pub fn read_value(
     site: Site,
     table: &mut [u32],
 ) -> Traced
-    requires { ⌜ Ready (now text) (now table) (site .count) (site .place) ⌝ }
+    requires { ⌜ Ready (now text) (now table) (site .count) (site .place) × Told options (now text) ⌝ }
     ensures { λ r. ⌜ Reads commands text options at site table valueAt r ⌝ }
 {
     let here = leaves::past_marks(commands, at, site.place, table);
@@ -66,7 +67,7 @@ fn read_named(
     site: Site,
     table: &mut [u32],
 ) -> Traced
-    requires { ⌜ Ready (now text) (now table) (site .count) (site .place) ⌝ }
+    requires { ⌜ Ready (now text) (now table) (site .count) (site .place) × Told options (now text) ⌝ }
     requires { ⌜ Inside (now text) name ⌝ }
     ensures { λ r. ⌜ Reads commands text options at site table (named name) r ⌝ }
 {
@@ -97,7 +98,7 @@ fn read_parted(
     site: Site,
     table: &mut [u32],
 ) -> Traced
-    requires { ⌜ Ready (now text) (now table) (site .count) (site .place) ⌝ }
+    requires { ⌜ Ready (now text) (now table) (site .count) (site .place) × Told options (now text) ⌝ }
     ensures { λ r. ⌜ Reads commands text options here site table parted r ⌝ }
 {
     if shapes::is_struct_at(commands, here) {
@@ -147,7 +148,7 @@ fn read_container(
     site: Site,
     table: &mut [u32],
 ) -> Traced
-    requires { ⌜ Ready (now text) (now table) (site .count) (site .place) ⌝ }
+    requires { ⌜ Ready (now text) (now table) (site .count) (site .place) × Told options (now text) ⌝ }
     requires { ⌜ isParted kind ≡ true ⌝ }
     ensures { λ r. ⌜ Reads commands text options at site table (container kind positions here) r ⌝ }
 {
@@ -185,7 +186,7 @@ fn read_parts(
     site: Site,
     table: &mut [u32],
 ) -> Traced
-    requires { ⌜ Ready (now text) (now table) (site .count) (site .place) ⌝ }
+    requires { ⌜ Ready (now text) (now table) (site .count) (site .place) × Told options (now text) ⌝ }
     requires { ⌜ isParted kind ≡ true ⌝ }
     ensures { λ r. ⌜ Reads commands text options start site table (parts kind positions) r ⌝ }
 {
@@ -212,7 +213,7 @@ fn read_fields(
     site: Site,
     table: &mut [u32],
 ) -> Traced
-    requires { ⌜ Ready (now text) (now table) (site .count) (site .place) ⌝ }
+    requires { ⌜ Ready (now text) (now table) (site .count) (site .place) × Told options (now text) ⌝ }
     requires { ⌜ isStruct kind ≡ true ⌝ }
     ensures { λ r. ⌜ Reads commands text options start site table (parts kind 0) r ⌝ }
 {
@@ -258,7 +259,7 @@ fn read_elements(
     site: Site,
     table: &mut [u32],
 ) -> Traced
-    requires { ⌜ Ready (now text) (now table) (site .count) (site .place) ⌝ }
+    requires { ⌜ Ready (now text) (now table) (site .count) (site .place) × Told options (now text) ⌝ }
     ensures { λ r. ⌜ Reads commands text options start site table (parts sequenceKind 0) r ⌝ }
 {
     let mut at = start;
@@ -289,7 +290,7 @@ fn read_entries(
     site: Site,
     table: &mut [u32],
 ) -> Traced
-    requires { ⌜ Ready (now text) (now table) (site .count) (site .place) ⌝ }
+    requires { ⌜ Ready (now text) (now table) (site .count) (site .place) × Told options (now text) ⌝ }
     ensures { λ r. ⌜ Reads commands text options start site table (parts mapKind 0) r ⌝ }
 {
     let mut i: usize = 0;
@@ -323,7 +324,7 @@ fn read_positions(
     site: Site,
     table: &mut [u32],
 ) -> Traced
-    requires { ⌜ Ready (now text) (now table) (site .count) (site .place) ⌝ }
+    requires { ⌜ Ready (now text) (now table) (site .count) (site .place) × Told options (now text) ⌝ }
     ensures { λ r. ⌜ Reads commands text options start site table (parts tupleKind positions) r ⌝ }
 {
     let mut i: u16 = 0;
@@ -359,7 +360,7 @@ fn read_part(
     site: Site,
     table: &mut [u32],
 ) -> Traced
-    requires { ⌜ Ready (now text) (now table) (site .count) (site .place) ⌝ }
+    requires { ⌜ Ready (now text) (now table) (site .count) (site .place) × Told options (now text) ⌝ }
     requires { ⌜ Unnamed step ⌝ }
     ensures { λ r. ⌜ Reads commands text options at site table (part step here) r ⌝ }
 {
@@ -389,7 +390,7 @@ fn read_variant(
     site: Site,
     table: &mut [u32],
 ) -> Traced
-    requires { ⌜ Ready (now text) (now table) (site .count) (site .place) ⌝ }
+    requires { ⌜ Ready (now text) (now table) (site .count) (site .place) × Told options (now text) ⌝ }
     requires { ⌜ Good (now text) name ⌝ }
     ensures { λ r. ⌜ Reads commands text options at site table (variant number name contents here) r ⌝ }
 {
@@ -427,7 +428,7 @@ fn read_contents(
     site: Site,
     table: &mut [u32],
 ) -> Traced
-    requires { ⌜ Ready (now text) (now table) (site .count) (site .place) ⌝ }
+    requires { ⌜ Ready (now text) (now table) (site .count) (site .place) × Told options (now text) ⌝ }
     ensures { λ r. ⌜ Reads commands text options at site table (inside contents here) r ⌝ }
 {
     match contents {

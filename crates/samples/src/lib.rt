@@ -1,5 +1,6 @@
 // Reads a batch, each record a value at the root (from_samples/mod.rs).
 ghost use mathlib.Core.Path.{_≡_};
+ghost use Rattle.shapes.specs.Leaf.{Told};
 ghost use Rattle.places.specs.Layout.{Sound};
 ghost use Rattle.leaves.specs.Leaves.{TracedAs};
 ghost use Rattle.samples.specs.Samples.{fromSamples};
@@ -11,13 +12,8 @@ use options::TracingOptions;
 const LEVELS: usize = 20;
 
 // All records of a batch at the root, which is the one place that there is at first.
-pub fn from_samples(
-    commands: &[u8],
-    text: &[u8],
-    options: TracingOptions,
-    table: &mut [u32],
-) -> Traced
-    requires { ⌜ Sound (now text) (now table) 1 ⌝ }
+fn read_records(commands: &[u8], text: &[u8], options: TracingOptions, table: &mut [u32]) -> Traced
+    requires { ⌜ Sound (now text) (now table) 1 × Told options (now text) ⌝ }
     ensures { λ r. ⌜ TracedAs text table 1 r
         (fromSamples (now (commands .entry)) (now (text .entry)) (options .word) (now (table .entry))) ⌝ }
 {
@@ -38,4 +34,18 @@ pub fn from_samples(
         }
     }
     Traced::Next(at, places)
+}
+
+// Tracer::from_samples. The text is looked at once, so that where it is ASCII no text in it is tested for UTF-8.
+pub fn from_samples(
+    commands: &[u8],
+    text: &[u8],
+    options: TracingOptions,
+    table: &mut [u32],
+) -> Traced
+    requires { ⌜ Sound (now text) (now table) 1 ⌝ }
+    ensures { λ r. ⌜ TracedAs text table 1 r
+        (fromSamples (now (commands .entry)) (now (text .entry)) (options .word) (now (table .entry))) ⌝ }
+{
+    read_records(commands, text, options.over(text::is_ascii(text)), table)
 }

@@ -1,10 +1,13 @@
 -- The value at an offset, where it is a primitive.
-use mathlib.Core.Bool.{Bool, not, _&&_}
+use mathlib.Core.Path.{_≡_}
+use mathlib.Core.Bool.{Bool, true, not, _&&_}
 use mathlib.Core.List.{List}
 use Prim.Native.Nat.{ℕ}
 use lib.Dec.{eqb, ltb}
 use Rattle.logic.specs.Test.{if_then_else_}
 use Rattle.datatype.specs.Codes.{null, uint32}
+use Rattle.options.specs.declared.TracingOptions.{TracingOptions}
+use Rattle.text.specs.Block.{isAscii}
 use Rattle.commands.specs.declared.Read.{Read}
 use Rattle.commands.specs.declared.Read.the-variants as R
 use Rattle.commands.specs.declared.Due.the-variants as D
@@ -14,6 +17,10 @@ use Rattle.shapes.specs.declared.Shape.the-variants as H
 use Rattle.shapes.specs.declared.Leaf.{Leaf}
 use Rattle.shapes.specs.declared.Leaf.the-variants as O
 use Rattle.shapes.specs.Shapes.{shapeAt}
+
+-- what the options tell of the text that goes with them is so
+abbrev pub Told : TracingOptions → List ℕ → Type 0
+Told options text = options .ascii ≡ true → isAscii text ≡ true
 
 -- the type of a value before text has its command's number, and a char is a UInt32
 abbrev pub charByte : ℕ

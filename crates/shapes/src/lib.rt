@@ -4,13 +4,14 @@ ghost use mathlib.Core.Path.{_≡_};
 ghost use lib.ListN.{getD};
 ghost use Rattle.text.specs.declared.Name.{Name};
 ghost use Rattle.text.specs.Name.{bytesOf};
+ghost use Rattle.text.specs.Utf8.{isUtf8};
 ghost use Rattle.chrono.specs.Text.{textType};
 ghost use Rattle.commands.specs.declared.Command.the-variants.{Text};
 ghost use Rattle.commands.specs.Commands.{readCommand, textByte};
 ghost use Rattle.model.specs.Kinds.{mapKind};
 ghost use Rattle.shapes.specs.Steps.{codeOf, nameOf, packedName, unpackedName, Inside};
 ghost use Rattle.shapes.specs.Shapes.{mapKindOf, shapeAt, valuePart, partAt, plainByte, plainAt, takesValue, beginsAt, sequenceAt, structAt, namedAt};
-ghost use Rattle.shapes.specs.Leaf.{plainKind, isOwnByte, leafAt};
+ghost use Rattle.shapes.specs.Leaf.{Told, plainKind, isOwnByte, leafAt};
 ghost use Rattle.shapes.specs.Field.{openerOf, dueOf, fieldAt};
 ghost use mathlib.Core.Bool.{true};
 use chrono::text_type;
@@ -318,14 +319,25 @@ pub fn is_own_byte(kind: u32) -> bool
     kind != UNKNOWN && kind < OWN_BYTES
 }
 
+// Whether a name is UTF-8, which need not be tested where the text is known to be ASCII.
+fn is_good(name: Name, text: &[u8], options: TracingOptions) -> bool
+    requires { ⌜ Inside (now text) name × Told options (now text) ⌝ }
+    ensures { λ r. ⌜ r ≡ isUtf8 (bytesOf (now (text .entry)) name) ⌝ }
+{
+    if options.ascii {
+        return true;
+    }
+    name.is_utf8(text)
+}
+
 // A text that is a value.
 fn text_leaf(commands: &[u8], text: &[u8], options: TracingOptions, at: usize) -> Leaf
-    requires { ⌜ getD (now commands) at 0 ≡ textByte ⌝ }
+    requires { ⌜ (getD (now commands) at 0 ≡ textByte) × Told options (now text) ⌝ }
     ensures { λ r. ⌜ r ≡ leafAt (options .word) (now (commands .entry)) (now (text .entry)) at ⌝ }
 {
     if is_named(commands, text, TEXT, at) {
         let name = commands::read_name(commands, at + 1);
-        if name.is_utf8(text) {
+        if is_good(name, text, options) {
             return Leaf::Value(false, text_kind(name, text, options), at + 5);
         }
     }
@@ -334,6 +346,7 @@ fn text_leaf(commands: &[u8], text: &[u8], options: TracingOptions, at: usize) -
 
 // The value at an offset, where it is a primitive.
 pub fn leaf_at(commands: &[u8], text: &[u8], options: TracingOptions, at: usize) -> Leaf
+    requires { ⌜ Told options (now text) ⌝ }
     ensures { λ r. ⌜ r ≡ leafAt (options .word) (now (commands .entry)) (now (text .entry)) at ⌝ }
 {
     if commands.len() <= at {

@@ -3,3 +3,4 @@ pub mod Blocks
 pub mod Compared
 pub mod Begins
 pub mod Ascii
+pub mod Dotless

@@ -3,7 +3,7 @@ use Prim.Native.Nat.{ℕ, zero, suc, _+_}
 use mathlib.Core.Bool.{Bool, false, not, _||_}
 use mathlib.Core.List.{List}
 use lib.Dec.{leb, eqb}
-use lib.ListN.{getD}
+use lib.ListN.{length, getD}
 
 -- one of so many indices, from one on, passes a test
 unfoldable pub anyFrom : (ℕ → Bool) → ℕ → ℕ → Bool
@@ -21,3 +21,7 @@ isByte byte bytes i = eqb (getD bytes i 0) byte
 -- the bytes of two slices differ there
 abbrev pub differ : List ℕ → List ℕ → ℕ → Bool
 differ a b i = not (eqb (getD a i 0) (getD b i 0))
+
+-- all bytes are below 80
+unfoldable pub isAscii : List ℕ → Bool
+isAscii bytes = not (anyFrom (isHigh bytes) 0 (length bytes))

@@ -5,7 +5,7 @@ ghost use mathlib.Core.Bool.{not};
 ghost use mathlib.Core.List.{[], _∷_};
 ghost use lib.ListN.{length, drop, replicate};
 ghost use Rattle.text.specs.Utf8.{_to_, table, dueIn, isUtf8};
-ghost use Rattle.text.specs.Block.{anyFrom, isHigh};
+ghost use Rattle.text.specs.Block.{anyFrom, isHigh, isAscii};
 ghost use Rattle.text.specs.Due.{dueOf, trailing, begins};
 
 // What is due after a first byte: a byte in a range, which is given by its ends, and then so many from 80 to BF;
@@ -27,6 +27,13 @@ fn are_ascii(bytes: &[u8], at: usize, count: usize) -> bool
         i += 1;
     }
     !high
+}
+
+// Whether all bytes are below 80: then each part of them is UTF-8.
+pub fn is_ascii(bytes: &[u8]) -> bool
+    ensures { λ r. ⌜ r ≡ isAscii (now (bytes .entry)) ⌝ }
+{
+    are_ascii(bytes, 0, bytes.len())
 }
 
 // An index before which all bytes are sequences of one byte. How far it goes is its own choice: by blocks, which is quick. The

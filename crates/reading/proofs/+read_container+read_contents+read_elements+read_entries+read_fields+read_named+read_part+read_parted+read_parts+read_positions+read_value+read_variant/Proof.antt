@@ -468,7 +468,7 @@ pub +read-container+read-contents+read-elements+read-entries+read-fields+read-na
     (λ c. search (whole-fits, needs))
     (λ c κs.
     let ready = field-ready _ _ _ _ (c .before .before .before .before .before .before .open-field .ensures .1) _ _ (c .before .before .child .given .1) in
-    (is-place _ _ _ _ ready, has-room _ _ _ _ ready))
+    (is-place _ _ _ _ ready, has-room _ _ _ _ ready, c .before .before .before .before .before .before .before .before .before .before .before .before .pre .1 .0 .1))
     (λ c.
     let is = c .before .before .before .before .before .before .before .before .before .before .before .before .before .before .before .before .pre .1 .1 in
     let inv = c .before .before .before .before .before .before .before .before .before .before .before .before .loop .inv in
@@ -503,7 +503,7 @@ pub +read-container+read-contents+read-elements+read-entries+read-fields+read-na
     let child = c .before .before .before .before .before .before .before .before .child .given .1 in
     let quick = c .before .before .before .before .before .past-quick .ensures in
     let same = quick-none _ _ _ _ _ _ _ _ (c .before .before .if1 .left) quick in
-    (search needs, (rw same (field-ready _ _ _ _ (field .1) _ _ child), name-inside _ _ _ _ _ _ _ _ _ is _ (inv .0) _ _ (field .0) _ _ child _ (c .before .read-name .ensures))))
+    (search needs, ((rw same (field-ready _ _ _ _ (field .1) _ _ child), c .before .before .before .before .before .before .before .before .before .before .before .before .before .before .before .before .before .before .pre .1 .0 .1), name-inside _ _ _ _ _ _ _ _ _ is _ (inv .0) _ _ (field .0) _ _ child _ (c .before .read-name .ensures))))
     (λ c. search needs)
     (λ c.
     let is = c .before .before .before .before .before .before .before .before .before .before .before .before .before .before .before .before .before .before .before .before .before .before .before .before .pre .1 .1 in

@@ -1,35 +1,24 @@
--- `from_samples`: from each record on the batch gives what it gives as a whole.
-use Prim.Native.Nat.{_-_}
+-- `from_samples`: the options are those that are given, and what they tell of the text is so.
 use borrow.Author.Needs.{needs}
-use mathlib.Core.Path.{_≡_}
-use lib.ListN.{length}
-use Rattle.places.specs.Layout.{Ready}
-use Rattle.samples.specs.Samples.{recordsAt, fromSamples}
-use Rattle.samples.specs.laws.Samples.{records-end, records-stopped, records-more, records-less, root-ready, root-sound}
-use Rattle.reading.specs.laws.Sound.{traced-ready}
+use mathlib.Core.Path.{_≡_, sym, _∙_}
+use mathlib.Core.List.{List}
+use Prim.Native.Nat.{ℕ}
+use Rattle.leaves.specs.Leaves.{Out}
+use Rattle.samples.specs.Samples.{fromSamples}
 use Rattle.samples.proofs.from_samples.Statement.{statement}
 use Rattle.samples.proofs.from_samples.Tie as tie
 
-abbrev Inv-loop : tie.InvT-loop
-Inv-loop commands text options table₀ at₀ places₀ table at places =
-    (recordsAt commands text (options .word) at places table ≡ fromSamples commands text (options .word) table₀) × Ready text table places 0 × (length table ≡ length table₀)
-
-abbrev μ-loop : tie.MeasureT-loop
-μ-loop commands text options table₀ at₀ places₀ table at places = length commands - at
+same-word : (commands text : List ℕ) (word given : ℕ) (t : List ℕ) (o : Out) → o ≡ fromSamples commands text word t → word ≡ given → o ≡ fromSamples commands text given t
+same-word commands text word given t o e w = rw w at e
 
 pub from-samples-spec : {M : Type 1} → statement M
 from-samples-spec =
     tie.close
     (tie.spec
-    Inv-loop
-    μ-loop
-    (λ c. (search needs, search (root-ready, needs), search needs))
     (λ c κs. search needs)
+    (λ c κs. search needs)
+    (λ c κs. (search needs, λ e. sym (c .before .before .is-ascii .ensures) ∙ sym (c .before .over .ensures .1) ∙ e))
     (λ c. search needs)
-    (λ c. search (records-less, needs))
-    (λ c. (search (records-more, needs), search (traced-ready, needs), search needs))
-    (λ c. search needs)
-    (λ c. search needs)
-    (λ c. (search (records-stopped, needs), search needs))
-    (λ c. search needs)
-    (λ c. (search (records-end, needs), search (root-sound, needs))))
+    (λ c.
+    let read = c .before .before .read-records .ensures in
+    (same-word _ _ _ _ _ _ (read .0) (c .before .before .before .before .over .ensures .0), read .1)))
