@@ -59,11 +59,29 @@ def step_code(step):
     return STEPS[step.to]
 
 
+def four(name, at):
+    return int.from_bytes(name[at:at + 4], "little")
+
+
+def mixed(*products):
+    """The upper 32 of the lower 48 bits of a sum of products."""
+    return sum(products) // 65536 % 2**32
+
+
 def tag(name):
-    """The low byte of the length and the last three bytes, the last first; of a shorter name its length."""
-    if len(name) < 3:
-        return len(name)
-    return int.from_bytes([len(name) % 256, *reversed(name[-3:])], "little")
+    """As the definition has it (crates/text/specs/Name.antt): of up to three bytes the length and all of them, of up to twelve the first,
+    middle and last four mixed, of a longer name all bytes in two lanes, the last eight once more."""
+    n = len(name)
+    if n == 0:
+        return 0
+    if n < 4:
+        return int.from_bytes([n, name[0], name[n // 2], name[n - 1]], "little")
+    if n <= 12:
+        return mixed(four(name, 0) * 506832829, four(name, n // 2 - 2) * 668265263, four(name, n - 4) * 374761393)
+    one, two = n, 0
+    for at in [*range(0, n - 7, 8), n - 8]:
+        one, two = mixed((one + four(name, at)) * 1540483477), mixed((two + four(name, at + 4)) * 1540483477)
+    return mixed((one + two) * 1540483477)
 
 
 @dataclass(slots=True, eq=False)
