@@ -69,7 +69,7 @@ def mixed(*products):
 
 
 def tag(name):
-    """As the definition has it (crates/text/specs/Name.antt): of up to three bytes the length and all of them, of up to twelve the first,
+    """As the definition has it (crates/text/specs/Tag.antt): of up to three bytes the length and all of them, of up to twelve the first,
     middle and last four mixed, of a longer name all bytes in two lanes, the last eight once more."""
     n = len(name)
     if n == 0:

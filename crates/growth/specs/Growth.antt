@@ -8,7 +8,8 @@ use Rattle.logic.specs.Test.{if_then_else_}
 use Rattle.logic.specs.Slices.{Slice, atEntry, atExit}
 use Rattle.refusal.specs.declared.Refusal.the-variants as F
 use Rattle.text.specs.declared.Name.{Name}
-use Rattle.text.specs.Name.{bytesOf, eqName, tagOf}
+use Rattle.text.specs.Name.{bytesOf, eqName}
+use Rattle.text.specs.Tag.{tagOf}
 use Rattle.words.specs.Word.{word, withWord}
 use Rattle.model.specs.Kinds.{sequenceKind, mapKind, tupleKind}
 use Rattle.model.specs.Tracing.{placeLimit}

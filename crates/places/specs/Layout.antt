@@ -3,7 +3,8 @@ use mathlib.Core.Path.{_≡_}
 use mathlib.Core.Bool.{true}
 use mathlib.Core.List.{List}
 use Prim.Native.Nat.{ℕ, _+_, _<_, _≤_}
-use Rattle.text.specs.Name.{bytesOf, tagOf}
+use Rattle.text.specs.Name.{bytesOf}
+use Rattle.text.specs.Tag.{tagOf}
 use Rattle.text.specs.Utf8.{isUtf8}
 use Rattle.words.specs.Word.{word, IsTable, IsRow}
 use Rattle.model.specs.Tracing.{placeLimit}

@@ -265,7 +265,7 @@ fn read_elements(
     let mut at = start;
     let mut grown = site;
     loop {
-        match shapes::value_part(commands, text, Step::Element, Due::ValueOrEnd, at) {
+        match shapes::element_part(commands, text, at) {
             Part::Ended(behind) => return Traced::Next(behind, grown.count),
             Part::Refused(refusal, offset) => return Traced::Refused(refusal, offset),
             Part::Step(step, value) => {

@@ -7,8 +7,10 @@ ghost use Rattle.text.specs.Name.{bytesOf};
 ghost use Rattle.text.specs.Utf8.{isUtf8};
 ghost use Rattle.chrono.specs.Text.{textType};
 ghost use Rattle.commands.specs.declared.Command.the-variants.{Text};
+ghost use Rattle.commands.specs.declared.Due.the-variants.{ValueOrEnd};
 ghost use Rattle.commands.specs.Commands.{readCommand, textByte};
 ghost use Rattle.model.specs.Kinds.{mapKind};
+ghost use Rattle.shapes.specs.declared.Step.the-variants.{Element};
 ghost use Rattle.shapes.specs.Steps.{codeOf, nameOf, packedName, unpackedName, Inside};
 ghost use Rattle.shapes.specs.Shapes.{mapKindOf, shapeAt, valuePart, partAt, plainByte, plainAt, takesValue, beginsAt, sequenceAt, structAt, namedAt};
 ghost use Rattle.shapes.specs.Leaf.{Told, plainKind, isOwnByte, leafAt};
@@ -420,6 +422,17 @@ pub fn value_part(commands: &[u8], text: &[u8], step: Step, due: Due, at: usize)
     } else {
         Part::Step(step, at)
     }
+}
+
+// An element of a sequence, or its end, which its byte tells.
+pub fn element_part(commands: &[u8], text: &[u8], at: usize) -> Part
+    ensures { λ r. ⌜ r ≡ valuePart (now (commands .entry)) Element at
+        (readCommand (now (commands .entry)) (now (text .entry)) at ValueOrEnd) ⌝ }
+{
+    if begins_at(commands, END, at) {
+        return Part::Ended(at + 1);
+    }
+    value_part(commands, text, Step::Element, Due::ValueOrEnd, at)
 }
 
 // A key or a value of a map, by turns.

@@ -1,4 +1,5 @@
 pub mod Name
+pub mod Tag
 pub mod Utf8
 pub mod Due
 pub mod Block

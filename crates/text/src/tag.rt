@@ -2,7 +2,7 @@
 ghost use mathlib.Core.Path.{_≡_};
 ghost use Prim.Native.Nat.{_+_, _≤_, _<_};
 ghost use lib.ListN.{length};
-ghost use Rattle.text.specs.Name.{tagLimit, joinedOf, fourOf, mixedOf, longTag, tagOf};
+ghost use Rattle.text.specs.Tag.{tagLimit, joinedOf, fourOf, mixedOf, longTag, tagOf};
 
 // A tag is below this.
 const TAG_LIMIT: u64 = 4294967296;

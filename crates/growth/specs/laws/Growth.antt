@@ -15,7 +15,8 @@ use Rattle.text.specs.declared.Name.{Name}
 use Rattle.words.specs.Word.{word, withWord, IsRow, IsTable, in-whole, in-each}
 use Rattle.words.specs.laws.Word.{word-same, word-other, length-with, with-swap}
 use Rattle.refusal.specs.declared.Refusal.{Refusal}
-use Rattle.text.specs.Name.{bytesOf, eqName, tagOf}
+use Rattle.text.specs.Name.{bytesOf, eqName}
+use Rattle.text.specs.Tag.{tagOf}
 use Rattle.text.specs.Utf8.{isUtf8}
 use Rattle.datatype.specs.Codes.{null}
 use Rattle.model.specs.Kinds.{sequenceKind, mapKind, tupleKind}

@@ -80,6 +80,7 @@ use Rattle.runs.proofs.past_same.Reads as past-same-reads
 use Rattle.commands.proofs.read_name.Reads as read-name-reads
 use Rattle.shapes.proofs.entry_part.Reads as entry-part-reads
 use Rattle.shapes.proofs.shape_of.Reads as shape-of-reads
+use Rattle.shapes.proofs.element_part.Reads as element-part-reads
 use Rattle.shapes.proofs.value_part.Reads as value-part-reads
 use Rattle.reading.proofs.+read_container+read_contents+read_elements+read_entries+read_fields+read_named+read_part+read_parted+read_parts+read_positions+read_value+read_variant.{
   statement,
@@ -212,7 +213,7 @@ abbrev contents-claims : ℕ → read-contents-lts.Claims
 contents-claims t = (observe-reads.Asked, observe-reads.Learnt, value-below t, read-value.Post, container-below t, read-container.Post)
 
 abbrev elements-claims : ℕ → read-elements-lts.Claims
-elements-claims t = (value-part-reads.Asked, value-part-reads.Learnt, part-below t, read-part.Post, past-same-reads.Asked, past-same-reads.Learnt)
+elements-claims t = (element-part-reads.Asked, element-part-reads.Learnt, part-below t, read-part.Post, past-same-reads.Asked, past-same-reads.Learnt)
 
 abbrev entries-claims : ℕ → read-entries-lts.Claims
 entries-claims t = (entry-part-reads.Asked, entry-part-reads.Learnt, part-below t, read-part.Post)
@@ -394,14 +395,14 @@ pub +read-container+read-contents+read-elements+read-entries+read-fields+read-na
     traced-first _ _ _ _ (read .1) _ _ next _ (c .before .before .before .before .before .before .before .before .before .before .before .before .loop .inv .1 .here))
     (λ c.
     let inv = c .before .before .before .before .before .before .before .before .before .before .before .before .before .loop .inv in
-    let part = element-part _ _ _ _ (c .before .before .before .before .before .before .before .before .before .before .before .before .value-part .ensures) in
+    let part = element-part _ _ _ _ (c .before .before .before .before .before .before .before .before .before .before .before .before .element-part .ensures) in
     let step = c .before .before .before .before .before .before .before .before .before .before .step .given .1 in
     let read = c .before .before .before .before .before .before .before .read-part .ensures in
     let next = c .before .before .before .behind2 .given .1 in
     parts-less _ _ _ _ _ _ _ _ _ _ _ _ (inv .0) _ part _ _ step _ _ (read .0) _ _ next _ (same-above _ _ _ _ _ (c .past-same .ensures)))
     (λ c.
     let inv = c .before .before .before .before .before .before .before .before .before .before .before .before .before .loop .inv in
-    let part = element-part _ _ _ _ (c .before .before .before .before .before .before .before .before .before .before .before .before .value-part .ensures) in
+    let part = element-part _ _ _ _ (c .before .before .before .before .before .before .before .before .before .before .before .before .element-part .ensures) in
     let step = c .before .before .before .before .before .before .before .before .before .before .step .given .1 in
     let read = c .before .before .before .before .before .before .before .read-part .ensures in
     let next = c .before .before .before .behind2 .given .1 in

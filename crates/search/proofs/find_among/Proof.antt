@@ -8,7 +8,8 @@ use Prim.Native.Nat.{ℕ, suc, _+_, _-_, _<_, _≤_}
 use native.Mathlib.Omega.{arith}
 use Rattle.logic.specs.Test.{if_then_else_}
 use Rattle.text.specs.declared.Name.{Name}
-use Rattle.text.specs.Name.{bytesOf, tagOf}
+use Rattle.text.specs.Name.{bytesOf}
+use Rattle.text.specs.Tag.{tagOf}
 use Rattle.words.specs.Word.{word, hasAmong}
 use Rattle.words.specs.laws.Word.{has-none}
 use Rattle.model.specs.Tracing.{placeLimit}

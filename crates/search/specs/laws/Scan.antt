@@ -9,7 +9,8 @@ use lib.Dec.{eqb, ltb}
 use Rattle.logic.specs.Test.{if_then_else_}
 use Rattle.logic.specs.laws.Test.{cases, both}
 use Rattle.text.specs.declared.Name.{Name}
-use Rattle.text.specs.Name.{bytesOf, eqName, tagOf}
+use Rattle.text.specs.Name.{bytesOf, eqName}
+use Rattle.text.specs.Tag.{tagOf}
 use Rattle.words.specs.Word.{word, IsRow, hasAmong}
 use Rattle.words.specs.laws.Word.{has-none}
 use Rattle.model.specs.Tracing.{placeLimit}

@@ -12,7 +12,8 @@ use Rattle.logic.specs.Turns.{Turn, done, turns}
 use Rattle.logic.specs.laws.Invariant.{Keeps, goes-on-within, ends-within, holds-within}
 use Rattle.text.specs.declared.Name.{Name}
 use Rattle.words.specs.Word.{word}
-use Rattle.text.specs.Name.{bytesOf, tagOf}
+use Rattle.text.specs.Name.{bytesOf}
+use Rattle.text.specs.Tag.{tagOf}
 use Rattle.text.specs.laws.Name.{eqName-true}
 use Rattle.text.specs.Utf8.{isUtf8}
 use Rattle.model.specs.Tracing.{placeLimit}

@@ -22,8 +22,10 @@ use Rattle.commands.specs.declared.Due.the-variants as D
 use Rattle.commands.specs.declared.Read.the-variants as R
 use Rattle.commands.specs.Commands.{Form, plain, counted, variant, countedVariant, textByte, fieldByte, nameAt, named, forms, formOf, operands, width, made, nameIn, stands, badName, badKey, endByte, readCommand}
 use Rattle.commands.specs.laws.Commands.{nameOf, Good, good, name-inside, read-made, read-misnamed}
+use Rattle.shapes.specs.declared.Step.the-variants as S
+use Rattle.shapes.specs.declared.Part.the-variants as P
 use Rattle.shapes.specs.Steps.{Inside}
-use Rattle.shapes.specs.Shapes.{tupleByte, sequenceByte, structByte, plainByte, takesValue, beginsAt, sequenceAt, structAt, namedAt}
+use Rattle.shapes.specs.Shapes.{valuePart, tupleByte, sequenceByte, structByte, plainByte, takesValue, beginsAt, sequenceAt, structAt, namedAt}
 
 -- ---- a value with no operands
 isBare : Form → Bool
@@ -106,6 +108,13 @@ pub end-read : (commands text : List ℕ) (at : ℕ) (due : Due) (flag : Bool) �
     flag ≡ beginsAt commands endByte at → flag ≡ true → readCommand commands text at due ≡ R.Command C.End (at + 1)
 unfolding formOf operands made nameIn badName
 end-read commands text at due flag s k f e = begun commands endByte at flag f e λ there is. read-made commands text at due endByte is (omega arith) (omega arith) s refl k
+
+-- the end of a sequence
+pub end-part : (commands text : List ℕ) (at : ℕ) (flag : Bool) → flag ≡ beginsAt commands endByte at → flag ≡ true →
+    P.Ended (at + 1) ≡ valuePart commands S.Element at (readCommand commands text at D.ValueOrEnd)
+unfolding if_then_else_
+end-part commands text at flag f e =
+    begun commands endByte at flag f e λ there is. rw (end-read commands text at D.ValueOrEnd flag refl refl f e, is) refl
 
 -- ---- a command with a name
 module _ (commands text : List ℕ) (byte at : ℕ) (flag : Bool) (f : flag ≡ namedAt commands text byte at) (e : flag ≡ true) where

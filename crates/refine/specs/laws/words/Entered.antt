@@ -9,7 +9,8 @@ use lib.Dec.{eqb, ltb}
 use borrow.Author.Tests.{eqb-true, eqb-false, eq-eqb, lt-ltb, ltb-true, ltb-false}
 use Rattle.logic.specs.Test.{if_then_else_}
 use Rattle.logic.specs.laws.Test.{cases}
-use Rattle.text.specs.Name.{bytesOf, tagOf}
+use Rattle.text.specs.Name.{bytesOf}
+use Rattle.text.specs.Tag.{tagOf}
 use Rattle.words.specs.Word.{placeWords, IsTable, in-each, word, withWord}
 use Rattle.words.specs.laws.Word.{word-same, word-other, length-with}
 use Rattle.model.specs.Kinds.{Step, position, same}

@@ -1,6 +1,6 @@
 -- `tag::four` reads four bytes.
 use borrow.Author.Needs.{needs}
-use Rattle.text.specs.Name.{fourOf}
+use Rattle.text.specs.Tag.{fourOf}
 use Rattle.text.proofs.tag.four.Statement.{statement}
 use Rattle.text.proofs.tag.four.Tie as tie
 

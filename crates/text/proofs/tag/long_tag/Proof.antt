@@ -4,7 +4,7 @@ use mathlib.Core.Path.{_≡_, refl, _∙_}
 use Prim.Native.Nat.{ℕ, suc, _+_, _*_, _-_, _/_, _%_, _≤_, _<_}
 use native.Mathlib.Omega.{arith}
 use mathlib.Core.List.{List}
-use Rattle.text.specs.Name.{tagLimit, fourOf, mixedOf, laneOf, longTag}
+use Rattle.text.specs.Tag.{tagLimit, fourOf, mixedOf, laneOf, longTag}
 use Rattle.text.proofs.tag.long_tag.Statement.{statement}
 use Rattle.text.proofs.tag.long_tag.Tie as tie
 

@@ -2,7 +2,7 @@
 use borrow.Author.Needs.{needs}
 use mathlib.Core.Path.{refl}
 use native.Mathlib.Omega.{arith}
-use Rattle.text.specs.Name.{mixedOf}
+use Rattle.text.specs.Tag.{mixedOf}
 use Rattle.text.proofs.tag.mixed.Statement.{statement}
 use Rattle.text.proofs.tag.mixed.Tie as tie
 

@@ -7,7 +7,7 @@ use native.Mathlib.Omega.{arith}
 use mathlib.Core.List.{List}
 use lib.ListN.{length, getD}
 use Rattle.logic.specs.Test.{if_then_else_}
-use Rattle.text.specs.Name.{firstMixer, middleMixer, lastMixer, tagBits, joinedOf, fourOf, shortTag, middleTag, longTag, tagOf}
+use Rattle.text.specs.Tag.{firstMixer, middleMixer, lastMixer, tagBits, joinedOf, fourOf, shortTag, middleTag, longTag, tagOf}
 use Rattle.text.proofs.tag.tag_of.Statement.{statement}
 use Rattle.text.proofs.tag.tag_of.Tie as tie
 
