@@ -8,28 +8,25 @@ use borrow.Author.Tests.{lt-ltb, le-ltb, le-leb, eq-eqb, ne-eqb}
 use lib.Dec.{ltb}
 use lib.ListN.{getD, set}
 use Rattle.logic.specs.Test.{if_then_else_}
-use Rattle.words.specs.Word.{tablePlaces, placeWords, tableWords, linksFrom, linksEnd, linkLimit, IsRow, isLink, hasWord, rowWord, indexOf, partOf, withPart, word, withWord}
+use Rattle.words.specs.Word.{placeWords, linksFrom, linksEnd, linkLimit, IsRow, isLink, hasWord, rowWord, planeIndex, indexOf, partOf, withPart, word, withWord}
 use Rattle.words.specs.laws.Word.{link-from, link-end, link-row, has-word}
 
 -- ---- a whole word
-pub index-before : (p f : ℕ) → f < linksFrom → f * tablePlaces + p ≡ indexOf p f
-unfolding indexOf rowWord if_then_else_
-index-before p f l = rw (lt-ltb f linksFrom l) refl
+pub index-before : (p f i : ℕ) → f < linksFrom → i ≡ planeIndex f p → i ≡ indexOf p f
+unfolding rowWord if_then_else_
+index-before p f i l e = rw (lt-ltb f linksFrom l) e
 
-pub index-behind : (p f : ℕ) → linksFrom ≤ f → isLink f ≡ false → (f - (linksEnd - linksFrom) / 2) * tablePlaces + p ≡ indexOf p f
-unfolding indexOf rowWord if_then_else_
-index-behind p f l e =
+pub index-behind : (p f i : ℕ) → linksFrom ≤ f → isLink f ≡ false → i ≡ planeIndex (f - (linksEnd - linksFrom) / 2) p → i ≡ indexOf p f
+unfolding rowWord if_then_else_
+index-behind p f i l e h =
     let d : ltb f linksEnd ≡ false = rw (le-leb linksFrom f l) at e in
-    rw (le-ltb f linksFrom l, d) refl
+    rw (le-ltb f linksFrom l, d) h
 
 -- ---- a link
-pub index-link : (p f : ℕ) → IsRow p → isLink f ≡ true → ((linksFrom + (f - linksFrom) / 2) * tablePlaces + p ≡ indexOf p f) × ((linksFrom + (f - linksFrom) / 2) * tablePlaces + p < tableWords)
-unfolding indexOf
-index-link p f r e =
-    let l : linksFrom ≤ f = link-from f e in
-    let m : f < linksEnd = link-end f e in
-    let (_, q) = link-row f l m in
-    (rw q refl, omega arith)
+pub index-link : (p f i : ℕ) → isLink f ≡ true → i ≡ planeIndex (linksFrom + (f - linksFrom) / 2) p → i ≡ indexOf p f
+index-link p f i e h =
+    let (_, q) = link-row f (link-from f e) (link-end f e) in
+    rw q h
 
 -- stored in the half that it is
 module _ (f w : ℕ) (l : isLink f ≡ true) where

@@ -2,15 +2,15 @@
 use mathlib.Core.Path.{_≡_, refl, sym, _∙_}
 use mathlib.Core.Bool.{Bool, true, false, _&&_, false≢true}
 use mathlib.Core.List.{List}
-use Prim.Native.Nat.{ℕ, _+_, _*_, _/_, _%_, _<_, _≤_}
+use Prim.Native.Nat.{ℕ, _+_, _-_, _*_, _/_, _%_, _<_, _≤_}
 use native.Mathlib.Omega.{arith}
-use borrow.Author.Tests.{lt-ltb, le-ltb, le-leb, lt-leb, ltb-true, ltb-false, eqb-true, eqb-false}
+use borrow.Author.Tests.{lt-ltb, le-ltb, le-leb, lt-leb, ltb-true, ltb-false, eqb-true, eqb-false, eq-eqb, ne-eqb}
 use lib.Dec.{eqb, leb, ltb}
 use lib.ListN.{length, getD, set, length-set}
 use lib.Seq.{getD-set-same, getD-set-other}
 use Rattle.logic.specs.Test.{if_then_else_}
 use Rattle.logic.specs.laws.Test.{cases}
-use Rattle.words.specs.Word.{tablePlaces, tableWords, rowWords, IsTable, rowWord, zeros, zeroedWhere, ordersFrom, ordersEnd, zeroedIn, clearedIn, clearedTo}
+use Rattle.words.specs.Word.{tablePlaces, tableWords, rowWords, planeWords, gapWords, IsTable, rowWord, zeros, zeroedWhere, ordersFrom, ordersEnd, zeroedIn, clearedIn, clearedTo}
 use Rattle.words.specs.laws.Word.{where-length, where-at, where-is, where-zeros}
 
 -- ---- from an index on
@@ -48,65 +48,72 @@ in-all t u n e =
     e ∙ where-zeros (λ i. leb 0 i && ltb i tableWords) t n (λ i l z.
     absurd (false≢true (sym z ∙ rw (le-leb 0 i (omega arith), lt-ltb i tableWords l) refl)))
 
--- ---- plane by plane
--- how many words of a plane: 7 and 8 are those with links that putting children in order stores
-module _ (k n : ℕ) where
-  pub in-orders : 7 ≤ k → k < 9 → tablePlaces ≡ clearedIn k n
-  unfolding clearedIn rowWord if_then_else_
-  in-orders l m = rw (le-leb 7 k l, lt-ltb k 9 m) refl
-
-  pub in-before : k < 7 → n ≡ clearedIn k n
-  unfolding clearedIn rowWord if_then_else_
-  in-before l = rw (lt-leb 7 k l) refl
-
-  pub in-behind : 9 ≤ k → n ≡ clearedIn k n
-  unfolding clearedIn rowWord if_then_else_
-  in-behind l = rw (le-leb 7 k (omega arith), le-ltb k 9 l) refl
-
-  pub in-inside : n ≤ tablePlaces → clearedIn k n ≤ tablePlaces
+-- ---- gap by gap, each with the plane behind it
+-- how many words of it: the planes 7 and 8, behind the gaps 6 and 7, are those with links that putting children in order stores
+module _ (k n : ℕ) (m : n ≤ tablePlaces) (b : k < rowWords) where
+  pub in-last : k ≡ rowWords - 1 → (gapWords ≡ clearedIn k n) × (k * planeWords + gapWords ≤ tableWords)
   unfolding clearedIn if_then_else_
-  in-inside l = cases (leb (rowWord ordersFrom) k && ltb k (rowWord ordersEnd)) (λ a. rw a (omega arith)) (λ a. rw a l)
+  in-last e = (rw (eq-eqb k (rowWords - 1) e) refl, omega arith)
+
+  module _ (e : k ≡ rowWords - 1 → ⊥) where
+    pub in-orders : 6 ≤ k → k < 8 → (planeWords ≡ clearedIn k n) × (k * planeWords + planeWords ≤ tableWords)
+    unfolding clearedIn rowWord if_then_else_
+    in-orders c d = (rw (ne-eqb k (rowWords - 1) e, le-leb 7 (k + 1) (omega arith), lt-ltb (k + 1) 9 (omega arith)) refl, omega (arith, e))
+
+    pub in-before : k < 6 → (gapWords + n ≡ clearedIn k n) × (k * planeWords + (gapWords + n) ≤ tableWords)
+    unfolding clearedIn rowWord if_then_else_
+    in-before c = (rw (ne-eqb k (rowWords - 1) e, lt-leb 7 (k + 1) (omega arith)) refl, omega (arith, e))
+
+    pub in-behind : 8 ≤ k → (gapWords + n ≡ clearedIn k n) × (k * planeWords + (gapWords + n) ≤ tableWords)
+    unfolding clearedIn rowWord if_then_else_
+    in-behind c = (rw (ne-eqb k (rowWords - 1) e, le-leb 7 (k + 1) (omega arith), le-ltb (k + 1) 9 (omega arith)) refl, omega (arith, e))
+
+in-inside : (k n : ℕ) → n ≤ tablePlaces → clearedIn k n ≤ planeWords
+unfolding clearedIn if_then_else_
+in-inside k n l =
+    cases (eqb k (rowWords - 1)) (λ a. rw a (omega arith))
+    (λ a. cases (leb (rowWord ordersFrom) (k + 1) && ltb (k + 1) (rowWord ordersEnd)) (λ c. rw (a, c) (omega arith)) (λ c. rw (a, c) (omega arith)))
 
 -- the word at an index is zeroed once so many planes are done
 abbrev isDone : ℕ → ℕ → ℕ → Bool
-isDone n k i = ltb (i / tablePlaces) k && ltb (i % tablePlaces) (clearedIn (i / tablePlaces) n)
+isDone n k i = ltb (i / planeWords) k && ltb (i % planeWords) (clearedIn (i / planeWords) n)
 
 unfoldable pub planesTo : List ℕ → ℕ → ℕ → List ℕ
 planesTo t n k = zeroedWhere (isDone n k) t
 
 -- a word once one more plane is done
 turn : (n k i x : ℕ) → n ≤ tablePlaces →
-    (if leb (k * tablePlaces) i && ltb i (k * tablePlaces + clearedIn k n) then 0 else if isDone n k i then 0 else x) ≡ (if isDone n (k + 1) i then 0 else x)
+    (if leb (k * planeWords) i && ltb i (k * planeWords + clearedIn k n) then 0 else if isDone n k i then 0 else x) ≡ (if isDone n (k + 1) i then 0 else x)
 unfolding if_then_else_
 turn n k i x l =
-    let q : ℕ = i / tablePlaces in
-    let p : ℕ = i % tablePlaces in
-    let h : clearedIn k n ≤ tablePlaces = in-inside k n l in
+    let q : ℕ = i / planeWords in
+    let p : ℕ = i % planeWords in
+    let h : clearedIn k n ≤ planeWords = in-inside k n l in
     cases (ltb q k)
-    (λ a. let b : q < k = ltb-true q k a in rw (lt-leb (k * tablePlaces) i (omega arith), a, lt-ltb q (k + 1) (omega arith)) refl)
+    (λ a. let b : q < k = ltb-true q k a in rw (lt-leb (k * planeWords) i (omega arith), a, lt-ltb q (k + 1) (omega arith)) refl)
     (λ a.
     let b : k ≤ q = ltb-false q k a in
-    rw (le-leb (k * tablePlaces) i (omega arith), a) (cases (eqb q k)
+    rw (le-leb (k * planeWords) i (omega arith), a) (cases (eqb q k)
     (λ c.
     let f : q ≡ k = eqb-true q k c in
     rw (lt-ltb q (k + 1) (omega arith), f) (cases (ltb p (clearedIn k n))
-    (λ d. rw (d, lt-ltb i (k * tablePlaces + clearedIn k n) (omega (arith, ltb-true))) refl)
-    (λ d. rw (d, le-ltb i (k * tablePlaces + clearedIn k n) (omega (arith, ltb-false))) refl)))
+    (λ d. rw (d, lt-ltb i (k * planeWords + clearedIn k n) (omega (arith, ltb-true))) refl)
+    (λ d. rw (d, le-ltb i (k * planeWords + clearedIn k n) (omega (arith, ltb-false))) refl)))
     (λ c.
     let f : q ≡ k → ⊥ = eqb-false q k c in
-    rw (le-ltb i (k * tablePlaces + clearedIn k n) (omega arith), le-ltb q (k + 1) (omega arith)) refl)))
+    rw (le-ltb i (k * planeWords + clearedIn k n) (omega arith), le-ltb q (k + 1) (omega arith)) refl)))
 
 module _ (t : List ℕ) (n : ℕ) where
   pub planes-none : t ≡ planesTo t n 0
   unfolding planesTo if_then_else_
-  planes-none = where-is (isDone n 0) t t refl (λ i _. rw (le-ltb (i / tablePlaces) 0 (omega arith)) refl)
+  planes-none = where-is (isDone n 0) t t refl (λ i _. rw (le-ltb (i / planeWords) 0 (omega arith)) refl)
 
-  pub planes-more : (k m : ℕ) (u v : List ℕ) → n ≤ tablePlaces → u ≡ planesTo t n k → m ≡ clearedIn k n → v ≡ zeroedIn u (k * tablePlaces) (k * tablePlaces + m) →
+  pub planes-more : (k m : ℕ) (u v : List ℕ) → n ≤ tablePlaces → u ≡ planesTo t n k → m ≡ clearedIn k n → v ≡ zeroedIn u (k * planeWords) (k * planeWords + m) →
       v ≡ planesTo t n (k + 1)
   unfolding planesTo zeroedIn
   planes-more k m u v l e r d =
       let z : List ℕ = planesTo t n k in
-      let now : ℕ → Bool = λ i. leb (k * tablePlaces) i && ltb i (k * tablePlaces + clearedIn k n) in
+      let now : ℕ → Bool = λ i. leb (k * planeWords) i && ltb i (k * planeWords + clearedIn k n) in
       rw (d, e, r) (where-is (isDone n (k + 1)) t (zeroedWhere now z) (where-length now z ∙ where-length (isDone n k) t) (λ i _.
       where-at now z i ∙ rw (where-at (isDone n k) t i) (turn n k i (getD t i 0) l)))
 
@@ -114,4 +121,4 @@ module _ (t : List ℕ) (n : ℕ) where
   unfolding planesTo clearedTo if_then_else_
   planes-all k u table l e =
       rw e (where-is _ t (planesTo t n k) (where-length (isDone n k) t) (λ i m.
-      where-at (isDone n k) t i ∙ rw (lt-ltb (i / tablePlaces) k (omega arith)) refl))
+      where-at (isDone n k) t i ∙ rw (lt-ltb (i / planeWords) k (omega arith)) refl))

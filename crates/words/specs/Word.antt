@@ -64,10 +64,22 @@ rowWord field =
     else if ltb field linksEnd then linksFrom + (field - linksFrom) / 2
     else field - (linksEnd - linksFrom) / 2
 
--- where that stands. The words of all places at one number of the row stand one after another, a plane, so that the tags of eight places
--- can be looked at at a time.
-unfoldable pub indexOf : ℕ → ℕ → ℕ
-indexOf place field = rowWord field * tablePlaces + place
+-- Where that stands. The words of all places at one number of the row stand one after another, a plane, so that the tags of eight places
+-- can be looked at at a time. The planes stand so many words apart, with the words of number 0 between them, that many at a time: were they
+-- 1,024 apart, all words of a place would compete for the same few lines of a processor's cache.
+abbrev pub planeWords : ℕ
+planeWords = 1088
+
+abbrev pub gapWords : ℕ
+gapWords = 64
+
+unfoldable pub planeIndex : ℕ → ℕ → ℕ
+planeIndex row place =
+    if eqb row 0 then place / gapWords * planeWords + place % gapWords
+    else (row - 1) * planeWords + gapWords + place
+
+abbrev pub indexOf : ℕ → ℕ → ℕ
+indexOf place field = planeIndex (rowWord field) place
 
 -- of the two links in a word, the one with the even number is the lower half
 abbrev pub isLower : ℕ → Bool
@@ -126,11 +138,14 @@ ordersEnd = 12
 abbrev pub isOrder : ℕ → Bool
 isOrder field = leb ordersFrom field && ltb field ordersEnd
 
--- how many words of a plane are zeroed with the places below `count`: all where putting children in order stores links, for it is not shown
--- to keep to those places
+-- how many words are zeroed with the places below `count`, from where a gap starts and then a plane: the gap, and of the plane those places,
+-- but all of it where putting children in order stores links, for it is not shown to keep to those places. Behind the last gap is no plane.
 unfoldable pub clearedIn : ℕ → ℕ → ℕ
-clearedIn plane count = if leb (rowWord ordersFrom) plane && ltb plane (rowWord ordersEnd) then tablePlaces else count
+clearedIn gap count =
+    if eqb gap (rowWords - 1) then gapWords
+    else if leb (rowWord ordersFrom) (gap + 1) && ltb (gap + 1) (rowWord ordersEnd) then planeWords
+    else gapWords + count
 
--- the table with the places below `count` zeroed, and those planes
+-- the table with the places below `count` zeroed, the gaps, and those planes
 unfoldable pub clearedTo : List ℕ → ℕ → List ℕ
-clearedTo table count = zeroedWhere (λ i. ltb (i % tablePlaces) (clearedIn (i / tablePlaces) count)) table
+clearedTo table count = zeroedWhere (λ i. ltb (i % planeWords) (clearedIn (i / planeWords) count)) table

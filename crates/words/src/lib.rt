@@ -3,18 +3,22 @@
 // another, a plane, so that the tags of eight places can be looked at at a time.
 ghost use mathlib.Core.Path.{_≡_};
 ghost use mathlib.Core.Bool.{true, false};
-ghost use Prim.Native.Nat.{_+_, _<_, _≤_};
+ghost use Prim.Native.Nat.{_+_, _*_, _<_, _≤_};
 ghost use lib.ListN.{length};
-ghost use Rattle.words.specs.Word.{tablePlaces, tableWords, placeWords, linkLimit, IsTable, IsRow, isLink, indexOf};
+ghost use Rattle.words.specs.Word.{tablePlaces, tableWords, rowWords, planeWords, placeWords, linkLimit, IsTable, IsRow, isLink};
+ghost use Rattle.words.specs.Word.{planeIndex, indexOf};
 ghost use Rattle.words.specs.Word.{partOf, withPart, word, withWord, hasAmong, zeros, zeroedIn, clearedIn, clearedTo};
 
 // So many words: a row for each place.
 pub const WORDS: usize = 16384;
 
-// Words of a plane, one for each place.
-const PLACES: usize = 1024;
+// Words of a gap and the plane behind it, which has one for each place; and those of a gap, which has the words of number 0 of so many
+// places. Without gaps all words of a place would compete for the same few lines of a processor's cache.
+const PLANE: usize = 1088;
 
-// Words of a row, and so planes.
+const GAP: usize = 64;
+
+// Words of a row, and so gaps.
 const ROW_WORDS: usize = 16;
 
 // The first link, and the first word behind the links.
@@ -22,13 +26,27 @@ const LINKS_FROM: usize = 6;
 
 const LINKS_END: usize = 14;
 
-// The first plane with links that putting children in order stores, and the first behind those planes.
-const ORDERS_FROM: usize = 7;
+// The gap before the first plane with links that putting children in order stores, and the first gap behind those planes.
+const ORDERS_FROM: usize = 6;
 
-const ORDERS_END: usize = 9;
+const ORDERS_END: usize = 8;
+
+// The gap that no plane follows.
+const LAST_GAP: usize = 15;
 
 // A link is below this. A word with links is the lower one, and this times the upper one.
 const LINK_LIMIT: u32 = 65536;
+
+// Where a word of the row stands.
+fn plane_index(row: usize, place: usize) -> usize
+    requires { ⌜ IsRow place × (row < rowWords) ⌝ }
+    ensures { λ r. ⌜ (r ≡ planeIndex row place) × (r < tableWords) ⌝ }
+{
+    if row == 0 {
+        return place / GAP * PLANE + place % GAP;
+    }
+    (row - 1) * PLANE + GAP + place
+}
 
 // Where a whole word stands. Behind the links numbers run ahead, for two links share a word.
 fn whole_index(place: usize, field: usize) -> usize
@@ -36,9 +54,9 @@ fn whole_index(place: usize, field: usize) -> usize
     ensures { λ r. ⌜ (r ≡ indexOf place field) × (r < tableWords) ⌝ }
 {
     if field < LINKS_FROM {
-        return field * PLACES + place;
+        return plane_index(field, place);
     }
-    (field - (LINKS_END - LINKS_FROM) / 2) * PLACES + place
+    plane_index(field - (LINKS_END - LINKS_FROM) / 2, place)
 }
 
 // Where the word stands that has a link in it.
@@ -46,7 +64,7 @@ fn link_index(place: usize, field: usize) -> usize
     requires { ⌜ IsRow place × (isLink field ≡ true) ⌝ }
     ensures { λ r. ⌜ (r ≡ indexOf place field) × (r < tableWords) ⌝ }
 {
-    (LINKS_FROM + (field - LINKS_FROM) / 2) * PLACES + place
+    plane_index(LINKS_FROM + (field - LINKS_FROM) / 2, place)
 }
 
 // A whole word of a place.
@@ -140,27 +158,30 @@ pub fn clear(table: &mut [u32])
     zero_words(table, 0, WORDS);
 }
 
-// How many words of a plane are zeroed with the places below `count`: all where putting children in order stores links,
-// for it is not shown to keep to those places.
-fn cleared_in(plane: usize, count: usize) -> usize
-    requires { ⌜ count ≤ tablePlaces ⌝ }
-    ensures { λ r. ⌜ (r ≡ clearedIn plane count) × (r ≤ tablePlaces) ⌝ }
+// How many words are zeroed with the places below `count` from where a gap starts: the gap, and those places of the plane behind
+// it, but all where putting children in order stores links, for it is not shown to keep to those places. Behind the last gap is no plane.
+fn cleared_in(gap: usize, count: usize) -> usize
+    requires { ⌜ (gap < rowWords) × (count ≤ tablePlaces) ⌝ }
+    ensures { λ r. ⌜ (r ≡ clearedIn gap count) × (gap * planeWords + r ≤ tableWords) ⌝ }
 {
-    if ORDERS_FROM <= plane && plane < ORDERS_END {
-        return PLACES;
+    if gap == LAST_GAP {
+        return GAP;
     }
-    count
+    if ORDERS_FROM <= gap && gap < ORDERS_END {
+        return PLANE;
+    }
+    GAP + count
 }
 
-// Zeroes the words of the places below `count`, and the planes whole in which putting children in order stores links.
+// Zeroes the words of the places below `count`, the gaps, and the planes whole in which putting children in order stores links.
 pub fn clear_places(table: &mut [u32], count: usize)
     requires { ⌜ IsTable (now table) × (count ≤ tablePlaces) ⌝ }
     ensures { λ _. ⌜ now (table .exit) ≡ clearedTo (now (table .entry)) count ⌝ }
 {
-    let mut plane = 0;
-    while plane < ROW_WORDS {
-        let from = plane * PLACES;
-        zero_words(table, from, from + cleared_in(plane, count));
-        plane += 1;
+    let mut gap = 0;
+    while gap < ROW_WORDS {
+        let from = gap * PLANE;
+        zero_words(table, from, from + cleared_in(gap, count));
+        gap += 1;
     }
 }

@@ -12,6 +12,5 @@ link-index-spec =
     (tie.spec
     (λ c. search (link-from, needs))
     (λ c. search needs)
-    (λ c. omega (arith, link-end))
-    (λ c. omega (arith, link-end))
-    (λ c. index-link _ _ (search needs) (search needs)))
+    (λ c κs. (search needs, omega (arith, link-end)))
+    (λ c. (search (index-link, needs), search needs)))

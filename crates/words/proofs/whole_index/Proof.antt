@@ -8,11 +8,9 @@ pub whole-index-spec : {M : Type 1} → statement M
 whole-index-spec =
     tie.close
     (tie.spec
+    (λ c κs. search needs)
+    (λ c. (search (index-before, needs), search needs))
     (λ c. search needs)
     (λ c. search needs)
-    (λ c. search (index-before, needs))
-    (λ c. search needs)
-    (λ c. search needs)
-    (λ c. search needs)
-    (λ c. search needs)
-    (λ c. search (index-behind, needs)))
+    (λ c κs. search needs)
+    (λ c. (search (index-behind, needs), search needs)))

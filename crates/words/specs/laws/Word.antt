@@ -1,7 +1,7 @@
 -- Laws of the words of a table: what is read after a store, what stores in turn leave, a table of zeros, and places zeroed. None says
 -- where a word stands.
 use mathlib.Core.Path.{_≡_, refl, ap, sym, _∙_}
-use mathlib.Core.Bool.{Bool, true, false, _&&_}
+use mathlib.Core.Bool.{Bool, true, false, _&&_, true≢false}
 use mathlib.Core.List.{List, [], _∷_}
 use Prim.Native.Nat.{ℕ, zero, suc, _+_, _-_, _*_, _/_, _%_, _<_, _≤_}
 use native.Mathlib.Omega.{arith}
@@ -11,7 +11,7 @@ use lib.ListN.{length, getD, set, replicate, length-set, length-replicate}
 use lib.Seq.{getD-set-same, getD-set-other, set-getD, set-comm, ext-getD}
 use Rattle.logic.specs.Test.{if_then_else_}
 use Rattle.logic.specs.laws.Test.{cases, both, neither}
-use Rattle.words.specs.Word.{tablePlaces, placeWords, tableWords, rowWords, linksFrom, linksEnd, linkLimit, IsTable, IsRow, HasRoom, in-whole, in-each, isLink, isLower, hasWord, rowWord, indexOf, partOf, withPart, word, withWord, hasAmong, zeros, zeroedWhere, ordersFrom, ordersEnd, isOrder, clearedIn, clearedTo}
+use Rattle.words.specs.Word.{tablePlaces, placeWords, tableWords, rowWords, linksFrom, linksEnd, linkLimit, IsTable, IsRow, HasRoom, in-whole, in-each, isLink, isLower, hasWord, rowWord, planeWords, gapWords, planeIndex, indexOf, partOf, withPart, word, withWord, hasAmong, zeros, zeroedWhere, ordersFrom, ordersEnd, isOrder, clearedIn, clearedTo}
 
 -- ---- the word of a row that a place's word is, or stands in
 pub link-from : (f : ℕ) → isLink f ≡ true → linksFrom ≤ f
@@ -129,25 +129,47 @@ pub has-word : (p f : ℕ) → IsRow p → f < placeWords → hasWord p f ≡ tr
 unfolding hasWord
 has-word p f l b = rw (lt-ltb p tablePlaces l, lt-ltb f placeWords b)
 
+-- in the gaps, and in the planes
+pub index-gap : (p : ℕ) → p / gapWords * planeWords + p % gapWords ≡ planeIndex 0 p
+unfolding planeIndex if_then_else_
+index-gap p = refl
+
+pub index-plane : (k p : ℕ) → (k ≡ 0 → ⊥) → (k - 1) * planeWords + gapWords + p ≡ planeIndex k p
+unfolding planeIndex if_then_else_
+index-plane k p n = rw (ne-eqb k 0 n) refl
+
+-- a word of the row by whether it stands in a gap
+by-row : {P : Type 0} (k p : ℕ) → (k ≡ 0 → planeIndex k p ≡ p / gapWords * planeWords + p % gapWords → P) →
+    ((k ≡ 0 → ⊥) → planeIndex k p ≡ (k - 1) * planeWords + gapWords + p → P) → P
+by-row k p gap plane =
+    cases (eqb k 0)
+    (λ a. let z : k ≡ 0 = eqb-true k 0 a in gap z (rw z (sym (index-gap p))))
+    (λ a. let n = eqb-false k 0 a in plane n (sym (index-plane k p n)))
+
+pub plane-inside : (k p : ℕ) → IsRow p → k < rowWords → planeIndex k p < tableWords
+plane-inside k p l m = by-row k p (λ z e. omega arith) (λ n e. omega arith)
+
+plane-own : (k j p q : ℕ) → IsRow p → IsRow q → planeIndex j q ≡ planeIndex k p → (q ≡ p) × (j ≡ k)
+plane-own k j p q l m i =
+    by-row k p
+    (λ z e. by-row j q (λ y d. (omega arith, omega arith)) (λ n d. absurd (omega arith)))
+    (λ n e. by-row j q (λ y d. absurd (omega arith)) (λ x d. (omega arith, omega arith)))
+
 -- of a word that there is
 module _ (p f : ℕ) (e : hasWord p f ≡ true) where
   index-inside : indexOf p f < tableWords
-  unfolding hasWord indexOf
+  unfolding hasWord
   index-inside =
       both (ltb p tablePlaces) (ltb f placeWords) e λ a b.
-      let l : p < tablePlaces = ltb-true p tablePlaces a in
-      let m : rowWord f < rowWords = row-inside f (ltb-true f placeWords b) in
-      omega arith
+      plane-inside (rowWord f) p (ltb-true p tablePlaces a) (row-inside f (ltb-true f placeWords b))
 
   -- no two places have a word in one
   index-own : (q g : ℕ) → hasWord q g ≡ true → indexOf q g ≡ indexOf p f → (q ≡ p) × (rowWord g ≡ rowWord f)
-  unfolding hasWord indexOf
+  unfolding hasWord
   index-own q g d i =
       both (ltb p tablePlaces) (ltb f placeWords) e λ a b.
       both (ltb q tablePlaces) (ltb g placeWords) d λ c h.
-      let l : p < tablePlaces = ltb-true p tablePlaces a in
-      let m : q < tablePlaces = ltb-true q tablePlaces c in
-      (omega arith, omega arith)
+      plane-own (rowWord f) (rowWord g) p q (ltb-true p tablePlaces a) (ltb-true q tablePlaces c) i
 
 -- ---- one store
 set-at : (P : ℕ → Type 0) (l : List ℕ) (i v : ℕ) → P v → P (getD l i 0) → P (getD (set l i v) i 0)
@@ -319,19 +341,25 @@ part-whole : (f w : ℕ) → isLink f ≡ false → partOf f w ≡ w
 unfolding partOf if_then_else_
 part-whole f w l = rw l refl
 
--- it is zero if the place's words there are
-module _ (t : List ℕ) (p k : ℕ) (l : IsRow p) (b : k < rowWords) (h : (f : ℕ) → rowWord f ≡ k → word t p f ≡ 0) where
-  part-read : (f : ℕ) → f < placeWords → rowWord f ≡ k → partOf f (getD t (k * tablePlaces + p) 0) ≡ 0
-  unfolding word indexOf if_then_else_
-  part-read f m e = let z : word t p f ≡ 0 = h f e in rw (has-word p f l m, e) at z
+-- it is zero if the place's words there are; of a plane, the row's word behind the gap
+module _ (t : List ℕ) (p k : ℕ) (l : IsRow p) (b : k + 1 < rowWords) (h : (f : ℕ) → rowWord f ≡ k + 1 → word t p f ≡ 0) where
+  abbrev here : ℕ
+  here = k * planeWords + gapWords + p
 
-  row-zero : getD t (k * tablePlaces + p) 0 ≡ 0
-  row-zero = go (held k b)
+  stands-here : (f : ℕ) → rowWord f ≡ k + 1 → indexOf p f ≡ here
+  stands-here f e = rw e (sym (index-plane (k + 1) p (λ z. omega arith)) ∙ (let q : (k + 1 - 1) * planeWords + gapWords + p ≡ here = omega arith in q))
+
+  part-read : (f : ℕ) → f < placeWords → rowWord f ≡ k + 1 → partOf f (getD t here 0) ≡ 0
+  unfolding word if_then_else_
+  part-read f m e = let z : word t p f ≡ 0 = h f e in rw (has-word p f l m, stands-here f e) at z
+
+  row-zero : getD t here 0 ≡ 0
+  row-zero = go (held (k + 1) b)
     where
       w : ℕ
-      w = getD t (k * tablePlaces + p) 0
+      w = getD t here 0
 
-      go : Held k → w ≡ 0
+      go : Held (k + 1) → w ≡ 0
       go (alone f m i r) = sym (part-whole f w i) ∙ part-read f m r
       go (halved f m i j e r s) =
           omega (arith, lower-part f w i e, upper-part (f + 1) w j (λ x. omega arith), part-read f (omega arith) r, part-read (f + 1) m s)
@@ -341,17 +369,19 @@ order-rows : (rowWord ordersFrom ≡ 7) × (rowWord ordersEnd ≡ 9)
 unfolding rowWord if_then_else_
 order-rows = (refl, refl)
 
--- a word that is left: its place is not below n, and its plane is none that is zeroed whole
-module _ (p k n : ℕ) (l : IsRow p) (z : ltb p (clearedIn k n) ≡ false) where
-  left-place : n ≤ p
+-- a word that is left stands behind the gap: its place is not below n, and its plane is none that is zeroed whole
+module _ (i k n : ℕ) (l : i < planeWords) (inside : k * planeWords + i < tableWords) (z : ltb i (clearedIn k n) ≡ false) where
+  left-before : (k ≡ rowWords - 1 → ⊥) × ((leb (rowWord ordersFrom) (k + 1) && ltb (k + 1) (rowWord ordersEnd)) ≡ false) × (gapWords + n ≤ i)
   unfolding clearedIn if_then_else_
-  left-place =
-      cases (leb (rowWord ordersFrom) k && ltb k (rowWord ordersEnd))
-      (λ a. let m : tablePlaces ≤ p = ltb-false p tablePlaces (rw a at z) in absurd (omega arith))
-      (λ a. ltb-false p n (rw a at z))
+  left-before =
+      cases (eqb k (rowWords - 1))
+      (λ a. let x : k ≡ rowWords - 1 = eqb-true k (rowWords - 1) a in let m : gapWords ≤ i = ltb-false i gapWords (rw a at z) in absurd (omega arith))
+      (λ a.
+      cases (leb (rowWord ordersFrom) (k + 1) && ltb (k + 1) (rowWord ordersEnd))
+      (λ c. let m : planeWords ≤ i = ltb-false i planeWords (rw (a, c) at z) in absurd (omega arith))
+      (λ c. (eqb-false k (rowWords - 1) a, c, ltb-false i (gapWords + n) (rw (a, c) at z))))
 
-  left-order : (f : ℕ) → rowWord f ≡ k → isOrder f ≡ false
-  unfolding clearedIn if_then_else_
+  left-order : (f : ℕ) → rowWord f ≡ k + 1 → isOrder f ≡ false
   left-order f e =
       cases (isOrder f)
       (λ a. both (leb ordersFrom f) (ltb f ordersEnd) a λ c d.
@@ -359,17 +389,21 @@ module _ (p k n : ℕ) (l : IsRow p) (z : ltb p (clearedIn k n) ≡ false) where
       let j : f < ordersEnd = ltb-true f ordersEnd d in
       let (q, r) = link-row f (omega arith) (omega arith) in
       let (x, y) = order-rows in
-      let m : tablePlaces ≤ p = ltb-false p tablePlaces (rw (x, y, le-leb 7 k (omega arith), lt-ltb k 9 (omega arith)) at z) in
-      absurd (omega arith))
+      let m = left-before .1 in
+      absurd (true≢false (sym (rw (x, y, le-leb 7 (k + 1) (omega arith), lt-ltb (k + 1) 9 (omega arith)) refl) ∙ m)))
       (λ a. a)
 
 -- a table is zeros again, once the places that have words other than zero are zeroed
 pub cleared-zeros : (t : List ℕ) (n : ℕ) → IsTable t → ((p f : ℕ) → n ≤ p → isOrder f ≡ false → word t p f ≡ 0) → clearedTo t n ≡ zeros
 unfolding clearedTo
 cleared-zeros t n table h =
-    where-zeros (λ i. ltb (i % tablePlaces) (clearedIn (i / tablePlaces) n)) t table (λ i b z.
-    let p : ℕ = i % tablePlaces in
-    let k : ℕ = i / tablePlaces in
-    let l : IsRow p = omega arith in
-    let e : i ≡ k * tablePlaces + p = omega arith in
-    ap (λ j. getD t j 0) e ∙ row-zero t p k l (omega arith) (λ f r. h p f (left-place p k n l z) (left-order p k n l z f r)))
+    where-zeros (λ i. ltb (i % planeWords) (clearedIn (i / planeWords) n)) t table (λ i b z.
+    let o : ℕ = i % planeWords in
+    let k : ℕ = i / planeWords in
+    let low : o < planeWords = omega arith in
+    let inside : k * planeWords + o < tableWords = omega arith in
+    let left = left-before o k n low inside z in
+    let behind : gapWords + n ≤ o = left .2 in
+    let last : (k ≡ rowWords - 1 → ⊥) = left .0 in
+    let e : i ≡ k * planeWords + gapWords + (o - gapWords) = omega arith in
+    ap (λ j. getD t j 0) e ∙ row-zero t (o - gapWords) k (omega arith) (omega (arith, last)) (λ f r. h (o - gapWords) f (omega arith) (left-order o k n low inside z f r)))
