@@ -31,8 +31,9 @@ class Field:
                 + len(self.name).to_bytes(2, "little") + len(self.children).to_bytes(2, "little"))
 
     def is_column(self):
-        """Whether it counts as a column, "a column being a field record without children"."""
-        return not self.children
+        """Whether it counts as a column: "a column being a field record without children", but (document 02, 6/14) "a
+        Struct record without children no longer counts as a column"."""
+        return not self.children and self.type != t.STRUCT
 
 
 def preorder(fields, level=0):

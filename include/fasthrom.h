@@ -167,7 +167,7 @@ struct fasthrom_answer {
     uint32_t field_records;
     /* How many bytes of names stand in the names buffer. */
     uint32_t name_bytes;
-    /* How many field records have no children. */
+    /* How many field records have no children and are not Struct. */
     uint32_t columns;
 };
 

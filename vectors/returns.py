@@ -79,6 +79,14 @@ DATES = Return(
     },
 )
 
+# the field `r`, by the file of its commands: a struct, a tuple and a map-mode struct without fields are no columns, and a Null is one
+REMARKS = {
+    "struct": Return({"r": {}}),
+    "tuple": Return({"r": b"\x13\0\0"}),
+    "map": Return({"r": b"\x14" + END}),
+    "null": Return({"r": b"\0"}),
+}
+
 FILES = {
     "decks/options.bin": u16(DEFAULT | ALLOW_NULL_FIELDS | COERCE_NUMBERS),
     "decks/commands.bin": DECKS.commands,
@@ -86,6 +94,9 @@ FILES = {
     "dates/options.bin": u16(DEFAULT | GUESS_DATES),
     "dates/commands.bin": DATES.commands,
     "dates/text.bin": DATES.text,
+    "remarks/options.bin": u16(DEFAULT | ALLOW_NULL_FIELDS),
+    "remarks/text.bin": b"r",
+    **{f"remarks/{name}.bin": remarks.commands for name, remarks in REMARKS.items()},
     "wrong/one.bin": b"\x5f",
     "wrong/three.bin": b"\x5f\0\0",
     "wrong/commands.bin": b"\x15\x17" * (TOO_LONG // 2),
@@ -101,6 +112,7 @@ RETURNS = [
     ("dates/options.bin", "dates/commands.bin", "dates/text.bin"),
     ("decks/options.bin", "wrong/commands.bin", "decks/text.bin"),
     ("decks/options.bin", "decks/commands.bin", "wrong/text.bin"),
+    *(("remarks/options.bin", f"remarks/{name}.bin", "remarks/text.bin") for name in REMARKS),
 ]
 
 

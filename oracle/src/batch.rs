@@ -142,7 +142,8 @@ impl Answer {
                 .extend(u16::try_from(length).expect("at most 65,535").to_le_bytes());
         }
         self.names.extend(field.name.bytes());
-        self.columns += children.is_empty() as usize;
+        // the Rust counts no columns: document 02's rule, 6/14
+        self.columns += (children.is_empty() && !matches!(field.data_type, DataType::Struct(_))) as usize;
         for (number, child) in children {
             self.add(child, number);
         }

@@ -38,7 +38,7 @@ impl Schema {
         &self.names
     }
 
-    /// How many fields have no children.
+    /// How many fields have no children and are not Struct: a struct without fields is no column.
     pub fn columns(&self) -> usize {
         self.columns
     }

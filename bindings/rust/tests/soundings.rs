@@ -152,6 +152,23 @@ fn roots() {
     assert_eq!(wrapped.unwrap().columns(), 0);
 }
 
+/// Document 02, 6/14: the board draws no column for a struct without fields.
+#[test]
+fn empty_structs_are_no_columns() {
+    let columns = |remarks: Write| {
+        let mut records = Records::new();
+        records
+            .add(|record| record.structure(|fields| fields.field("remarks", remarks)))
+            .unwrap();
+        let schema = traced(defaults().allow_null_fields(true), &records).unwrap();
+        (schema.fields().len(), schema.columns())
+    };
+    assert_eq!(columns(|v| v.structure(|_| ())), (1, 0));
+    assert_eq!(columns(|v| v.tuple(|_| ())), (1, 0));
+    assert_eq!(columns(|v| v.map(|_| ())), (1, 0));
+    assert_eq!(columns(|v| v.unit()), (1, 1));
+}
+
 /// Structs in structs, with the last value so many fields down.
 fn nest(value: Value<'_>, levels: usize, last: Write) -> Done<'_> {
     match levels {

@@ -1,3 +1,4 @@
+pub mod Types
 pub mod order
 pub mod firstwalk
 pub mod secondwalk

@@ -6,7 +6,7 @@ use lib.Dec.{eqb, ltb}
 use Rattle.logic.specs.Test.{if_then_else_}
 use Rattle.options.specs.Word.{enumsWithoutDataAsStrings}
 use Rattle.words.specs.Word.{word}
-use Rattle.model.specs.Kinds.{mapKind, unionKind, tupleKind, isContainer, isStruct}
+use Rattle.model.specs.Kinds.{mapKind, unionKind, isContainer, isStruct}
 use Rattle.places.specs.Layout.{kindWord, samplesWord, heldWord}
 use Rattle.places.specs.Reading.{variantAt, childLimit, nextChild}
 use Rattle.walk.specs.Walk.{datalessAt, sumOf}
@@ -30,10 +30,6 @@ countBelow t kind place = countFrom t kind place childLimit 0 (nextChild t false
 -- how many fields a place's field has: a map's is its entries
 unfoldable pub fieldCount : List ℕ → ℕ → ℕ → ℕ
 fieldCount t kind place = if eqb kind mapKind then 1 else countBelow t kind place
-
--- what is emitted as a struct
-abbrev pub isStructRoot : ℕ → Bool
-isStructRoot kind = isStruct kind || eqb kind tupleKind
 
 -- a struct field that some sample lacks
 abbrev pub lackingAt : List ℕ → ℕ → ℕ → ℕ → Bool

@@ -9,7 +9,7 @@ ghost use Rattle.options.specs.Word.{stringDictionaryEncoding};
 ghost use Rattle.words.specs.Word.{word, IsTable, IsRow};
 ghost use Rattle.model.specs.Emission.{typeOf, strategyOf};
 ghost use Rattle.places.specs.Layout.{nullWord};
-ghost use Rattle.fields.specs.Fields.{countWith, countBelow, fieldCount, isStructRoot, lackingAt, isDictionary, isLeaf};
+ghost use Rattle.fields.specs.Fields.{countWith, countBelow, fieldCount, lackingAt, isDictionary, isLeaf};
 use datatype::DataType;
 use datatype::Strategy;
 use options::TracingOptions;
@@ -56,16 +56,6 @@ pub fn field_count(table: &[u32], kind: u32, place: usize) -> u32
     count_children(table, kind, place)
 }
 
-// What is emitted as a struct.
-pub fn is_struct_root(kind: u32) -> bool
-    ensures { λ r. ⌜ r ≡ isStructRoot kind ⌝ }
-{
-    if kinds::is_struct(kind) {
-        return true;
-    }
-    kind == shapes::TUPLE
-}
-
 // A string.
 fn is_text(kind: u32) -> bool
     ensures { λ r. ⌜ r ≡ (eqb kind utf8 || eqb kind largeUtf8) ⌝ }
@@ -93,7 +83,7 @@ pub fn type_of(options: TracingOptions, kind: u32) -> u8
     if kind == shapes::SEQUENCE {
         return options.list_type().code();
     }
-    if is_struct_root(kind) {
+    if kinds::emits_struct(kind) {
         return DataType::Struct.code();
     }
     if is_encoded(options, kind) {

@@ -6,6 +6,7 @@ ghost use Rattle.coerce.specs.Joint.{joint};
 ghost use mathlib.Core.Bool.{_&&_, _||_};
 ghost use lib.Dec.{eqb};
 ghost use Rattle.model.specs.Kinds.{sequenceKind, isContainer, isStruct};
+ghost use Rattle.model.specs.Emission.{emitsStruct};
 use coerce::Coerced;
 use datatype::DataType;
 use datatype::Decoded;
@@ -46,6 +47,13 @@ pub fn is_struct(kind: u32) -> bool
     ensures { λ r. ⌜ r ≡ isStruct kind ⌝ }
 {
     kind == shapes::STRUCT || kind == shapes::MAP_MODE
+}
+
+// Whether a place of that kind is emitted as Struct.
+pub fn emits_struct(kind: u32) -> bool
+    ensures { λ r. ⌜ r ≡ emitsStruct kind ⌝ }
+{
+    is_struct(kind) || kind == shapes::TUPLE
 }
 
 // Whether both are, in either mode.

@@ -92,11 +92,15 @@ mutual
     no-fields : Fields
     more : Field → Fields → Fields
 
+-- a struct in either mode and a tuple are emitted as Struct
+abbrev pub emitsStruct : ℕ → Bool
+emitsStruct kind = isStruct kind || eqb kind tupleKind
+
 -- a string under option 5 is a dictionary
 unfoldable pub typeOf : ℕ → ℕ → ℕ
 typeOf options kind =
     if eqb kind sequenceKind then listType options
-    else if isStruct kind || eqb kind tupleKind then struct
+    else if emitsStruct kind then struct
     else if (eqb kind utf8 || eqb kind largeUtf8) && stringDictionaryEncoding options then dictionaryType options
     else kind
 
@@ -214,10 +218,14 @@ unfoldable mutual
   namesIn no-fields = []
   namesIn (more f fs) = namesOf f ++ namesIn fs
 
--- a column is a field record without children
+-- a column is a field record without children whose type is not Struct (document 02, 6/14), whatever its strategy: an empty struct, tuple or
+-- map-mode struct is none; a Null field, a slot never seen and a dictionary are
+abbrev pub isColumn : (type children : ℕ) → Bool
+isColumn type children = eqb children 0 && not (eqb type struct)
+
 unfoldable mutual
   pub columnsOf : Field → ℕ
-  columnsOf (mk type nullable strategy number name fs) = (if eqb (childCount fs) 0 then 1 else 0) + columnsIn fs
+  columnsOf (mk type nullable strategy number name fs) = one (isColumn type (childCount fs)) + columnsIn fs
 
   pub columnsIn : Fields → ℕ
   columnsIn no-fields = 0

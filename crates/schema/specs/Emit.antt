@@ -11,7 +11,7 @@ use Rattle.datatype.specs.Codes.{null, noStrategy}
 use Rattle.options.specs.Word.{dictionaryType}
 use Rattle.refusal.specs.declared.Refusal.the-variants as F
 use Rattle.words.specs.Word.{word}
-use Rattle.model.specs.Emission.{typeOf, strategyOf}
+use Rattle.model.specs.Emission.{emitsStruct, typeOf, strategyOf}
 use Rattle.model.specs.Tracing.{placeLimit}
 use Rattle.places.specs.Layout.{kindWord, nullWord, rootPlace}
 use Rattle.places.specs.Reading.{variantAt, childName, childLimit, nextChild}
@@ -22,7 +22,7 @@ use Rattle.walk.specs.Walk.{sumOf, gapsAt, walked}
 use Rattle.schema.specs.declared.Emitted.{Emitted}
 use Rattle.schema.specs.declared.Emitted.the-variants as E
 use Rattle.putting.specs.Put.{recordOf, Writing, writing, both, gapsIn, entriesIn}
-use Rattle.fields.specs.Fields.{fieldCount, isStructRoot, lackingAt, isDictionary, isLeaf}
+use Rattle.fields.specs.Fields.{fieldCount, lackingAt, isDictionary, isLeaf}
 
 -- the record and the name of a place, with nothing below it
 unfoldable pub fieldAt : ℕ → List ℕ → List ℕ → ℕ → Bool → ℕ → Writing → Writing
@@ -88,7 +88,7 @@ unfoldable pub finished : ℕ → List ℕ → List ℕ → List ℕ → List �
 finished options text t fields names records bytes below =
     if eqb (word t rootPlace nullWord) 1 then answered (E.Refused F.NullableRoot) fields names
     else if eqb (word t rootPlace kindWord) null then answered (E.Refused F.NullRoot) fields names
-    else if not (isStructRoot (word t rootPlace kindWord)) then answered (E.Refused F.RootNotStruct) fields names
+    else if not (emitsStruct (word t rootPlace kindWord)) then answered (E.Refused F.RootNotStruct) fields names
     else if ltb (length fields) (records * 8) || ltb (length names) bytes then answered (E.Refused F.ShortBuffer) fields names
     else asAnswered (E.Schema records bytes below)
     (fieldsBelow t (emittedAt options text t levelLimit) (word t rootPlace kindWord) rootPlace (writing 0 0 fields names))

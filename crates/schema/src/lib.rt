@@ -237,7 +237,7 @@ fn finish(
     if kind == shapes::UNKNOWN {
         return Emitted::Refused(Refusal::NullRoot);
     }
-    if !fields::is_struct_root(kind) {
+    if !kinds::emits_struct(kind) {
         return Emitted::Refused(Refusal::RootNotStruct);
     }
     if fields.len() < wide(records) * RECORD {

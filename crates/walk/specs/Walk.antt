@@ -10,7 +10,7 @@ use Rattle.options.specs.Word.{allowNullFields, enumsWithoutDataAsStrings}
 use Rattle.refusal.specs.declared.Refusal.the-variants as F
 use Rattle.words.specs.Word.{word}
 use Rattle.model.specs.Kinds.{mapKind, unionKind, isContainer}
-use Rattle.model.specs.Emission.{slotLimit, entriesName}
+use Rattle.model.specs.Emission.{slotLimit, emitsStruct, entriesName}
 use Rattle.places.specs.Layout.{kindWord}
 use Rattle.places.specs.Reading.{variantAt, childName, childLimit, nextOrdered, nextChild}
 use Rattle.walk.specs.declared.Walked.{Walked}
@@ -39,9 +39,9 @@ datalessAt t place = datalessFrom t place childLimit 0 (nextOrdered t place 0)
 abbrev pub sumOf : ℕ → ℕ → ℕ
 sumOf a b = (a + b) % 2 ^ 32
 
--- the columns of a field record with so many records and columns below it
-abbrev pub columnsOf : ℕ → ℕ → ℕ
-columnsOf records below = if eqb records 0 then 1 else below
+-- the columns of the field of a place of that kind, with so many records and columns below it: a Struct with none is no column
+abbrev pub columnsOf : ℕ → ℕ → ℕ → ℕ
+columnsOf kind records below = if eqb records 0 then (if emitsStruct kind then 0 else 1) else below
 
 -- the slots never seen before a child of a union
 unfoldable pub gapsAt : ℕ → List ℕ → ℕ → ℕ → ℕ
@@ -63,7 +63,7 @@ abbrev pub namesWith : List ℕ → List ℕ → ℕ → ℕ → ℕ → ℕ
 namesWith text t child names n = sumOf names (sumOf n (length (childName text t child)))
 
 abbrev pub columnsWith : ℕ → List ℕ → ℕ → ℕ → ℕ → ℕ → ℕ → ℕ
-columnsWith kind t slot child below r c = sumOf (sumOf below (gapsAt kind t slot child)) (columnsOf r c)
+columnsWith kind t slot child below r c = sumOf (sumOf below (gapsAt kind t slot child)) (columnsOf (word t child kindWord) r c)
 
 abbrev pub withChild : (ℕ → ℕ → ℕ → Walked) → List ℕ → List ℕ → ℕ → ℕ → ℕ → ℕ → ℕ → ℕ → Walked → Walked
 withChild more text t kind records names below slot child (W.Refused refusal) = W.Refused refusal

@@ -12,6 +12,9 @@ const TABLE: usize = 16_384;
 /// Batches of each sort; each is put to the call two to five times.
 const CASES: usize = 5_000;
 
+/// The type byte of a Struct.
+const STRUCT: u8 = 24;
+
 const BYTE: u8 = 0xA5;
 const WORD: u32 = 0xA5A5_A5A5;
 
@@ -69,6 +72,10 @@ fn check(answer: &Answer, lent: &Lent) {
         return;
     }
     assert_eq!(answer.place, 0);
+    let columns = lent.fields[..records]
+        .chunks(RECORD)
+        .filter(|record| record[6..] == [0, 0] && record[0] != STRUCT);
+    assert_eq!(columns.count(), answer.columns as usize);
     let schema = Schema::new(
         &lent.fields[..records],
         &lent.names[..names],

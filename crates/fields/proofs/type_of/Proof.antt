@@ -11,8 +11,7 @@ use Rattle.datatype.specs.declared.DataType.{DataType}
 use Rattle.datatype.specs.Codes.{codeOf, utf8, largeUtf8, struct}
 use Rattle.options.specs.Word.{listType, dictionaryType, stringDictionaryEncoding, sequenceAsLargeList, stringAsLargeUtf8}
 use Rattle.model.specs.Kinds.{sequenceKind}
-use Rattle.model.specs.Emission.{typeOf}
-use Rattle.fields.specs.Fields.{isStructRoot}
+use Rattle.model.specs.Emission.{emitsStruct, typeOf}
 use Rattle.fields.proofs.type_of.Statement.{statement}
 use Rattle.fields.proofs.type_of.Tie as tie
 
@@ -30,7 +29,7 @@ module _ (options kind r : ℕ) where
   unfolding typeOf if_then_else_
   of-list type e l p = rw (eq-eqb kind sequenceKind e) (p ∙ l ∙ sym (list-byte options))
 
-  module _ (n : kind ≡ sequenceKind → ⊥) (root : Bool) (s : root ≡ isStructRoot kind) where
+  module _ (n : kind ≡ sequenceKind → ⊥) (root : Bool) (s : root ≡ emitsStruct kind) where
     of-struct : root ≡ true → r ≡ struct → r ≡ typeOf options kind % 256
     unfolding typeOf if_then_else_
     of-struct p e = rw (ne-eqb kind sequenceKind n, sym s ∙ p) e

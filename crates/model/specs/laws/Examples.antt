@@ -1,7 +1,7 @@
 -- Worked examples of the definitions, each computed: what a wrong definition would break.
 use mathlib.Core.Path.{_≡_, refl}
 use mathlib.Core.Bool.{true, false}
-use mathlib.Core.List.{List, [], _∷_}
+use mathlib.Core.List.{List, [], _∷_, _++_}
 use mathlib.Core.Option.{Option, some}
 use Prim.Native.Nat.{ℕ}
 use native.Mathlib.Omega.{arith}
@@ -30,10 +30,14 @@ abbrev pub refusalOf : Result E.Fields → List ℕ
 refusalOf (accepted schema) = 0 ∷ 0 ∷ []
 refusalOf (refused refusal place) = refusal ∷ place ∷ []
 
--- the refusal of a batch and its place, or 0 and 0
-unfoldable pub outcome : ℕ → List ℕ → List ℕ → List ℕ
+-- the schema of a batch
+unfoldable pub schemaIn : ℕ → List ℕ → List ℕ → Result E.Fields
 unfolding if_then_else_ eqName dots same schemaOf U.within U.dueIn U.reads U.fits C.formOf C.operands C.made C.nameIn C.badCommand C.badName C.readCommand R.shapeOf R.nextPart R.recordsFrom R.values R.readValue R.readShape R.readParts T.meet T.stepsOf T.has T.kidAt T.put T.clashes T.room T.made T.make T.holds T.tally T.observeAll T.trace T.observe T.observeParts E.insertVariant E.byNumber E.datalessFrom E.typeOf E.strategyOf E.insertField E.byName E.gaps E.arranged E.toSchema E.placeOf E.placesOf E.walk E.walks E.fieldOf E.fieldsOf J.numberJoint J.jointOfNumbers J.jointWithString J.jointOfTimestamps J.jointOfUnequal J.joint
-outcome options commands text = refusalOf (schemaOf (record { options = options; commands = commands; text = text }))
+schemaIn options commands text = schemaOf (record { options = options; commands = commands; text = text })
+
+-- the refusal of a batch and its place, or 0 and 0
+abbrev pub outcome : ℕ → List ℕ → List ℕ → List ℕ
+outcome options commands text = refusalOf (schemaIn options commands text)
 
 -- a field with a name of so many dots, which holds an empty struct
 abbrev pub deep : ℕ → List ℕ
@@ -41,21 +45,48 @@ deep n = outcome 30 (0x15 ∷ 0x16 ∷ 0 ∷ 0 ∷ n ∷ 0 ∷ 0x15 ∷ 0x17 ∷
 
 -- depth is counted by dots, and a name's own dots count: a struct at depth 19 passes, at 20 it is refused at its own command
 pub depth-19 : deep 18 ≡ 0 ∷ 0 ∷ []
-unfolding outcome
+unfolding schemaIn
 depth-19 = refl
 
 pub depth-20 : deep 19 ≡ tooDeep ∷ 6 ∷ []
-unfolding outcome
+unfolding schemaIn
 depth-20 = refl
 
 -- the empty batch: refusal 12, and with allow_null_fields 16
 pub empty-batch : outcome 30 [] [] ≡ nullField ∷ 0 ∷ []
-unfolding outcome
+unfolding schemaIn
 empty-batch = refl
 
 pub empty-null : outcome 31 [] [] ≡ nullRoot ∷ 0 ∷ []
-unfolding outcome
+unfolding schemaIn
 empty-null = refl
+
+-- ---- columns (document 02, 6/14)
+abbrev pub countsOf : Result E.Fields → List ℕ
+countsOf (accepted schema) = E.countIn schema ∷ E.columnsIn schema ∷ []
+countsOf (refused refusal place) = []
+
+-- how many field records and how many columns there are where the field `r` holds this value
+abbrev pub remarks : List ℕ → List ℕ
+remarks value = countsOf (schemaIn 31 ((0x15 ∷ 0x16 ∷ 0 ∷ 0 ∷ 1 ∷ 0 ∷ value) ++ 0x17 ∷ []) (114 ∷ []))
+
+-- an empty struct, an empty tuple and an empty map-mode struct are no columns
+pub empty-struct : remarks (0x15 ∷ 0x17 ∷ []) ≡ 1 ∷ 0 ∷ []
+unfolding schemaIn E.countOf E.columnsOf
+empty-struct = refl
+
+pub empty-tuple : remarks (0x13 ∷ 0 ∷ 0 ∷ []) ≡ 1 ∷ 0 ∷ []
+unfolding schemaIn E.countOf E.columnsOf
+empty-tuple = refl
+
+pub empty-map-mode : remarks (0x14 ∷ 0x17 ∷ []) ≡ 1 ∷ 0 ∷ []
+unfolding schemaIn E.countOf E.columnsOf
+empty-map-mode = refl
+
+-- a Null field is one
+pub null-column : remarks (0x00 ∷ []) ≡ 1 ∷ 1 ∷ []
+unfolding schemaIn E.countOf E.columnsOf
+null-column = refl
 
 -- what the census says of the field `a`
 unfoldable pub said : List ℕ → Option S.Said

@@ -10,10 +10,10 @@ use Rattle.logic.specs.Test.{if_then_else_}
 use Rattle.datatype.specs.Codes.{null}
 use Rattle.refusal.specs.declared.Refusal.the-variants as F
 use Rattle.words.specs.Word.{word}
+use Rattle.model.specs.Emission.{emitsStruct}
 use Rattle.places.specs.Layout.{kindWord, nullWord, rootPlace}
 use Rattle.schema.specs.declared.Emitted.the-variants as E
 use Rattle.putting.specs.Put.{writing}
-use Rattle.fields.specs.Fields.{isStructRoot}
 use Rattle.schema.specs.Emit.{answered, emittedAt, fieldsBelow, levelLimit, finished}
 use Rattle.schema.proofs.finish.Statement.{statement}
 use Rattle.schema.proofs.finish.Tie as tie
@@ -28,7 +28,7 @@ module _ (options : ℕ) (text t fields names : List ℕ) (records bytes below k
     unfolding finished if_then_else_
     null-root e = rw (← u, ne-eqb seen 1 n, ← k, eq-eqb kind null e)
 
-    module _ (m : kind ≡ null → ⊥) (root : Bool) (r : root ≡ isStructRoot kind) where
+    module _ (m : kind ≡ null → ⊥) (root : Bool) (r : root ≡ emitsStruct kind) where
       no-struct : not root ≡ true → answered (E.Refused F.RootNotStruct) fields names ≡ finished options text t fields names records bytes below
       unfolding finished if_then_else_
       no-struct p = rw (← u, ne-eqb seen 1 n, ← k, ne-eqb kind null m, sym r ∙ not-true root p)
@@ -58,7 +58,7 @@ returns-6 c =
     let w = b .before .before .before in
     let r = w .before .before in
     let n = r .before .before in
-    emitted _ _ _ _ _ _ _ _ _ _ (n .before .before .get .ensures) (n .before .get2 .ensures) (n .if1 .left) (r .before .if2 .left) _ (r .is-struct-root .ensures) (w .before .if3 .left)
+    emitted _ _ _ _ _ _ _ _ _ _ (n .before .before .get .ensures) (n .before .get2 .ensures) (n .if1 .left) (r .before .if2 .left) _ (r .emits-struct .ensures) (w .before .if3 .left)
     _ (w .wide .ensures) (b .before .before .if4 .left) _ (b .before .wide2 .ensures) _ _ _ _ (b .if5 .left) (e .emit-children .ensures .0)
 
 pub finish-spec : {M : Type 1} → statement M

@@ -1,6 +1,6 @@
 -- The first walk over a place's children, once each child is walked as the model says.
-use mathlib.Core.Path.{_≡_, refl, sym, ap, ap₂, _∙_}
-use mathlib.Core.Bool.{Bool, true, false, _&&_}
+use mathlib.Core.Path.{_≡_, refl, sym, ap, _∙_}
+use mathlib.Core.Bool.{Bool, true, false, _&&_, _||_}
 use mathlib.Core.List.{List}
 use mathlib.Core.Option.{Option, none, some}
 use Prim.Native.Nat.{_-_, ℕ, zero, suc, _+_, _*_, _^_, _≤_, _<_}
@@ -20,13 +20,14 @@ use Rattle.model.specs.Kinds.{unionKind, Step, variantOf}
 use Rattle.model.specs.Emission.{Place, shown, placeOf, placesOf, isMissing, firstOf, walk, walks, Field, mk, Fields, more, nameIn, nameOf, gaps, fieldOf, fieldsOf, namesOf, namesIn, columnsOf, columnsIn, countOf, countIn}
 use Rattle.model.specs.Emission as Model
 use Rattle.places.specs.Layout.{kindWord}
-use Rattle.refine.specs.laws.numbered.Tree.{Spot, Spots, no-spots, child, num, kindS}
+use Rattle.refine.specs.laws.numbered.Tree.{Spot, spot, Spots, no-spots, child, num, kindS}
 use Rattle.refine.specs.laws.numbered.Erased.{erase, eraseIn}
 use Rattle.walk.specs.declared.Walked.{Walked}
 use Rattle.walk.specs.declared.Walked.the-variants as W
 use Rattle.places.specs.Reading.{variantAt, childName, nextChild}
 use Rattle.walk.specs.Walk.{onward, sumOf, gapsAt, slotBehind, isBeyond, recordsWith, namesWith, columnsWith, withChild, childrenFrom}
 use Rattle.walk.specs.Walk as Flat
+use Rattle.emission.specs.laws.Types.{Typed, field-type}
 use Rattle.emission.specs.laws.order.Arranged.{Enumerates}
 use Rattle.emission.specs.laws.firstwalk.Sums.{gaps-count, gaps-columns, gaps-names, columns-are, column-few}
 use Rattle.emission.specs.laws.firstwalk.Places.{sizeS, sizeIn, manyS, AllS}
@@ -51,8 +52,16 @@ names-of : (f : Field) → length (namesOf f) ≡ length (nameIn f) + length (na
 unfolding namesOf
 names-of (mk type nullable strategy number name fs) = length-append name (namesIn fs)
 
-columns-of : (f : Field) → columnsOf f ≡ Flat.columnsOf (countIn (fieldsOfField f)) (columnsIn (fieldsOfField f))
-columns-of (mk type nullable strategy number name fs) = columns-are type nullable strategy number name fs
+-- the columns of a field, by its place's kind
+abbrev ColumnsBy : ℕ → Field → Type 0
+ColumnsBy kind f = columnsOf f ≡ Flat.columnsOf kind (countIn (fieldsOfField f)) (columnsIn (fieldsOfField f))
+
+columns-typed : (admits : Bool) (kind : ℕ) (f : Field) → Typed admits kind f → ColumnsBy kind f
+columns-typed admits kind (mk type nullable strategy number name fs) t = columns-are kind type nullable strategy number name fs (t .2)
+
+columns-of : (options : ℕ) (name : List ℕ) (number : ℕ) (missing : Bool) (u : Spot) → ColumnsBy (kindS u) (fieldOf options name number (placeOf missing (erase u)))
+unfolding placeOf
+columns-of options name number missing (spot p b k m ks) = columns-typed (missing || b) k _ (field-type options name number (missing || b) k _)
 
 field-name : (options : ℕ) (name : List ℕ) (number : ℕ) (p : Place) → nameIn (fieldOf options name number p) ≡ name
 unfolding fieldOf if_then_else_
@@ -162,7 +171,7 @@ module _ (options : ℕ) (text t : List ℕ) (inner : ℕ → Walked) (k p m : �
       let gf : g ≤ 127 = gaps-few k (variantOf s) slot b in
       let fr : columnsOf f ≤ countOf f = column-few f in
       let fc : countOf f ≡ suc (countIn (fieldsOfField f)) = count-of f in
-      let fl : columnsOf f ≡ Flat.columnsOf (countIn (fieldsOfField f)) (columnsIn (fieldsOfField f)) = columns-of f in
+      let fl : ColumnsBy (kindS u) f = columns-of options (nameOf s) (variantOf s) (isMissing k m h) u in
       let nm : nameIn f ≡ nameOf s = field-name options (nameOf s) (variantOf s) (placeOf (isMissing k m h) (erase u)) in
       let sh : length (nameIn f) ≤ 65536 = rw nm (d .short) in
       let ln : length (childName text t (num u)) ≡ length (nameIn f) = ap length (d .name-is ∙ sym nm) in
@@ -177,7 +186,7 @@ module _ (options : ℕ) (text t : List ℕ) (inner : ℕ → Walked) (k p m : �
       let R : recordsWith k t slot (num u) r r′ ≡ r + g + (countIn (fieldsOfField f) + 1) = rw (ga, er′) (sum-in r g (countIn (fieldsOfField f)) 1 (less-fit _ _ (130 * sizeIn qs) (at-most _) bR)) in
       let N : namesWith text t (num u) n n′ ≡ n + (length (namesIn (fieldsOfField f)) + length (nameIn f)) =
       rw (ln, en′) (sum-end n (length (namesIn (fieldsOfField f))) (length (nameIn f)) (less-fit _ _ (70000 * sizeIn qs) (at-most _) bN)) in
-      let C₀ : Flat.columnsOf r′ c′ ≡ columnsOf f = ap₂ Flat.columnsOf er′ ec′ ∙ sym fl in
+      let C₀ : Flat.columnsOf (word t (num u) kindWord) r′ c′ ≡ columnsOf f = rw (d .kind-is, er′, ec′) (sym fl) in
       let C : columnsWith k t slot (num u) c r′ c′ ≡ c + g + columnsOf f = rw (ga, C₀) (sum-of c g (columnsOf f) (less-fit _ _ (130 * sizeIn qs) bC bR)) in
       let S : slotBehind t (num u) ≡ variantOf s + 1 = rw (d .variant-is) (onward-small (variantOf s) (d .small)) in
       rw (R, N, C, S) (join-says (walk options (placeOf (isMissing k m h) (erase u))) (walks options k (placesOf k m (eraseIn qs))) f (fieldsOf options k (variantOf s + 1) (placesOf k m (eraseIn qs)))

@@ -9,8 +9,10 @@ use lib.ListN.{length, length-append}
 use borrow.Author.Tests.{ne-eqb}
 use Rattle.logic.specs.Test.{if_then_else_}
 use Rattle.logic.specs.laws.Test.{cases}
+use Rattle.datatype.specs.Codes.{struct}
 use Rattle.text.specs.Name.{ltName}
-use Rattle.model.specs.Emission.{Field, mk, Fields, no-fields, more, nameIn, insertField, byName, gaps, childCount, namesOf, namesIn, columnsOf, columnsIn, countOf, countIn}
+use Rattle.model.specs.Tracing.{one}
+use Rattle.model.specs.Emission.{Field, mk, Fields, no-fields, more, nameIn, insertField, byName, gaps, emitsStruct, childCount, namesOf, namesIn, isColumn, columnsOf, columnsIn, countOf, countIn}
 use Rattle.walk.specs.Walk as Flat
 
 -- ---- sums over fields
@@ -60,7 +62,7 @@ gaps-count slot zero fs = omega arith
 gaps-count slot (suc n) fs = omega (arith, gaps-count (slot + 1) n fs)
 
 pub gaps-columns : (slot n : ℕ) (fs : Fields) → columnsIn (gaps slot n fs) ≡ n + columnsIn fs
-unfolding gaps columnsOf if_then_else_
+unfolding gaps columnsOf
 gaps-columns slot zero fs = omega arith
 gaps-columns slot (suc n) fs = omega (arith, gaps-columns (slot + 1) n fs)
 
@@ -70,22 +72,22 @@ gaps-names slot zero fs = refl
 gaps-names slot (suc n) fs = gaps-names (slot + 1) n fs
 
 -- ---- columns of one field, and columns against records
-pub columns-are : (type : ℕ) (nullable : Bool) (strategy number : ℕ) (name : List ℕ) (fs : Fields) → columnsOf (mk type nullable strategy number name fs) ≡ Flat.columnsOf (countIn fs) (columnsIn fs)
+pub columns-are : (kind type : ℕ) (nullable : Bool) (strategy number : ℕ) (name : List ℕ) (fs : Fields) → eqb type struct ≡ emitsStruct kind →
+    columnsOf (mk type nullable strategy number name fs) ≡ Flat.columnsOf kind (countIn fs) (columnsIn fs)
 unfolding columnsOf countOf if_then_else_
-columns-are type nullable strategy number name no-fields = refl
-columns-are type nullable strategy number name (more (mk a b c d e gs) fs) =
+columns-are kind type nullable strategy number name no-fields t = rw t (cases (emitsStruct kind) (λ e. rw e) (λ e. rw e))
+columns-are kind type nullable strategy number name (more (mk a b c d e gs) fs) t =
     rw (ne-eqb (suc (childCount fs)) 0 (omega arith), ne-eqb (suc (countIn gs) + countIn fs) 0 (omega arith)) (omega arith)
 
-at-most-one : (b : Bool) → (if b then 1 else 0) ≤ 1
-unfolding if_then_else_
+at-most-one : (b : Bool) → one b ≤ 1
 at-most-one true = omega arith
 at-most-one false = omega arith
 
 mutual
-  unfolding columnsOf countOf if_then_else_
+  unfolding columnsOf countOf
 
   pub column-few : (f : Field) → columnsOf f ≤ countOf f
-  column-few (mk a b c d e fs) = omega (arith, at-most-one (eqb (childCount fs) 0), columns-few fs)
+  column-few (mk a b c d e fs) = omega (arith, at-most-one (isColumn a (childCount fs)), columns-few fs)
 
   pub columns-few : (fs : Fields) → columnsIn fs ≤ countIn fs
   columns-few no-fields = omega arith

@@ -127,7 +127,7 @@ fields-some options k slot m (child s h x u qs) l =
 -- a map's entries
 entries-say : (o : Option ℕ) (fs : Fields) (size : ℕ) {w : Walked} → 1 ≤ childCount fs → Says o 1 (length entriesName) 0 fs 0 0 size w
     → Says o 0 0 0 (more (mk struct false noStrategy 0 entriesName fs) no-fields) 129 69993 (suc size) w
-unfolding countOf namesOf columnsOf if_then_else_
+unfolding countOf namesOf columnsOf
 entries-say o fs size l (turned {x = x} e) = turned {x = x} e
 entries-say o fs size l (told {r′ = r′} {n′ = n′} {c′ = c′} e er en ec br bn) =
     let y : length (namesIn (more (mk struct false noStrategy 0 entriesName fs) no-fields)) ≡ 7 + length (namesIn fs) =

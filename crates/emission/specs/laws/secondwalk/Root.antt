@@ -1,6 +1,6 @@
 -- What follows the first walk: refusals 15 to 18, or the schema and both buffers, as the model has them.
 use mathlib.Core.Path.{_≡_, refl, sym, _∙_}
-use mathlib.Core.Bool.{Bool, true, false, _&&_, _||_, false≢true, true≢false}
+use mathlib.Core.Bool.{Bool, true, false, _||_}
 use mathlib.Core.List.{List, _++_}
 use mathlib.Core.Option.{none}
 use Prim.Native.Nat.{ℕ, _*_, _≤_}
@@ -10,13 +10,12 @@ use lib.ListN.{length, drop}
 use borrow.Author.Tests.{eqb-true, ltb-false}
 use Rattle.logic.specs.Test.{if_then_else_}
 use Rattle.logic.specs.laws.Test.{cases, neither}
-use Rattle.datatype.specs.Codes.{null, utf8, largeUtf8, struct}
-use Rattle.options.specs.Word.{stringDictionaryEncoding, stringAsLargeUtf8, sequenceAsLargeList, enumsWithoutDataAsStrings, listType, dictionaryType}
+use Rattle.datatype.specs.Codes.{null, struct}
 use Rattle.refusal.specs.declared.Refusal.the-variants as F
 use Rattle.words.specs.Word.{word}
-use Rattle.model.specs.Kinds.{sequenceKind, structKind, unionKind, tupleKind, mapModeKind, isContainer, isStruct}
+use Rattle.model.specs.Kinds.{structKind, unionKind, tupleKind, mapModeKind, isContainer, isStruct}
 use Rattle.model.specs.Tracing.{one, placeLimit}
-use Rattle.model.specs.Emission.{shown, Places, placeOf, placesOf, dataless, walk, Field, mk, Fields, typeOf, fieldOf, rootFields, countIn, recordsIn, namesIn}
+use Rattle.model.specs.Emission.{placeOf, placesOf, walk, Field, mk, Fields, emitsStruct, fieldOf, rootFields, countIn, recordsIn, namesIn}
 use Rattle.equality.specs.laws.Base.{or-cases}
 use Rattle.equality.specs.laws.emission.Records.{length-records}
 use Rattle.places.specs.Layout.{kindWord, nullWord}
@@ -25,75 +24,24 @@ use Rattle.refine.specs.laws.numbered.Numbers.{Good}
 use Rattle.refine.specs.laws.words.Places.{Rep}
 use Rattle.refine.specs.laws.numbered.Erased.{erase, eraseIn}
 use Rattle.putting.specs.Put.{writing}
-use Rattle.fields.specs.Fields.{isStructRoot}
 use Rattle.schema.specs.Emit.{fieldsBelow, emittedAt, levelLimit, finished}
+use Rattle.emission.specs.laws.Types.{Typed, field-type}
 use Rattle.emission.specs.laws.order.Arranged.{orderS, Orders, FitS}
 use Rattle.emission.specs.laws.firstwalk.Children.{fieldsOfField}
 use Rattle.emission.specs.laws.secondwalk.Words.{Neat, place-is}
 use Rattle.emission.specs.laws.secondwalk.Walk.{root-written}
 use Rattle.emission.specs.Emits.{Finishes}
 
--- ---- the root's type
-dictionary-type : (options : ℕ) → (eqb (dictionaryType options) null ≡ false) × (eqb (dictionaryType options) struct ≡ false)
-unfolding if_then_else_
-dictionary-type options = cases (stringAsLargeUtf8 options) (λ e. rw e (refl, refl)) (λ e. rw e (refl, refl))
-
-list-type : (options : ℕ) → (eqb (listType options) null ≡ false) × (eqb (listType options) struct ≡ false)
-unfolding if_then_else_
-list-type options = cases (sequenceAsLargeList options) (λ e. rw e (refl, refl)) (λ e. rw e (refl, refl))
-
-type-null : (options k : ℕ) → eqb (typeOf options k) null ≡ eqb k null
-unfolding typeOf if_then_else_
-type-null options k =
-    cases (eqb k sequenceKind) (λ e. let z : k ≡ sequenceKind = eqb-true k sequenceKind e in rw e (list-type options .0 ∙ rw z refl)) (λ e. rw e (
-    cases (isStruct k || eqb k tupleKind) (λ f. rw f (sym (struct-null f))) (λ f. rw f (
-    cases ((eqb k utf8 || eqb k largeUtf8) && stringDictionaryEncoding options) (λ g. rw g (dictionary-type options .0 ∙ sym (text-null g))) (λ g. rw g refl)))))
-  where
-    struct-null : (isStruct k || eqb k tupleKind) ≡ true → eqb k null ≡ false
-    struct-null f = cases (eqb k null) (λ z. absurd (false≢true (let w : k ≡ null = eqb-true k null z in rw w at f))) (λ z. z)
-
-    text-null : ((eqb k utf8 || eqb k largeUtf8) && stringDictionaryEncoding options) ≡ true → eqb k null ≡ false
-    text-null f = cases (eqb k null) (λ z. absurd (false≢true (let w : k ≡ null = eqb-true k null z in rw w at f))) (λ z. z)
-
-type-struct : (options k : ℕ) → eqb (typeOf options k) struct ≡ isStructRoot k
-unfolding typeOf if_then_else_
-type-struct options k =
-    cases (eqb k sequenceKind) (λ e. let z : k ≡ sequenceKind = eqb-true k sequenceKind e in rw e (list-type options .1 ∙ rw z refl)) (λ e. rw e (
-    cases (isStruct k || eqb k tupleKind) (λ f. rw f refl) (λ f. rw f (
-    cases ((eqb k utf8 || eqb k largeUtf8) && stringDictionaryEncoding options) (λ g. rw g (dictionary-type options .1)) (λ g. rw g (no-struct f))))))
-  where
-    no-struct : (isStruct k || eqb k tupleKind) ≡ false → eqb k struct ≡ false
-    no-struct f = cases (eqb k struct) (λ z. absurd (true≢false (let w : k ≡ struct = eqb-true k struct z in rw w at f))) (λ z. z)
-
-root-container : (k : ℕ) → isStructRoot k ≡ true → (isContainer k ≡ true) × (eqb k unionKind ≡ false)
+root-container : (k : ℕ) → emitsStruct k ≡ true → (isContainer k ≡ true) × (eqb k unionKind ≡ false)
 root-container k e =
     or-cases (isStruct k) (eqb k tupleKind) e
     (λ a. or-cases (eqb k structKind) (eqb k mapModeKind) a (λ b. rw (eqb-true k structKind b) (refl, refl)) (λ b. rw (eqb-true k mapModeKind b) (refl, refl)))
     (λ a. rw (eqb-true k tupleKind a) (refl, refl))
 
--- what the root's field says of its kind
-abbrev Typed : Bool → ℕ → Field → Type 0
-Typed b k (mk type nullable strategy number name fs) = (nullable ≡ b) × (eqb type null ≡ eqb k null) × (eqb type struct ≡ isStructRoot k)
-
-field-type : (options : ℕ) (name : List ℕ) (b : Bool) (k : ℕ) (ps : Places) → Typed b k (fieldOf options name 0 (shown b k ps))
-unfolding fieldOf if_then_else_
-field-type options name b k ps =
-    cases (eqb k unionKind && dataless ps && enumsWithoutDataAsStrings options)
-    (λ d. let z : k ≡ unionKind = eqb-true k unionKind (first (eqb k unionKind) (dataless ps) (enumsWithoutDataAsStrings options) d) in
-    rw d (refl, dictionary-type options .0 ∙ rw z refl, dictionary-type options .1 ∙ rw z refl))
-    (λ d. rw d (refl, type-null options k, type-struct options k))
-  where
-    first : (a c d : Bool) → (a && c && d) ≡ true → a ≡ true
-    first true c d e = refl
-    first false true true e = e
-    first false true false e = e
-    first false false true e = e
-    first false false false e = e
-
 module _ (options : ℕ) (text t : List ℕ) (fields names : List ℕ) (end records bytes columns : ℕ) where
-  finish-by : (b : Bool) (type k strategy number : ℕ) (name : List ℕ) (fs : Fields) → word t 0 nullWord ≡ one b → word t 0 kindWord ≡ k → eqb type null ≡ eqb k null → eqb type struct ≡ isStructRoot k
+  finish-by : (b : Bool) (type k strategy number : ℕ) (name : List ℕ) (fs : Fields) → word t 0 nullWord ≡ one b → word t 0 kindWord ≡ k → eqb type null ≡ eqb k null → eqb type struct ≡ emitsStruct k
       → records ≡ countIn fs → bytes ≡ length (namesIn fs)
-      → (isStructRoot k ≡ true → length (recordsIn fs) ≤ length fields → length (namesIn fs) ≤ length names
+      → (emitsStruct k ≡ true → length (recordsIn fs) ≤ length fields → length (namesIn fs) ≤ length names
       → fieldsBelow t (emittedAt options text t levelLimit) k 0 (writing 0 0 fields names)
       ≡ writing (length (recordsIn fs)) (length (namesIn fs)) (recordsIn fs ++ drop (length (recordsIn fs)) fields) (namesIn fs ++ drop (length (namesIn fs)) names))
       → Finishes fields names records bytes columns (rootFields end (mk type b strategy number name fs)) (finished options text t fields names records bytes columns)
@@ -102,7 +50,7 @@ module _ (options : ℕ) (text t : List ℕ) (fields names : List ℕ) (end reco
   finish-by false type k strategy number name fs e₁ e₀ tn ts rc nc w =
       rw (e₁, e₀, tn, ts) (cases (eqb k null)
       (λ a. rw a (F.NullRoot, refl, refl))
-      (λ a. rw a (cases (isStructRoot k)
+      (λ a. rw a (cases (emitsStruct k)
       (λ c. rw c (cases (ltb (length fields) (records * 8) || ltb (length names) bytes)
       (λ d. rw d refl)
       (λ d. neither (ltb (length fields) (records * 8)) (ltb (length names) bytes) d λ x y.
@@ -117,7 +65,7 @@ module _ (options : ℕ) (text t : List ℕ) (fields names : List ℕ) (end reco
       → records ≡ countIn (fieldsOfField (fieldOf options name 0 (placeOf false (erase u)))) → bytes ≡ length (namesIn (fieldsOfField (fieldOf options name 0 (placeOf false (erase u)))))
       → Finishes fields names records bytes columns (rootFields end (fieldOf options name 0 (placeOf false (erase u)))) (finished options text t fields names records bytes columns)
   finishes n (spot p b k m ks) name most q g r f o z e rc nc =
-      by (fieldOf options name 0 (placeOf false (erase (spot p b k m ks)))) refl (rw (place-is false p b k m ks) (field-type options name b k (placesOf k m (eraseIn (orderS false k ks))))) rc nc
+      by (fieldOf options name 0 (placeOf false (erase (spot p b k m ks)))) refl (rw (place-is false p b k m ks) (field-type options name 0 b k (placesOf k m (eraseIn (orderS false k ks))))) rc nc
     where
       by : (it : Field) → fieldOf options name 0 (placeOf false (erase (spot p b k m ks))) ≡ it → Typed b k it → records ≡ countIn (fieldsOfField it) → bytes ≡ length (namesIn (fieldsOfField it))
           → Finishes fields names records bytes columns (rootFields end it) (finished options text t fields names records bytes columns)

@@ -15,9 +15,9 @@ use Rattle.logic.specs.laws.Test.{cases}
 use Rattle.datatype.specs.Codes.{utf8, largeUtf8, noStrategy}
 use Rattle.options.specs.Word.{stringDictionaryEncoding, stringAsLargeUtf8, sequenceAsLargeList, enumsWithoutDataAsStrings, listType, dictionaryType}
 use Rattle.words.specs.Word.{word}
-use Rattle.model.specs.Kinds.{sequenceKind, mapKind, unionKind, tupleKind, mapModeKind, isContainer, isStruct, variantOf}
+use Rattle.model.specs.Kinds.{sequenceKind, mapKind, unionKind, mapModeKind, isContainer, variantOf}
 use Rattle.model.specs.Tracing.{one, placeLimit}
-use Rattle.model.specs.Emission.{shown, Places, placeOf, placesOf, isMissing, dataless, walk, Field, mk, Fields, no-fields, typeOf, strategyOf, nameOf, byName, arranged, fieldOf, fieldsOf, childCount, twoBytes, recordsOf, recordsIn, namesOf, namesIn}
+use Rattle.model.specs.Emission.{shown, Places, placeOf, placesOf, isMissing, dataless, walk, Field, mk, Fields, no-fields, emitsStruct, typeOf, strategyOf, nameOf, byName, arranged, fieldOf, fieldsOf, childCount, twoBytes, recordsOf, recordsIn, namesOf, namesIn}
 use Rattle.places.specs.Layout.{kindWord, nullWord}
 use Rattle.refine.specs.laws.numbered.Tree.{Spot, spot, Spots, no-spots, num, kindS}
 use Rattle.refine.specs.laws.numbered.Numbers.{Good}
@@ -59,7 +59,7 @@ type-small : (options k : ℕ) → k < 256 → typeOf options k < 256
 unfolding typeOf if_then_else_
 type-small options k l =
     cases (eqb k sequenceKind) (λ e. rw e (list-small options)) (λ e. rw e (
-    cases (isStruct k || eqb k tupleKind) (λ f. rw f (omega arith)) (λ f. rw f (
+    cases (emitsStruct k) (λ f. rw f (omega arith)) (λ f. rw f (
     cases ((eqb k utf8 || eqb k largeUtf8) && stringDictionaryEncoding options) (λ g. rw g (dictionary-small options)) (λ g. rw g l)))))
 
 -- nothing below a place that is no container

@@ -17,8 +17,9 @@ use Rattle.options.specs.Word.{allowNullFields, sequenceAsLargeList, stringAsLa
 use Rattle.refusal.specs.Number.{nullField, datalessUnion}
 use Rattle.text.specs.Name.{ltName}
 use Rattle.model.specs.Result.{accepted}
-use Rattle.model.specs.Kinds.{sequenceKind, structKind, mapKind, unionKind, tupleKind, mapModeKind, isStruct, Step, variantOf}
-use Rattle.model.specs.Emission.{Place, shown, Places, none-below, below, datalessFrom, dataless, slotLimit, firstOf, walk, walks, Field, mk, Fields, no-fields, more, typeOf, strategyOf, entriesName, nameOf, nameIn, insertField, byName, gap, gaps, arranged, fieldOf, fieldsOf, rootFields, rootName, childCount, namesOf, namesIn, columnsOf, columnsIn, countOf, countIn}
+use Rattle.model.specs.Kinds.{sequenceKind, structKind, mapKind, unionKind, mapModeKind, isStruct, Step, variantOf}
+use Rattle.model.specs.Tracing.{one}
+use Rattle.model.specs.Emission.{Place, shown, Places, none-below, below, datalessFrom, dataless, slotLimit, firstOf, walk, walks, Field, mk, Fields, no-fields, more, emitsStruct, typeOf, strategyOf, entriesName, nameOf, nameIn, insertField, byName, gap, gaps, arranged, fieldOf, fieldsOf, rootFields, rootName, childCount, namesOf, namesIn, isColumn, columnsOf, columnsIn, countOf, countIn}
 use Rattle.model.specs.Demand3.{isListed, inNameOrderOf, inNameOrderBelow, inNameOrder}
 use Rattle.equality.specs.laws.Base.{choice}
 use Rattle.equality.specs.laws.Proper.{kindFits, stepsBelow, fits, fitBelow}
@@ -190,7 +191,7 @@ unfolding typeOf
 not-map options kind n =
     let P : ℕ → Type 0 = λ type. eqb type map ≡ false in
     choice P (eqb kind sequenceKind) (λ _. choice P (sequenceAsLargeList options) (λ _. refl) (λ _. refl)) λ _.
-    choice P (isStruct kind || eqb kind tupleKind) (λ _. refl) λ _.
+    choice P (emitsStruct kind) (λ _. refl) λ _.
     choice P ((eqb kind utf8 || eqb kind largeUtf8) && stringDictionaryEncoding options) (λ _. choice P (stringAsLargeUtf8 options) (λ _. refl) (λ _. refl)) λ _. n
 
 map-type : (options kind : ℕ) → eqb (typeOf options kind) map ≡ eqb kind mapKind
@@ -286,22 +287,22 @@ root-reordered options end end′ (shown a k ps) (shown b l qs) fs o f g u w e h
     )
 
 -- ---- counts do not depend on the order
--- a sum over all fields, each by its name and the number of its children
+-- a sum over all fields, each by its type, its name and the number of its children
 unfoldable mutual
-  totalOf : (List ℕ → ℕ → ℕ) → Field → ℕ
-  totalOf weight (mk type nullable strategy number name fs) = weight name (childCount fs) + totalIn weight fs
+  totalOf : (ℕ → List ℕ → ℕ → ℕ) → Field → ℕ
+  totalOf weight (mk type nullable strategy number name fs) = weight type name (childCount fs) + totalIn weight fs
 
-  totalIn : (List ℕ → ℕ → ℕ) → Fields → ℕ
+  totalIn : (ℕ → List ℕ → ℕ → ℕ) → Fields → ℕ
   totalIn weight no-fields = 0
   totalIn weight (more f fs) = totalOf weight f + totalIn weight fs
 
-total-insert : (weight : List ℕ → ℕ → ℕ) (f : Field) (fs : Fields) → totalIn weight (insertField f fs) ≡ totalOf weight f + totalIn weight fs
+total-insert : (weight : ℕ → List ℕ → ℕ → ℕ) (f : Field) (fs : Fields) → totalIn weight (insertField f fs) ≡ totalOf weight f + totalIn weight fs
 unfolding totalIn insertField if_then_else_
 total-insert weight f no-fields = refl
 total-insert weight f (more g fs) =
     cases (ltName (nameIn g) (nameIn f)) (λ e. rw (insertField, e, totalIn, total-insert weight f fs) (omega arith)) (λ e. rw (insertField, e, totalIn))
 
-total-by-name : (weight : List ℕ → ℕ → ℕ) (fs : Fields) → totalIn weight (byName fs) ≡ totalIn weight fs
+total-by-name : (weight : ℕ → List ℕ → ℕ → ℕ) (fs : Fields) → totalIn weight (byName fs) ≡ totalIn weight fs
 unfolding totalIn byName
 total-by-name weight no-fields = refl
 total-by-name weight (more f fs) = total-insert weight f (byName fs) ∙ ap (_+_ (totalOf weight f)) (total-by-name weight fs)
@@ -324,19 +325,19 @@ count-order above (more f fs) = ap suc (count-order above fs)
 mutual
   unfolding totalIn inNameOrderBelow if_then_else_
 
-  total-field : (weight : List ℕ → ℕ → ℕ) (above : ℕ) (f : Field) → totalOf weight (inNameOrderOf above f) ≡ totalOf weight f
+  total-field : (weight : ℕ → List ℕ → ℕ → ℕ) (above : ℕ) (f : Field) → totalOf weight (inNameOrderOf above f) ≡ totalOf weight f
   total-field weight above (mk type nullable strategy number name fs) =
       let h = total-fields weight type fs in
       let n = count-order type fs in
       cases (isListed above type strategy)
-      (λ e. rw e (ap₂ _+_ (ap (weight name) (count-by-name (inNameOrderBelow type fs) ∙ n)) (total-by-name weight (inNameOrderBelow type fs) ∙ h)))
-      (λ e. rw e (ap₂ _+_ (ap (weight name) n) h))
+      (λ e. rw e (ap₂ _+_ (ap (weight type name) (count-by-name (inNameOrderBelow type fs) ∙ n)) (total-by-name weight (inNameOrderBelow type fs) ∙ h)))
+      (λ e. rw e (ap₂ _+_ (ap (weight type name) n) h))
 
-  total-fields : (weight : List ℕ → ℕ → ℕ) (above : ℕ) (fs : Fields) → totalIn weight (inNameOrderBelow above fs) ≡ totalIn weight fs
+  total-fields : (weight : ℕ → List ℕ → ℕ → ℕ) (above : ℕ) (fs : Fields) → totalIn weight (inNameOrderBelow above fs) ≡ totalIn weight fs
   total-fields weight above no-fields = refl
   total-fields weight above (more f fs) = ap₂ _+_ (total-field weight above f) (total-fields weight above fs)
 
-same-total : (weight : List ℕ → ℕ → ℕ) (fs gs : Fields) → inNameOrder fs ≡ inNameOrder gs → totalIn weight fs ≡ totalIn weight gs
+same-total : (weight : ℕ → List ℕ → ℕ → ℕ) (fs gs : Fields) → inNameOrder fs ≡ inNameOrder gs → totalIn weight fs ≡ totalIn weight gs
 unfolding inNameOrder
 same-total weight fs gs e = sym (kept fs) ∙ ap (totalIn weight) e ∙ kept gs
   where
@@ -346,30 +347,30 @@ same-total weight fs gs e = sym (kept fs) ∙ ap (totalIn weight) e ∙ kept gs
 mutual
   unfolding totalIn countIn
 
-  count-total : (f : Field) → countOf f ≡ totalOf (λ x n. 1) f
+  count-total : (f : Field) → countOf f ≡ totalOf (λ type x n. 1) f
   count-total (mk type nullable strategy number name fs) = let h = counts-total fs in omega arith
 
-  counts-total : (fs : Fields) → countIn fs ≡ totalIn (λ x n. 1) fs
+  counts-total : (fs : Fields) → countIn fs ≡ totalIn (λ type x n. 1) fs
   counts-total no-fields = refl
   counts-total (more f fs) = ap₂ _+_ (count-total f) (counts-total fs)
 
 mutual
   unfolding totalIn namesIn
 
-  name-total : (f : Field) → length (namesOf f) ≡ totalOf (λ x n. length x) f
+  name-total : (f : Field) → length (namesOf f) ≡ totalOf (λ type x n. length x) f
   name-total (mk type nullable strategy number name fs) = length-append name (namesIn fs) ∙ ap (_+_ (length name)) (names-total fs)
 
-  names-total : (fs : Fields) → length (namesIn fs) ≡ totalIn (λ x n. length x) fs
+  names-total : (fs : Fields) → length (namesIn fs) ≡ totalIn (λ type x n. length x) fs
   names-total no-fields = refl
   names-total (more f fs) = length-append (namesOf f) (namesIn fs) ∙ ap₂ _+_ (name-total f) (names-total fs)
 
 mutual
   unfolding totalIn columnsIn
 
-  column-total : (f : Field) → columnsOf f ≡ totalOf (λ x n. if eqb n 0 then 1 else 0) f
-  column-total (mk type nullable strategy number name fs) = ap (_+_ (if eqb (childCount fs) 0 then 1 else 0)) (columns-total fs)
+  column-total : (f : Field) → columnsOf f ≡ totalOf (λ type x n. one (isColumn type n)) f
+  column-total (mk type nullable strategy number name fs) = ap (_+_ (one (isColumn type (childCount fs)))) (columns-total fs)
 
-  columns-total : (fs : Fields) → columnsIn fs ≡ totalIn (λ x n. if eqb n 0 then 1 else 0) fs
+  columns-total : (fs : Fields) → columnsIn fs ≡ totalIn (λ type x n. one (isColumn type n)) fs
   columns-total no-fields = refl
   columns-total (more f fs) = ap₂ _+_ (column-total f) (columns-total fs)
 
@@ -377,7 +378,7 @@ mutual
 pub counts-reordered : (fs gs : Fields) → inNameOrder fs ≡ inNameOrder gs →
     (countIn fs ≡ countIn gs) × (length (namesIn fs) ≡ length (namesIn gs)) × (columnsIn fs ≡ columnsIn gs)
 counts-reordered fs gs e = (
-  counts-total fs ∙ same-total (λ x n. 1) fs gs e ∙ sym (counts-total gs),
-  names-total fs ∙ same-total (λ x n. length x) fs gs e ∙ sym (names-total gs),
-  columns-total fs ∙ same-total (λ x n. if eqb n 0 then 1 else 0) fs gs e ∙ sym (columns-total gs),
+  counts-total fs ∙ same-total (λ type x n. 1) fs gs e ∙ sym (counts-total gs),
+  names-total fs ∙ same-total (λ type x n. length x) fs gs e ∙ sym (names-total gs),
+  columns-total fs ∙ same-total (λ type x n. one (isColumn type n)) fs gs e ∙ sym (columns-total gs),
 )
