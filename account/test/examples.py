@@ -43,7 +43,7 @@ SOUNDINGS = [
     ("P12", DEFAULT, over_records(f"19 8000 {A} 04"), b"a", "refused 14 15"),
     ("an empty batch", DEFAULT, "", b"", "refused 12 0"),
     ("an empty batch, bit 0", DEFAULT | ALLOW_NULL_FIELDS, "", b"", "refused 16 0"),
-    ("a struct at depth 19", DEFAULT, over_records("15 17", of="0000 1200"), b"." * 18, ".../accepted 1 1"),
+    ("a struct at depth 19", DEFAULT, over_records("15 17", of="0000 1200"), b"." * 18, ".../accepted 1 0"),
     ("a struct at depth 20", DEFAULT, over_records("15 17", of="0000 1300"), b"." * 19, "refused 7 6"),
     ("a bool at depth 20", DEFAULT, over_records("01", of="0000 1300"), b"." * 19, ".../accepted 1 1"),
     ("a date and a plain text", DEFAULT | GUESS_DATES, over_records("0D 0100 0500", f"0D {A}"), b"a1-2-3",

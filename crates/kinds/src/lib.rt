@@ -49,18 +49,18 @@ pub fn is_struct(kind: u32) -> bool
     kind == shapes::STRUCT || kind == shapes::MAP_MODE
 }
 
-// Whether a place of that kind is emitted as Struct.
-pub fn emits_struct(kind: u32) -> bool
-    ensures { λ r. ⌜ r ≡ emitsStruct kind ⌝ }
-{
-    is_struct(kind) || kind == shapes::TUPLE
-}
-
 // Whether both are, in either mode.
 fn are_structs(kind: u32, other: u32) -> bool
     ensures { λ r. ⌜ r ≡ (isStruct kind && isStruct other) ⌝ }
 {
     is_struct(kind) && is_struct(other)
+}
+
+// Whether a place of that kind is emitted as Struct.
+pub fn emits_struct(kind: u32) -> bool
+    ensures { λ r. ⌜ r ≡ emitsStruct kind ⌝ }
+{
+    is_struct(kind) || kind == shapes::TUPLE
 }
 
 // Whether a container stands where no level is left.

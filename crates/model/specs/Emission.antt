@@ -218,8 +218,8 @@ unfoldable mutual
   namesIn no-fields = []
   namesIn (more f fs) = namesOf f ++ namesIn fs
 
--- a column is a field record without children whose type is not Struct (document 02, 6/14), whatever its strategy: an empty struct, tuple or
--- map-mode struct is none; a Null field, a slot never seen and a dictionary are
+-- a column is a field record without children whose type is not Struct (document 02, 6/14), whatever its strategy: an empty struct, an
+-- empty tuple and an empty map-mode struct are none; a Null field, a slot never seen and a dictionary are
 abbrev pub isColumn : (type children : ℕ) → Bool
 isColumn type children = eqb children 0 && not (eqb type struct)
 

@@ -12,8 +12,8 @@ use Rattle.shapes.specs.Steps.{fieldCode, unpackedName, Inside}
 
 -- Words 6 to 13 are links (`isLink` of words), two to a word of the row: 6 with 7, 8 with 9, 10 with 11, 12 with 13.
 --
--- A place's own words, which whoever reads a value at the place writes: 0, 1 and 2 are free; kind, whether null was seen, samples; first and
--- last child.
+-- A place's own words, which whoever reads a value at the place writes: 0, 1 and 2 are free; kind, whether null was seen, samples; first
+-- and last child.
 abbrev pub kindWord : ℕ
 kindWord = 3
 

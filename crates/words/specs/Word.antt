@@ -138,8 +138,9 @@ ordersEnd = 12
 abbrev pub isOrder : ℕ → Bool
 isOrder field = leb ordersFrom field && ltb field ordersEnd
 
--- how many words are zeroed with the places below `count`, from where a gap starts and then a plane: the gap, and of the plane those places,
--- but all of it where putting children in order stores links, for it is not shown to keep to those places. Behind the last gap is no plane.
+-- how many words are zeroed with the places below `count`, from where a gap starts and then a plane: the gap, and of the plane those
+-- places, but all of it where putting children in order stores links, for it is not shown to keep to those places. Behind the last
+-- gap is no plane.
 unfoldable pub clearedIn : ℕ → ℕ → ℕ
 clearedIn gap count =
     if eqb gap (rowWords - 1) then gapWords

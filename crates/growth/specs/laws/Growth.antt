@@ -222,12 +222,15 @@ module _ (text t : List ℕ) (n place : ℕ) (ready : Ready text t n place) (roo
     is-appended =
         record {
           parent = parent-appended;
-          parents = λ q o. described-else place code n name (lengthened place n t) q parentWord (λ e. absurd (o e)) ∙ word-other (linked place n t) place lastWord n q parentWord (λ e d. omega arith) ∙ linked-else place n t q parentWord (omega arith);
-          last = chain place lastWord (omega arith) ∙ word-same (linked place n t) place lastWord n (rw (length-linked place n t) (links .room)) (is-place text t n place ready) (omega arith) (in-each (omega arith));
+          parents = λ q o. described-else place code n name (lengthened place n t) q parentWord (λ e. absurd (o e))
+              ∙ word-other (linked place n t) place lastWord n q parentWord (λ e d. omega arith) ∙ linked-else place n t q parentWord (omega arith);
+          last = chain place lastWord (omega arith)
+              ∙ word-same (linked place n t) place lastWord n (rw (length-linked place n t) (links .room)) (is-place text t n place ready) (omega arith) (in-each (omega arith));
           lasts = λ q o. chained q lastWord (omega arith) (λ e d. o e) ∙ cases (eqb (word t place firstWord) 0)
               (λ z. rw z (word-other t place firstWord n q lastWord (λ e d. omega arith)))
               (λ z. rw z (word-other t (word t place lastWord) nextWord n q lastWord (λ e d. omega arith)));
-          first = λ z. chained place firstWord (omega arith) (λ e d. omega arith) ∙ (rw z (word-same t place firstWord n (links .room) (is-place text t n place ready) (omega arith) (in-each (omega arith))));
+          first = λ z. chained place firstWord (omega arith) (λ e d. omega arith)
+              ∙ (rw z (word-same t place firstWord n (links .room) (is-place text t n place ready) (omega arith) (in-each (omega arith))));
           firsts = λ q o. chained q firstWord (omega arith) (λ e d. omega arith) ∙ cases (eqb (word t place firstWord) 0)
               (λ z. rw z (word-other t place firstWord n q firstWord (λ e d. o e (eqb-true _ 0 z))))
               (λ z. rw z (word-other t (word t place lastWord) nextWord n q firstWord (λ e d. omega arith)));

@@ -23,6 +23,10 @@ past-quick-spec =
     (λ c. search (quick-null, needs))
     (λ c κs. search needs)
     (λ c. search needs)
-    (λ c. quick-known _ _ _ _ _ _ _ (c .before .before .before .before .before .before .before .leaf-at .ensures) _ _ _ (c .before .before .before .before .before .null .given .1) _ (c .before .get .ensures) (c .before .before .before .if2 .left) (c .if3 .taken))
+    (λ c.
+    let n = c .before .before .before .before .before in
+    quick-known _ _ _ _ _ _ _ (n .before .before .leaf-at .ensures) _ _ _ (n .null .given .1) _ (c .before .get .ensures) (c .before .before .before .if2 .left) (c .if3 .taken))
     (λ c. search needs)
-    (λ c. quick-changes _ _ _ _ _ _ _ (c .before .before .before .before .before .before .before .leaf-at .ensures) _ _ _ (c .before .before .before .before .before .null .given .1) _ (c .before .get .ensures) (c .before .before .before .if2 .left) (c .if3 .left)))
+    (λ c.
+    let n = c .before .before .before .before .before in
+    quick-changes _ _ _ _ _ _ _ (n .before .before .leaf-at .ensures) _ _ _ (n .null .given .1) _ (c .before .get .ensures) (c .before .before .before .if2 .left) (c .if3 .left)))

@@ -498,17 +498,21 @@ pub +read-container+read-contents+read-elements+read-entries+read-fields+read-na
     name-whole _ _ _ _ _ _ _ _ _ is _ (inv .0) _ _ (field .0) _ _ child)
     (λ c. search (whole-fits, needs))
     (λ c κs.
-    let is = c .before .before .before .before .before .before .before .before .before .before .before .before .before .before .before .before .before .before .pre .1 .1 in
-    let inv = c .before .before .before .before .before .before .before .before .before .before .before .before .before .before .loop .inv in
-    let field = c .before .before .before .before .before .before .before .before .before .before .before .before .open-field .ensures in
-    let child = c .before .before .before .before .before .before .before .before .child .given .1 in
+    let k = c .before .before .before .before .before .before .before .before in
+    let i = k .before .before .before .before .before .before in
+    let pre = i .before .before .before .before .pre .1 in
+    let inv = i .loop .inv in
+    let field = k .before .before .before .before .open-field .ensures in
+    let child = k .child .given .1 in
     let quick = c .before .before .before .before .before .past-quick .ensures in
     let same = quick-none _ _ _ _ _ _ _ _ (c .before .before .if1 .left) quick in
-    (search needs, ((rw same (field-ready _ _ _ _ (field .1) _ _ child), c .before .before .before .before .before .before .before .before .before .before .before .before .before .before .before .before .before .before .pre .1 .0 .1), name-inside _ _ _ _ _ _ _ _ _ is _ (inv .0) _ _ (field .0) _ _ child _ (c .before .read-name .ensures))))
+    let inside = name-inside _ _ _ _ _ _ _ _ _ (pre .1) _ (inv .0) _ _ (field .0) _ _ child _ (c .before .read-name .ensures) in
+    (search needs, ((rw same (field-ready _ _ _ _ (field .1) _ _ child), pre .0 .1), inside)))
     (λ c. search needs)
     (λ c.
-    let is = c .before .before .before .before .before .before .before .before .before .before .before .before .before .before .before .before .before .before .before .before .before .before .before .before .pre .1 .1 in
-    let inv = c .before .before .before .before .before .before .before .before .before .before .before .before .before .before .before .before .before .before .before .before .loop .inv in
+    let i = c .before .before .before .before .before .before .before .before .before .before .before .before .before .before .before .before .before .before .before .before in
+    let is = i .before .before .before .before .pre .1 .1 in
+    let inv = i .loop .inv in
     let field = c .before .before .before .before .before .before .before .before .before .before .before .before .before .before .before .before .before .before .open-field .ensures in
     let child = c .before .before .before .before .before .before .before .before .before .before .before .before .before .before .child .given .1 in
     let quick = c .before .before .before .before .before .before .before .before .before .before .before .past-quick .ensures in
@@ -518,7 +522,9 @@ pub +read-container+read-contents+read-elements+read-entries+read-fields+read-na
     let next = c .before .behind .given .1 in
     fields-less _ _ _ _ _ _ _ _ _ is _ (inv .0) _ _ (field .0) _ _ child _ name _ _ (rw same at (read .0)) _ _ next)
     (λ c.
-    let is = c .before .before .before .before .before .before .before .before .before .before .before .before .before .before .before .before .before .before .before .before .before .before .before .before .pre .1 .1 in
+    let is =
+    c .before .before .before .before .before .before .before .before .before .before .before .before .before .before .before .before .before .before .before .before .before .before .before .before
+    .pre .1 .1 in
     let inv = c .before .before .before .before .before .before .before .before .before .before .before .before .before .before .before .before .before .before .before .before .loop .inv in
     let field = c .before .before .before .before .before .before .before .before .before .before .before .before .before .before .before .before .before .before .open-field .ensures in
     let child = c .before .before .before .before .before .before .before .before .before .before .before .before .before .before .child .given .1 in
@@ -534,8 +540,9 @@ pub +read-container+read-contents+read-elements+read-entries+read-fields+read-na
     (λ c. search needs)
     (λ c. search needs)
     (λ c.
-    let is = c .before .before .before .before .before .before .before .before .before .before .before .before .before .before .before .before .before .before .before .before .before .before .before .before .pre .1 .1 in
-    let inv = c .before .before .before .before .before .before .before .before .before .before .before .before .before .before .before .before .before .before .before .before .loop .inv in
+    let i = c .before .before .before .before .before .before .before .before .before .before .before .before .before .before .before .before .before .before .before .before in
+    let is = i .before .before .before .before .pre .1 .1 in
+    let inv = i .loop .inv in
     let field = c .before .before .before .before .before .before .before .before .before .before .before .before .before .before .before .before .before .before .open-field .ensures in
     let child = c .before .before .before .before .before .before .before .before .before .before .before .before .before .before .child .given .1 in
     let quick = c .before .before .before .before .before .before .before .before .before .before .before .past-quick .ensures in

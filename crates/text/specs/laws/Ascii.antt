@@ -21,7 +21,9 @@ unfolding anyFrom
 none-high test zero e k h = absurd (omega arith)
 none-high test (suc count) e k h =
     neither (anyFrom test 0 count) (test (0 + count)) e λ before this.
-    cases (eqb k count) (λ q. let z : 0 + count ≡ k = let p : k ≡ count = eqb-true k count q in omega arith in rw z at this) (λ q. let d : (k ≡ count → ⊥) = eqb-false k count q in none-high test count before k (omega (arith, d)))
+    cases (eqb k count)
+    (λ q. let z : 0 + count ≡ k = let p : k ≡ count = eqb-true k count q in omega arith in rw z at this)
+    (λ q. let d : (k ≡ count → ⊥) = eqb-false k count q in none-high test count before k (omega (arith, d)))
 
 low-bytes : (xs : List ℕ) → ((k : ℕ) → k < length xs → getD xs k 0 < 0x80) → isUtf8 xs ≡ true
 unfolding reads
