@@ -1,6 +1,5 @@
 -- `past_quick`: a law for each of its answers.
 use borrow.Author.Needs.{needs}
-use native.Mathlib.Omega.{arith}
 use Rattle.leaves.specs.laws.Quick.{same-fits, quick-same, quick-other, quick-null, quick-known, quick-changes}
 use Rattle.leaves.proofs.past_quick.Statement.{statement}
 use Rattle.leaves.proofs.past_quick.Tie as tie

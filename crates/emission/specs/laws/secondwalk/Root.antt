@@ -1,5 +1,5 @@
 -- What follows the first walk: refusals 15 to 18, or the schema and both buffers, as the model has them.
-use mathlib.Core.Path.{_≡_, refl, sym, _∙_}
+use mathlib.Core.Path.{_≡_, refl}
 use mathlib.Core.Bool.{Bool, true, false, _||_}
 use mathlib.Core.List.{List, _++_}
 use mathlib.Core.Option.{none}
