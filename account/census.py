@@ -64,7 +64,8 @@ def kind_seen(options, values):
 
 def type_seen(options, types):
     """The type read off a set: "none: Null; one: itself; several numbers: Float64 with a float among them, else Int64
-    with a signed one, else UInt64; timestamps of both zones, or with strings: the string type". Others are refused."""
+    with a signed one, else UInt64; timestamps of both zones, or with strings: the string type". Others are refused, and
+    so are integers with floats in edition 2."""
     if not types:
         return t.NULL
     if len(types) == 1:

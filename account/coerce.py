@@ -1,4 +1,4 @@
-"""Document 01, "Places": the joint of two primitive types that meet at a place."""
+"""Document 01, "Places": the joint of two primitive types that meet at a place, with the editions of document 02's 4/14."""
 
 from . import datatype as t
 
@@ -11,6 +11,8 @@ def joint(options, first, second):
     if first == t.NULL:
         return second
     pair = {first, second}
+    if options.edition_2() and pair & t.INTEGERS and pair & t.FLOATS:
+        return None                             # "integers and floats have no joint even with coerce_numbers"
     if options.coerce_numbers() and pair <= t.NUMBERS:
         return joint_of_numbers(pair)
     if options.allow_to_string() and pair & t.STRINGS and pair & (t.NUMBERS | {t.BOOLEAN}):

@@ -1,10 +1,11 @@
-"""Document 01, "Options word": 16 bits; "options are passed by value, and each question put to them is a method"."""
+"""Document 01, "Options word": 16 bits; "options are passed by value, and each question put to them is a method". With the
+bit of document 02's 4/14."""
 
 from dataclasses import dataclass
 
 from . import datatype as t
 
-LAST_BIT = 9
+LAST_BIT = 10
 
 
 @dataclass(frozen=True)
@@ -15,7 +16,7 @@ class Options:
         return self.word >> bit & 1 == 1
 
     def has_unknown_bit(self):
-        """Refusal 1: "an options bit above 9 is set"."""
+        """Refusal 1, which "now covers bits 11 to 15"."""
         return self.word >> LAST_BIT + 1 != 0
 
     # -- "Bit 0 allow_null_fields, 1 map_as_struct, ..."
@@ -49,6 +50,10 @@ class Options:
 
     def enums_without_data_as_strings(self):
         return self.has(9)
+
+    def edition_2(self):
+        """4/14: "Options bit 10 set means edition 2 [...]. Bit 10 clear is edition 1"."""
+        return self.has(10)
 
     # -- the types that they choose
 

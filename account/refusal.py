@@ -1,6 +1,6 @@
 """Document 01, "Eighteen ways to be turned down": the refusals by number."""
 
-UNKNOWN_OPTION = 1      # an options bit above 9 is set
+UNKNOWN_OPTION = 1      # an options bit above 10 is set
 SHORT_TABLE = 2         # the work table has fewer than 16,384 words of 32 bits
 LONG_INPUT = 3          # commands or text exceed 65,535 bytes
 BAD_COMMAND = 4         # a command is unknown, cut off, or cannot stand there

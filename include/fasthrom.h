@@ -41,6 +41,8 @@ enum {
     FASTHROM_ALLOW_TO_STRING = 128,
     FASTHROM_GUESS_DATES = 256,
     FASTHROM_ENUMS_WITHOUT_DATA_AS_STRINGS = 512,
+    /* Edition 2 of the exchange standard: integers and floats that meet have no common type. */
+    FASTHROM_EDITION_2 = 1024,
     FASTHROM_DEFAULT_OPTIONS = 30
 };
 
@@ -121,7 +123,7 @@ enum {
  * they end too soon), of 12 to 18 the commands' length. */
 enum {
     FASTHROM_ACCEPTED = 0,
-    /* An options bit above 9 is set. */
+    /* An options bit above 10 is set. */
     FASTHROM_REFUSED_UNKNOWN_OPTION = 1,
     /* The work table has fewer than FASTHROM_TABLE_WORDS words. */
     FASTHROM_REFUSED_SHORT_TABLE = 2,

@@ -1,5 +1,5 @@
-"""Questions to the whole call, with the answers of the published Rust, for `answers_vectors`. Run in any folder; the
-oracle is brought up to date first:
+"""Questions to the whole call, with the answers of the published Rust and, in edition 2, of the account (../account), for
+`answers_vectors`. Run in any folder; the oracle is brought up to date first:
 
     python3 vectors/answers.py
 
@@ -8,17 +8,22 @@ numbers (three bytes each; the low byte is first), the commands, the text, and t
 numbers: words of the table lent, length of commands and of text, bytes of both buffers lent; then the answer's refusal,
 place, field records, name bytes and columns.
 
-Refusals 2 and 18 are lengths, compared here; all else is the oracle's. The lists depend on nothing but this file,
-batches.py and edges.py: a second run writes the same bytes.
+Refusals 2 and 18 are lengths, compared here; all else is the oracle's or the account's. The lists depend on nothing but
+this file, batches.py and edges.py: a second run writes the same bytes.
 """
 
+import itertools
 import random
 import subprocess
+import sys
 
 import batches
 import edges
 import published
 from published import ORACLE, TOP
+
+sys.path.insert(0, str(TOP))
+from account.answer import answer as account_of  # noqa: E402
 
 PROGRAM = TOP / "crates" / "answers_vectors"
 # what the program has room for
@@ -36,6 +41,13 @@ def oracle(questions):
         else:
             records, names = (b"" if word == "-" else bytes.fromhex(word) for word in rest[:2])
             yield records, names, int(rest[2])
+
+
+def account(questions):
+    """The same of the account."""
+    for options, commands, text in questions:
+        given = account_of(options, commands, text)
+        yield (given.refusal, given.place) if given.refusal else (given.records, given.names, given.columns)
 
 
 def lend(rng, needed):
@@ -62,7 +74,7 @@ def question(rng, asked, answer):
     words = rng.randrange(TABLE_USED) if rng.random() < 0.01 else rng.choice([TABLE_USED, TABLE_USED + 3, TABLE])
     if rng.random() < 0.02:
         words = TABLE_USED - 1
-    if words < TABLE_USED and options < 1 << 10:
+    if words < TABLE_USED and options < 1 << 11:
         answer = (2, 0)
     elif len(answer) == 3 and (record_bytes < needed[0] or name_bytes < needed[1]):
         answer = (18, len(commands))
@@ -80,8 +92,8 @@ def few_names(made):
     made.take(made.rng.sample(batches.NAMES, 4))
 
 
-def shaped():
-    made = batches.Batches(101)
+def shaped(seed):
+    made = batches.Batches(seed)
     while True:
         few_names(made)
         commands = made.shaped()
@@ -98,18 +110,22 @@ def damaged():
             yield made.options(), commands, made.text
 
 
-def each_option():
-    """Small batches, one for each thing that an option decides, under words that differ in each bit."""
-    text = b"ab2024-01-02T03:04:05Zv7"
-    a, b, date, v, digit = (edges.name(*span) for span in [(0, 1), (1, 1), (2, 20), (22, 1), (23, 1)])
+SMALL_TEXT = b"ab2024-01-02T03:04:05Zv7"
 
-    def of(*values):
-        return b"".join(edges.field(value) for value in values)
+
+def of(*values):
+    """A record for each, with it in the one field."""
+    return b"".join(edges.field(value) for value in values)
+
+
+def small():
+    """Small batches over SMALL_TEXT, one for each thing that an option decides."""
+    a, b, date, v, digit = (edges.name(*span) for span in [(0, 1), (1, 1), (2, 20), (22, 1), (23, 1)])
 
     def variant(form, number, name, contents=b""):
         return bytes([form]) + edges.u16(number) + name + contents
 
-    cases = [
+    return [
         b"",
         b"\x00",
         b"\x15\x17",
@@ -141,15 +157,40 @@ def each_option():
         of(variant(0x1A, 0, a, b"\x01\x00\x0f"), variant(0x1B, 1, b, b"\x16" + v + b"\x04\x17")),
         of(b"\x12" + b"".join(variant(0x18, i, a) for i in range(129)) + b"\x17"),
     ]
+
+
+LENGTHS = bytes.fromhex("15 16 00000600 0B 16 06000400 0D 06000400 17 15 16 00000600 08 17"), b"lengthname"
+
+
+def each_option():
+    """The small batches under words of edition 1 that differ in each bit."""
     words = [0, 30, 1023] + [base ^ 1 << bit for base in (0, 30, 1023) for bit in range(10)]
-    for commands in cases:
+    for commands in small():
         for options in words:
-            yield options, commands, text
-    for bit in range(10, 16):
-        yield 30 | 1 << bit, cases[2], text
+            yield options, commands, SMALL_TEXT
+    for bit in range(11, 16):
+        yield 30 | 1 << bit, b"\x15\x17", SMALL_TEXT
     # document 01's sounding, over tables and buffers of several lengths
     for _ in range(4):
-        yield 94, bytes.fromhex("15 16 00000600 0B 16 06000400 0D 06000400 17 15 16 00000600 08 17"), b"lengthname"
+        yield 94, *LENGTHS
+
+
+def edition_2():
+    """Document 01's sounding, each two number types, and with a text between and behind; the small batches; random ones."""
+    coerce, to_string = 1 << 6, 1 << 7
+    for options in (94, 30, 95, 127):
+        yield options | batches.EDITION_2, *LENGTHS
+    text = b"\x0d" + edges.name(0, 1)
+    for pair in itertools.product(batches.NUMBERS, repeat=2):
+        first, second = (bytes([command]) for command in pair)
+        yield coerce | batches.EDITION_2, of(first, second), SMALL_TEXT
+        yield coerce | to_string | batches.EDITION_2, of(first, text, second), SMALL_TEXT
+        yield coerce | to_string | batches.EDITION_2, of(first, second, text), SMALL_TEXT
+    for commands in small():
+        for options in (0, 30, 94, 1023):
+            yield options | batches.EDITION_2, commands, SMALL_TEXT
+    for options, commands, text in shaped(105):
+        yield options | batches.EDITION_2, commands, text
 
 
 def limits():
@@ -174,12 +215,12 @@ def lengths():
 # ------------------------------------------------------------------ files
 
 
-def ask(name, batch_list, count, seed):
-    """The first questions of a list, as many as asked for and as there is room for."""
+def ask(name, who, batch_list, count, seed):
+    """The first questions of a list, as many as asked for and as there is room for, with the answers of one or the other."""
     rng = random.Random(seed)
     asked = [b for b, _ in zip(batch_list, range(count))]
     made, refusals = b"", []
-    for one, answer in zip(asked, oracle(asked), strict=True):
+    for one, answer in zip(asked, who(asked), strict=True):
         if len(answer) == 3 and max(len(answer[0]), len(answer[1])) > BUFFER:
             continue
         more, refusal = question(rng, one, answer)
@@ -192,19 +233,20 @@ def ask(name, batch_list, count, seed):
 
 
 LISTS = [
-    ("shaped.bin", shaped(), 1700, "batches of a shape"),
-    ("damaged.bin", damaged(), 1200, "damaged batches"),
-    ("options.bin", each_option(), 10_000, "batches under each option"),
-    ("limits.bin", limits(), 10_000, "batches near the limits"),
-    ("lengths.bin", lengths(), 3, "batches of the greatest length"),
+    ("shaped.bin", oracle, shaped(101), 1700, "batches of a shape"),
+    ("damaged.bin", oracle, damaged(), 1200, "damaged batches"),
+    ("options.bin", oracle, each_option(), 10_000, "batches under each option"),
+    ("limits.bin", oracle, limits(), 10_000, "batches near the limits"),
+    ("lengths.bin", oracle, lengths(), 3, "batches of the greatest length"),
+    ("edition_2.bin", account, edition_2(), 1200, "batches in edition 2"),
 ]
 
 
 def main():
     (PROGRAM / "data").mkdir(parents=True, exist_ok=True)
     said, all_refusals = "", []
-    for seed, (name, batch_list, count, what) in enumerate(LISTS):
-        refusals = ask(name, batch_list, count, seed)
+    for seed, (name, who, batch_list, count, what) in enumerate(LISTS):
+        refusals = ask(name, who, batch_list, count, seed)
         said += f"{len(refusals)} {what} in {(PROGRAM / 'data' / name).stat().st_size} bytes, 0 differ\n"
         all_refusals += refusals
     (PROGRAM / "stdout").write_text(said)

@@ -1,4 +1,4 @@
-"""Random batches for `oracle batch`, a line `OPTIONS COMMANDS TEXT` each:
+"""Random batches in edition 1 for `oracle batch`, a line `OPTIONS COMMANDS TEXT` each:
 
     python3 vectors/batches.py SEED COUNT
 
@@ -14,6 +14,8 @@ NAMES = [b"a", b"b", b"c", b"key", b"element", b"a.b", b".", b"", b"0", "é".enc
 NOT_UTF8 = b"\xff\xc3"
 # names that every text has
 ALWAYS = [b"a", b"." * 18]
+
+EDITION_2 = 1 << 10
 
 PRIMITIVES = list(range(0x00, 0x10))
 NUMBERS = list(range(0x02, 0x0D))
@@ -136,7 +138,7 @@ class Batches:
 
     def options(self):
         if self.chance(1):
-            return self.rng.randrange(1 << 16)
+            return self.rng.randrange(1 << 16) & ~EDITION_2
         word = self.rng.randrange(1 << 10)
         return word | 1 if self.chance(60) else word
 

@@ -1,5 +1,6 @@
 """Makes the stored vectors anew: the lists of texts, of byte strings and of pairs of types, each with the oracle's
-answers (README.md has the layouts). Run in any folder; the oracle is brought up to date first:
+answers, and of pairs in edition 2 with the account's (README.md has the layouts). Run in any folder; the oracle is brought
+up to date first:
 
     python3 vectors/make.py
 
@@ -9,9 +10,16 @@ The lists depend on nothing but this file: a second run writes the same bytes.
 import itertools
 import random
 import subprocess
+import sys
 
 import published
+from batches import EDITION_2
 from published import ORACLE, TOP
+
+sys.path.insert(0, str(TOP))
+from account.coerce import joint as joint_of  # noqa: E402
+from account.datatype import STRINGS  # noqa: E402
+from account.options import Options  # noqa: E402
 
 PROGRAM = TOP / "crates" / "record_vectors"
 
@@ -175,12 +183,18 @@ def make_byte_strings():
 NONE = 255
 
 
+def joint_record(word, first, second, joint):
+    return word.to_bytes(2, "little") + bytes([first, second, NONE if joint is None else joint])
+
+
 def make_joints():
-    records = []
-    for line in ask("coerce"):
-        word, first, second, joint = line.split()
-        records.append(int(word).to_bytes(2, "little")
-                       + bytes([int(first), int(second), NONE if joint == "-" else int(joint)]))
+    """Those of edition 1; then those of edition 2 under the same words, of types that a batch can show."""
+    asked = [[None if word == "-" else int(word) for word in line.split()] for line in ask("coerce")]
+    records = [joint_record(*one) for one in asked]
+    for word, first, second, _ in asked:
+        options = Options(word | EDITION_2)
+        if {first, second} & STRINGS <= {options.string_type()}:
+            records.append(joint_record(options.word, first, second, joint_of(options, first, second)))
     return store("joints.bin", "joints", records)
 
 

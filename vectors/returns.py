@@ -3,24 +3,29 @@
     python3 vectors/returns.py
 
 Writes crates/schema_list/data (the returns' files), crates/schema_list/args (which three files each return is, one after
-another) and crates/schema_list/stdout (what the oracle lists for each: nothing where a file is missing or the options word is
-not two bytes long, which the program says on standard error). A second run writes the same bytes.
+another) and crates/schema_list/stdout (what the oracle lists for each, and in edition 2 the account: nothing where a file is
+missing or the options word is not two bytes long, which the program says on standard error). A second run writes the same bytes.
 """
 
 import pathlib
 import shutil
 import subprocess
+import sys
 import tempfile
 
 import published
+from batches import EDITION_2
 from published import ORACLE, TOP
+
+sys.path.insert(0, str(TOP))
+from account.listing import list_return  # noqa: E402
 
 PROGRAM = TOP / "crates" / "schema_list"
 DEFAULT, ALLOW_NULL_FIELDS, COERCE_NUMBERS, GUESS_DATES = 30, 1, 64, 256
 # one byte more than the call takes
 TOO_LONG = 65_536
 
-BOOL, U8, U32, F64, END = b"\x01", b"\x06", b"\x08", b"\x0b", b"\x17"
+BOOL, I8, U8, U32, F32, F64, END = b"\x01", b"\x02", b"\x06", b"\x08", b"\x0a", b"\x0b", b"\x17"
 
 
 def u16(n):
@@ -87,6 +92,10 @@ REMARKS = {
     "null": Return({"r": b"\0"}),
 }
 
+# document 01's return, an f64 and then a u32, which edition 2 refuses; and one whose numbers have a joint there
+LENGTHS = Return({"length": F64, "name": "name"}, {"length": U32})
+MILLIMETRES = Return({"length": U8, "draught": F32}, {"length": I8, "draught": F64})
+
 FILES = {
     "decks/options.bin": u16(DEFAULT | ALLOW_NULL_FIELDS | COERCE_NUMBERS),
     "decks/commands.bin": DECKS.commands,
@@ -97,6 +106,11 @@ FILES = {
     "remarks/options.bin": u16(DEFAULT | ALLOW_NULL_FIELDS),
     "remarks/text.bin": b"r",
     **{f"remarks/{name}.bin": remarks.commands for name, remarks in REMARKS.items()},
+    "edition_2/options.bin": u16(DEFAULT | COERCE_NUMBERS | EDITION_2),
+    "edition_2/lengths.bin": LENGTHS.commands,
+    "edition_2/lengths.text.bin": LENGTHS.text,
+    "edition_2/millimetres.bin": MILLIMETRES.commands,
+    "edition_2/millimetres.text.bin": MILLIMETRES.text,
     "wrong/one.bin": b"\x5f",
     "wrong/three.bin": b"\x5f\0\0",
     "wrong/commands.bin": b"\x15\x17" * (TOO_LONG // 2),
@@ -113,16 +127,19 @@ RETURNS = [
     ("decks/options.bin", "wrong/commands.bin", "decks/text.bin"),
     ("decks/options.bin", "decks/commands.bin", "wrong/text.bin"),
     *(("remarks/options.bin", f"remarks/{name}.bin", "remarks/text.bin") for name in REMARKS),
+    *(("edition_2/options.bin", f"edition_2/{name}.bin", f"edition_2/{name}.text.bin") for name in ("lengths", "millimetres")),
 ]
 
 
 def listed(files):
-    """What the oracle lists; nothing for a return that is none."""
+    """What the oracle or the account lists; nothing for a return that is none."""
     if any(name not in FILES for name in files) or len(FILES[files[0]]) != 2:
         return b""
     with tempfile.TemporaryDirectory() as folder:
         for name, source in zip(("options.bin", "commands.bin", "text.bin"), files):
             pathlib.Path(folder, name).write_bytes(FILES[source])
+        if int.from_bytes(FILES[files[0]], "little") & EDITION_2:
+            return list_return(pathlib.Path(folder))
         return subprocess.run([ORACLE, "list", folder], capture_output=True, check=True).stdout
 
 

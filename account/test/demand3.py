@@ -119,8 +119,8 @@ def same_but_order(one, other):
 # ---- random batches
 
 def plain_word(made):
-    """An options word with those two off, and with allow_null_fields mostly on."""
-    word = made.rng.randrange(1 << 10) & ~(TO_STRING | ENUMS_AS_STRINGS)
+    """An options word of either edition with those two off, and with allow_null_fields mostly on."""
+    word = made.rng.randrange(1 << 11) & ~(TO_STRING | ENUMS_AS_STRINGS)
     return word | 1 if made.chance(80) else word
 
 

@@ -8,7 +8,7 @@ from ..answer import Lent, answer
 from ..listing import listing
 
 ALLOW_NULL_FIELDS, MAP_AS_STRUCT, DEFAULT = 1, 2, 30
-STRING_DICTIONARY, COERCE, TO_STRING, GUESS_DATES, ENUMS_AS_STRINGS = 32, 64, 128, 256, 512
+STRING_DICTIONARY, COERCE, TO_STRING, GUESS_DATES, ENUMS_AS_STRINGS, EDITION_2 = 32, 64, 128, 256, 512, 1024
 
 # the names a and b of a text that begins so
 A, B = "0000 0100", "0100 0100"
@@ -129,7 +129,19 @@ READINGS = [
     ("15 at its end", 0, "10" * 65_534 + "01", b"", "refused 15 65535"),
     ("values of any depth are read", 0, "12" * 65_535, b"", "refused 7 20"),
     ("variants of any number", 0, over_records(f"18 FFFF {A}"), b"a", "refused 14 14"),
-    ("1", 1024, "", b"", "refused 1 0"),
+    ("4/14: the listing, its u32 after an f64", 94 | EDITION_2,
+     "15 16 00 00 06 00 0B 16 06 00 04 00 0D 06 00 04 00 17 15 16 00 00 06 00 08 17", b"lengthname", "refused 10 24"),
+    ("4/14: u8 and i8", COERCE | EDITION_2, over_records("06", "02"), b"a", "0 5 0 0 0 0 a/accepted 1 1"),
+    ("4/14: f32 and f64", COERCE | EDITION_2, over_records("0A", "0B"), b"a", "0 11 0 0 0 0 a/accepted 1 1"),
+    ("4/14: u8 and u16", COERCE | EDITION_2, over_records("06", "07"), b"a", "0 9 0 0 0 0 a/accepted 1 1"),
+    ("4/14: char is an integer", COERCE | EDITION_2, over_records("0C", "0A"), b"a", "refused 10 14"),
+    ("4/14: without bit 6", EDITION_2, over_records("06", "07"), b"a", "refused 10 14"),
+    ("4/14: equal number types", EDITION_2, over_records("0A", "0A"), b"a", "0 10 0 0 0 0 a/accepted 1 1"),
+    ("4/14: a text between", COERCE | TO_STRING | EDITION_2, over_records("04", f"0D {A}", "0B"), b"a",
+     "0 12 0 0 0 0 a/accepted 1 1"),
+    ("4/14: a text behind", COERCE | TO_STRING | EDITION_2, over_records("04", "0B", f"0D {A}"), b"a", "refused 10 14"),
+    ("4/14: bit 10 alone is no refusal 1", EDITION_2, "15 17", b"", "accepted 0 0"),
+    ("1", 2048, "", b"", "refused 1 0"),
     ("3", 0, "01" * 65_536, b"", "refused 3 0"),
 ]
 
@@ -159,7 +171,8 @@ def check_lengths():
         (options, Lent(records=15, names=10), (18, len(commands), True)),
         (options, Lent(records=16, names=9), (18, len(commands), True)),
         (options, Lent(table=16_383), (2, 0, False)),
-        (options | 1024, Lent(table=16_383), (1, 0, False)),
+        (options | EDITION_2, Lent(table=16_383), (2, 0, False)),
+        (options | 2048, Lent(table=16_383), (1, 0, False)),
     ]
     for word, lent, wanted in cases:
         given = answer(word, commands, text, lent)

@@ -98,12 +98,14 @@ static void test_refusal(unsigned options, size_t commands_length, size_t table_
 
 int main(void) {
     test_sounding();
-    test_refusal(1024, sizeof COMMANDS, FASTHROM_TABLE_WORDS, FASTHROM_REFUSED_UNKNOWN_OPTION, 0, "an unknown option");
+    test_refusal(2048, sizeof COMMANDS, FASTHROM_TABLE_WORDS, FASTHROM_REFUSED_UNKNOWN_OPTION, 0, "an unknown option");
     test_refusal(SOUNDING_OPTIONS, sizeof COMMANDS, FASTHROM_TABLE_WORDS - 1, FASTHROM_REFUSED_SHORT_TABLE, 0,
                  "a short table");
     test_refusal(SOUNDING_OPTIONS, 17, FASTHROM_TABLE_WORDS, FASTHROM_REFUSED_BAD_COMMAND, 17, "an end still due");
     test_refusal(FASTHROM_DEFAULT_OPTIONS, sizeof COMMANDS, FASTHROM_TABLE_WORDS, FASTHROM_REFUSED_NO_JOINT, 24,
                  "numbers that are not coerced");
+    test_refusal(SOUNDING_OPTIONS | FASTHROM_EDITION_2, sizeof COMMANDS, FASTHROM_TABLE_WORDS, FASTHROM_REFUSED_NO_JOINT, 24,
+                 "a float and an integer in edition 2");
     test_refusal(SOUNDING_OPTIONS, 0, FASTHROM_TABLE_WORDS, FASTHROM_REFUSED_NULL_FIELD, 0, "an empty batch");
     if (failures == 0) {
         puts("ok");

@@ -52,7 +52,7 @@ fn check_buffers(question: &Question, schema: &Answered, fields: usize, names: u
 }
 
 fn check_short_table(question: &Question) -> Result<(), Broken> {
-    let number = if question.options >> 10 != 0 { UNKNOWN_OPTION } else { SHORT_TABLE };
+    let number = if question.options >> 11 != 0 { UNKNOWN_OPTION } else { SHORT_TABLE };
     let lent = Lent { table: TABLE - 1, fields: 8, names: 8 };
     expect(question, lent, &refused(number, 0), "a table one word short is not refused")
 }

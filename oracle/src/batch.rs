@@ -12,7 +12,8 @@ use crate::internal::schema::tracer::Tracer;
 use crate::internal::schema::{get_strategy_from_metadata, Strategy};
 
 const MAP_AS_STRUCT: u16 = 1 << 1;
-const OPTIONS: u16 = 1 << 10;
+const EDITION_2: u16 = 1 << 10;
+const OPTIONS: u16 = 1 << 11;
 const MAX_BYTES: usize = 65_535;
 const MAX_PLACES: usize = 1024;
 
@@ -54,12 +55,20 @@ fn places(tracer: &Tracer) -> usize {
 }
 
 pub struct Question<'a> {
-    pub word: u16,
-    pub commands: &'a [u8],
-    pub text: &'a [u8],
+    word: u16,
+    commands: &'a [u8],
+    text: &'a [u8],
 }
 
-impl Question<'_> {
+impl<'a> Question<'a> {
+    /// A question that the Rust can be asked: it knows edition 1 alone.
+    pub fn new(word: u16, commands: &'a [u8], text: &'a [u8]) -> io::Result<Self> {
+        if word < OPTIONS && word & EDITION_2 != 0 {
+            return Err(io::Error::other(format!("the Rust has no edition 2: {word:04x}")));
+        }
+        Ok(Question { word, commands, text })
+    }
+
     /// A run up to a point, with the offsets of the commands that it read.
     fn run(&self, until: usize) -> (Result<Tracer, Refused>, Vec<usize>) {
         let batch = Batch::new(self.commands, self.text, self.word & MAP_AS_STRUCT != 0, until);
@@ -172,11 +181,7 @@ pub fn answers(out: &mut impl Write, record_bytes: usize, name_bytes: usize) -> 
         };
         let word = u16::from_str_radix(word, 16).map_err(io::Error::other)?;
         let (commands, text) = (hex::read(commands)?, hex::read(text)?);
-        let question = Question {
-            word,
-            commands: &commands,
-            text: &text,
-        };
+        let question = Question::new(word, &commands, &text)?;
         match answer(&question, record_bytes, name_bytes) {
             Ok(a) => writeln!(
                 out,

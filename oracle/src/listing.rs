@@ -42,11 +42,7 @@ pub fn list(out: &mut impl Write, directory: &str) -> io::Result<()> {
         return Err(io::Error::other("options.bin: not two bytes long"));
     };
     let (commands, text) = (read("commands.bin")?, read("text.bin")?);
-    let question = Question {
-        word: u16::from_le_bytes([low, high]),
-        commands: &commands,
-        text: &text,
-    };
+    let question = Question::new(u16::from_le_bytes([low, high]), &commands, &text)?;
     match answer(&question, BUFFER, BUFFER) {
         Ok(answer) => {
             records(out, &answer)?;

@@ -1,4 +1,4 @@
-//! The options word, by the names of the Rust.
+//! The options word, by the names of the Rust, and the edition of the exchange standard, which the Rust does not have.
 
 use std::fmt;
 
@@ -7,7 +7,7 @@ use std::fmt;
 pub struct TracingOptions(u16);
 
 /// The options in the order of their bits.
-const NAMES: [&str; 10] = [
+const NAMES: [&str; 11] = [
     "allow_null_fields",
     "map_as_struct",
     "sequence_as_large_list",
@@ -18,10 +18,11 @@ const NAMES: [&str; 10] = [
     "allow_to_string",
     "guess_dates",
     "enums_without_data_as_strings",
+    "edition_2",
 ];
 
 impl TracingOptions {
-    /// The options that an options word says. A word with a bit above 9 is refused by the call, not here.
+    /// The options that an options word says. A word with a bit above 10 is refused by the call, not here.
     pub const fn from_word(word: u16) -> Self {
         TracingOptions(word)
     }
@@ -84,6 +85,12 @@ impl TracingOptions {
     /// Enums of which no variant has data are dictionaries of their variants' names. Off by default.
     pub const fn enums_without_data_as_strings(self, on: bool) -> Self {
         self.with(9, on)
+    }
+
+    /// Edition 2 of the exchange standard, else edition 1: integers and floats that meet at one place are refused even with
+    /// `coerce_numbers`. Off by default.
+    pub const fn edition_2(self, on: bool) -> Self {
+        self.with(10, on)
     }
 }
 

@@ -6,7 +6,7 @@ use std::fmt;
 /// The eighteen ways to be turned down, in the order of their numbers.
 #[derive(Clone, Copy, Debug, PartialEq, Eq, Hash)]
 pub enum Refusal {
-    /// An options bit above 9 is set.
+    /// An options bit above 10 is set.
     UnknownOption,
     /// The work table has fewer than 16,384 words; a [`Work`](crate::Work) has enough.
     ShortTable,
@@ -89,7 +89,7 @@ impl Refusal {
 impl fmt::Display for Refusal {
     fn fmt(&self, f: &mut fmt::Formatter<'_>) -> fmt::Result {
         f.write_str(match self {
-            Refusal::UnknownOption => "an options bit above 9 is set",
+            Refusal::UnknownOption => "an options bit above 10 is set",
             Refusal::ShortTable => "the work table has fewer than 16,384 words",
             Refusal::LongInput => "the commands or the text exceed 65,535 bytes",
             Refusal::BadCommand => "a command is unknown, cut off, or cannot stand there",

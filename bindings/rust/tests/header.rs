@@ -58,7 +58,7 @@ fn types_strategies_and_refusals() {
 #[test]
 fn options_and_sizes() {
     let constants = constants();
-    for bit in 0..10 {
+    for bit in 0..11 {
         let options = format!("{:?}", TracingOptions::from_word(1 << bit));
         let name = options.trim_matches(['{', '}']).to_uppercase();
         assert_eq!(constants.get(name.as_str()), Some(&(1 << bit)), "{name}");

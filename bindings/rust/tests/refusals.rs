@@ -25,10 +25,10 @@ fn check(options: u16, commands: &[u8], refusal: Refusal, words: &str) {
 #[test]
 fn before_the_commands_are_read() {
     check(
-        1024,
+        2048,
         &[],
         Refusal::UnknownOption,
-        "an options bit above 9 is set",
+        "an options bit above 10 is set",
     );
     check(
         30,

@@ -93,6 +93,28 @@ fn p1_to_p6_numbers() {
     assert_eq!(column_type(defaults(), &[u8, u16]), Err(Refusal::NoJoint));
 }
 
+/// Document 02, 4/14.
+#[test]
+fn numbers_in_edition_2() {
+    let edition_2 = defaults().edition_2(true);
+    let coerce = edition_2.coerce_numbers(true);
+    let to_string = coerce.allow_to_string(true);
+    let (u8, u16, u32, i8): (Write, Write, Write, Write) =
+        (|v| v.u8(), |v| v.u16(), |v| v.u32(), |v| v.i8());
+    let (f32, f64, char, text): (Write, Write, Write, Write) =
+        (|v| v.f32(), |v| v.f64(), |v| v.char(), |v| v.text("five"));
+    assert_eq!(column_type(coerce, &[f64, u32]), Err(Refusal::NoJoint));
+    assert_eq!(column_type(coerce, &[char, f32]), Err(Refusal::NoJoint));
+    assert_eq!(column_type(coerce, &[u8, i8]), Ok(DataType::Int64));
+    assert_eq!(column_type(coerce, &[f32, f64]), Ok(DataType::Float64));
+    assert_eq!(column_type(coerce, &[u8, u16]), Ok(DataType::UInt64));
+    assert_eq!(column_type(edition_2, &[u8, u16]), Err(Refusal::NoJoint));
+    let between = column_type(to_string, &[u8, text, f64]);
+    assert_eq!(between, Ok(DataType::LargeUtf8));
+    let behind = column_type(to_string, &[u8, f64, text]);
+    assert_eq!(behind, Err(Refusal::NoJoint));
+}
+
 #[test]
 fn p7_and_p8_strings() {
     let to_string = defaults().allow_to_string(true);
@@ -201,7 +223,7 @@ fn dates_and_plain_texts_do_not_meet() {
 }
 
 #[test]
-fn options_have_the_bits_of_document_01() {
+fn options_have_the_bits_of_the_documents() {
     let off = TracingOptions::from_word(0);
     let all = [
         off.allow_null_fields(true),
@@ -214,13 +236,14 @@ fn options_have_the_bits_of_document_01() {
         off.allow_to_string(true),
         off.guess_dates(true),
         off.enums_without_data_as_strings(true),
+        off.edition_2(true),
     ];
     for (bit, options) in all.into_iter().enumerate() {
         assert_eq!(options.word(), 1 << bit);
     }
     assert_eq!(defaults().word(), 30);
-    let words = format!("{:?}", TracingOptions::from_word(1024 + 64));
-    assert_eq!(words, "{coerce_numbers, bit 10}");
+    let words = format!("{:?}", TracingOptions::from_word(2048 + 1024 + 64));
+    assert_eq!(words, "{coerce_numbers, edition_2, bit 11}");
     assert_eq!(
         defaults().coerce_numbers(true).coerce_numbers(false),
         defaults()

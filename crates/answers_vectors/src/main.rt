@@ -1,5 +1,6 @@
 // Replays stored questions: each put to the call over buffers and a table that hold a pattern, and all that comes of
-// it against the answer of the published Rust: the five numbers, what was written, and what had to be left alone.
+// it against the answer of the published Rust, in edition 2 of the account: the five numbers, what was written, and what
+// had to be left alone.
 ghost use mathlib.Core.Path.{_≡_};
 ghost use mathlib.Core.Bool.{true};
 ghost use mathlib.Core.Logic.{_↔_};
@@ -134,4 +135,5 @@ fn main() {
     replay_file(b"options.bin", b" batches under each option");
     replay_file(b"limits.bin", b" batches near the limits");
     replay_file(b"lengths.bin", b" batches of the greatest length");
+    replay_file(b"edition_2.bin", b" batches in edition 2");
 }

@@ -1,20 +1,24 @@
--- The joint of two primitive types, as in document 01's "Places". Types stand by their codes, and any two have an answer:
--- the one that coerce_primitive_type of the Rust gives.
+-- The joint of two primitive types, as in document 01's "Places" and document 02's 4/14. Types stand by their codes, and any two
+-- have an answer: in edition 1 the one that coerce_primitive_type of the Rust gives.
 use Prim.Native.Nat.{ℕ}
-use mathlib.Core.Bool.{Bool, _&&_, _||_}
+use mathlib.Core.Bool.{Bool, not, _&&_, _||_}
 use mathlib.Core.Option.{Option, none, some}
 use mathlib.Core.List.{List, [], _∷_}
 use lib.Dec.{leb, eqb}
 use Rattle.logic.specs.Test.{if_then_else_}
 use Rattle.logic.specs.Maybe.{andThen}
 use Rattle.datatype.specs.Codes.{codeOf, null, boolean, int8, int64, uint64, float32, float64, utf8, largeUtf8, timestampNaive, timestampUtc}
-use Rattle.options.specs.Word.{coerceNumbers, allowToString, stringType}
+use Rattle.options.specs.Word.{coerceNumbers, allowToString, edition2, stringType}
 use Rattle.coerce.specs.declared.Coerced.{Coerced}
 use Rattle.coerce.specs.declared.Coerced.the-variants as C
 
 -- the families of types, each a range of codes or two codes
 abbrev pub isSigned : ℕ → Bool
 isSigned t = leb int8 t && leb t int64
+
+-- a char is a UInt32
+abbrev pub isInteger : ℕ → Bool
+isInteger t = leb int8 t && leb t uint64
 
 abbrev pub isFloat : ℕ → Bool
 isFloat t = leb float32 t && leb t float64
@@ -37,9 +41,20 @@ numberJoint a b =
     if isSigned a || isSigned b then int64 else
     uint64
 
--- number types meet: "with coerce_numbers"
+-- an integer meets a float, in either order
+abbrev pub isMixed : ℕ → ℕ → Bool
+isMixed a b = (isInteger a && isFloat b) || (isInteger b && isFloat a)
+
+-- edition 2: "integers and floats have no joint even with coerce_numbers"
+abbrev pub isForbidden : ℕ → ℕ → ℕ → Bool
+isForbidden word a b = edition2 word && isMixed a b
+
+-- unequal number types meet: they have a joint "with coerce_numbers", if the edition does not forbid it
 unfoldable pub jointOfNumbers : ℕ → ℕ → ℕ → Option ℕ
-jointOfNumbers word a b = if coerceNumbers word then some (numberJoint a b) else none
+jointOfNumbers word a b =
+    if not (coerceNumbers word) then none else
+    if isForbidden word a b then none else
+    some (numberJoint a b)
 
 -- what gives string with a string: a timestamp, and "with allow_to_string" a bool or number
 abbrev pub isToString : ℕ → Bool

@@ -1,2 +1,4 @@
 pub mod Rules
 pub mod Joined
+pub mod Sets
+pub mod Examples

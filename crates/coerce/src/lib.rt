@@ -1,9 +1,10 @@
-// The joint of two primitive types that meet at one place (tracer.rs, coerce_primitive_type). Samples give no
-// strategy on primitives, and nullability is the caller's affair.
+// The joint of two primitive types that meet at one place (tracer.rs, coerce_primitive_type; the edition is not the Rust's). Samples
+// give no strategy on primitives, and nullability is the caller's affair.
 ghost use mathlib.Core.Path.{_≡_};
 ghost use mathlib.Core.Bool.{true, _&&_};
+ghost use lib.Dec.{leb};
 ghost use Rattle.datatype.specs.Codes.{codeOf};
-ghost use Rattle.coerce.specs.Joint.{isNumber, isString, isTimestamp, isToString, yieldsToString, numberJoint, jointOfNumbers, jointWithString, jointOfTimestamps, jointOfUnequal, joint, codesOf};
+ghost use Rattle.coerce.specs.Joint.{isInteger, isFloat, isNumber, isString, isTimestamp, isToString, yieldsToString, isMixed, isForbidden, numberJoint, jointOfNumbers, jointWithString, jointOfTimestamps, jointOfUnequal, joint, codesOf};
 use datatype::DataType;
 use datatype::Zone;
 use options::TracingOptions;
@@ -49,11 +50,19 @@ const NUMBERS: [[DataType; 10]; 10] = [
     [F64, F64, F64, F64, F64, F64, F64, F64, F64, F64],
 ];
 
-// Whether the code is that of a number type. Families of types are ranges of codes, or two codes (document 01, "Field records").
+// Whether the code is that of a type from `first` to `last`. Families of types are ranges of codes, or two codes (document 01,
+// "Field records").
+fn is_within(code: u8, first: DataType, last: DataType) -> bool
+    ensures { λ r. ⌜ r ≡ (leb (codeOf first) code && leb code (codeOf last)) ⌝ }
+{
+    first.code() <= code && code <= last.code()
+}
+
+// Whether the code is that of a number type.
 fn is_numeric(code: u8) -> bool
     ensures { λ r. ⌜ r ≡ isNumber code ⌝ }
 {
-    DataType::Int8.code() <= code && code <= DataType::Float64.code()
+    is_within(code, DataType::Int8, DataType::Float64)
 }
 
 // Whether both are.
@@ -61,6 +70,41 @@ fn are_numeric(a: u8, b: u8) -> bool
     ensures { λ r. ⌜ r ≡ (isNumber a && isNumber b) ⌝ }
 {
     is_numeric(a) && is_numeric(b)
+}
+
+// Whether the code is that of an integer type.
+fn is_integer(code: u8) -> bool
+    ensures { λ r. ⌜ r ≡ isInteger code ⌝ }
+{
+    is_within(code, DataType::Int8, DataType::UInt64)
+}
+
+// Whether the code is that of a float type.
+fn is_float(code: u8) -> bool
+    ensures { λ r. ⌜ r ≡ isFloat code ⌝ }
+{
+    is_within(code, DataType::Float32, DataType::Float64)
+}
+
+// Whether the first is an integer and the second a float.
+fn are_integer_and_float(a: u8, b: u8) -> bool
+    ensures { λ r. ⌜ r ≡ (isInteger a && isFloat b) ⌝ }
+{
+    is_integer(a) && is_float(b)
+}
+
+// Whether an integer meets a float, in either order.
+fn are_mixed(a: u8, b: u8) -> bool
+    ensures { λ r. ⌜ r ≡ isMixed a b ⌝ }
+{
+    are_integer_and_float(a, b) || are_integer_and_float(b, a)
+}
+
+// Whether the edition forbids a joint of two number types.
+fn are_forbidden(a: u8, b: u8, options: TracingOptions) -> bool
+    ensures { λ r. ⌜ r ≡ isForbidden (options .word) a b ⌝ }
+{
+    options.edition_2() && are_mixed(a, b)
 }
 
 // Whether the code is that of a string type.
@@ -105,11 +149,13 @@ fn joint_of_numbers(a: u8, b: u8, options: TracingOptions) -> Coerced
     requires { ⌜ (isNumber a && isNumber b) ≡ true ⌝ }
     ensures { λ r. ⌜ codesOf r ≡ jointOfNumbers (options .word) a b ⌝ }
 {
-    if options.coerce_numbers() {
-        Coerced::Type(number_joint(a, b))
-    } else {
-        Coerced::Nothing
+    if !options.coerce_numbers() {
+        return Coerced::Nothing;
     }
+    if are_forbidden(a, b, options) {
+        return Coerced::Nothing;
+    }
+    Coerced::Type(number_joint(a, b))
 }
 
 // A string type meets another type.

@@ -1,6 +1,6 @@
--- What the user demands of the call `fasthrom_trace`, in three theorems: demand-1, demand-2 and demand-3; and document 01's soundings P1
--- to P12 in a fourth. Each is said of any call that its contract allows, so of every call that is made; that a call ends at all is part
--- of what is proved of a function.
+-- What the user demands of the call `fasthrom_trace`, in three theorems: demand-1, demand-2 and demand-3; document 01's soundings P1 to P12
+-- in a fourth; and what demand-2 says of the Rust, said of the definitions in either edition, in a fifth: as-defined. Each is said of any
+-- call that its contract allows, so of every call that is made; that a call ends at all is part of what is proved of a function.
 --
 -- The words are those of the model: Batch, Buffers, Answer, schemaOf, withSchema, turnedDown (Answer), from commands to values (Reading),
 -- places (Tracing, Unbounded), how many they are and which command needs them (Bound), field records (Emission), the census (Census), equal
@@ -14,6 +14,7 @@ use native.Mathlib.Omega.{arith}
 use lib.ListN.{length}
 use Rattle.logic.specs.All.{All}
 use Rattle.logic.specs.laws.All.{all-map}
+use Rattle.options.specs.Word.{edition2}
 use Rattle.refusal.specs.Number.{tooManyPlaces}
 use Rattle.model.specs.Result.{Result, accepted, _>>=_}
 use Rattle.model.specs.Tracing.{Tree, fresh, placeLimit}
@@ -113,33 +114,40 @@ demand-1 call = rw (is call) (ends (call .batch) (call .lent) (answer (call .bat
 -- ---- Demand 2
 -- "Answer, field records and name bytes: on every well-formed batch of at most 1,024 places whose schema fits, given a full-length work
 -- table, they equal what Tracer::from_samples and then Tracer::to_schema give, refusal causes included, proved against definitions from
--- Arrow's Schema.fbs, the Serde data model and document 01."
+-- Arrow's Schema.fbs, the Serde data model and document 01." Document 02, 4/14: "Edition 1 is compared with the Rust, edition 2 with the
+-- definition alone".
 
--- Tracer::from_samples, which has no bound on places
-abbrev pub fromSamples : Batch → Result Tree
-fromSamples b = seeAll (b .options) 0 (recordsOf b) fresh
+-- tracing from samples as the definitions have it, in either edition, without a bound on places
+abbrev pub unbounded : Batch → Result Tree
+unbounded b = seeAll (b .options) 0 (recordsOf b) fresh
+
+-- Tracer::from_samples, which knows edition 1 alone
+abbrev pub fromSamples : (b : Batch) → edition2 (b .options) ≡ false → Result Tree
+fromSamples b first = unbounded b
 
 -- and then Tracer::to_schema
-abbrev pub rust : Batch → Result Fields
-rust b = fromSamples b >>= toSchema (b .options) (length (b .commands))
+abbrev pub thenToSchema : Batch → Result Tree → Result Fields
+thenToSchema b traced = traced >>= toSchema (b .options) (length (b .commands))
 
-pub record Demand2 (b : Batch) (lent : Buffers) (a : Answer) : Type 0 where
-  -- a batch of at most 1,024 places, read off its census, gets what the Rust gives: its refusal and place, or its schema, which fits or
+-- the answer equals what such tracing gives
+pub record AsTraced (b : Batch) (lent : Buffers) (a : Answer) (traced : Result Tree) : Type 0 where
+  -- a batch of at most 1,024 places, read off its census, gets what that gives: its refusal and place, or its schema, which fits or
   -- gets 18
-  pub within : AtMost placeLimit (b .options) (recordsOf b) → a ≡ answerOf b lent (rust b)
-  -- so does every other in which no command needs a 1,025th place, or the Rust refuses something before
-  pub equal : ((p : ℕ) → Exceeds (b .options) (recordsOf b) p → ⊥) → a ≡ answerOf b lent (rust b)
-  -- 11 is said at p exactly if the command there is the first that needs a 1,025th place, and the Rust refuses nothing before p
+  pub within : AtMost placeLimit (b .options) (recordsOf b) → a ≡ answerOf b lent (thenToSchema b traced)
+  -- so does every other in which no command needs a 1,025th place, or something is refused before
+  pub equal : ((p : ℕ) → Exceeds (b .options) (recordsOf b) p → ⊥) → a ≡ answerOf b lent (thenToSchema b traced)
+  -- 11 is said at p exactly if the command there is the first that needs a 1,025th place, and nothing is refused before p
   pub eleven : (p : ℕ) → (a ≡ turnedDown tooManyPlaces p (zeroed lent)) ↔ Exceeds (b .options) (recordsOf b) p
-  -- of what the Rust traces to the end it is said exactly if the census knows more than 1,024 places
-  pub places : (tree : Tree) → fromSamples b ≡ accepted tree
+  -- of what is traced to the end it is said exactly if the census knows more than 1,024 places
+  pub places : (tree : Tree) → traced ≡ accepted tree
       → (a .refusal ≡ tooManyPlaces) ↔ (AtMost placeLimit (b .options) (recordsOf b) → ⊥)
   -- a well-formed batch is turned down for none of 1 to 6
   pub read : (a .refusal ≡ 0) ⊎ (7 ≤ a .refusal)
 
-pub demand-2 : (call : Call) → WellFormed (call .batch) → tableWords ≤ length (call .lent .table) →
-    Demand2 (call .batch) (call .lent) (gave call)
-demand-2 call w t =
+-- in either edition, by the definitions
+pub as-defined : (call : Call) → WellFormed (call .batch) → tableWords ≤ length (call .lent .table) →
+    AsTraced (call .batch) (call .lent) (gave call) (unbounded (call .batch))
+as-defined call w t =
     let b = call .batch in
     let lent = call .lent in
     rw (is call ∙ read-through b lent w t)
@@ -151,13 +159,19 @@ demand-2 call w t =
       read = past-reading b lent w;
     })
 
+-- in edition 1, by the Rust
+pub demand-2 : (call : Call) → (first : edition2 (call .batch .options) ≡ false) → WellFormed (call .batch) →
+    tableWords ≤ length (call .lent .table) → AsTraced (call .batch) (call .lent) (gave call) (fromSamples (call .batch) first)
+demand-2 call first = as-defined call
+
 -- ---- Demand 3
 -- "For every options word with allow_to_string and enums_without_data_as_strings off, and every two batches of struct records accepted
 -- under it, in whatever order their records come and whichever fields they leave out, the two schemas are equal exactly when the two
 -- censuses are, provided neither batch shows one place both as struct and as map. Schemas are equal when they have equally many field
 -- records and name bytes, and the same bytes in them, whatever the buffers held before. Put such a batch's records in any other order,
 -- the buffers no shorter, and it is accepted again, with nothing changed in its schema but the order of struct fields. The census is
--- counted from the records without merging anything."
+-- counted from the records without merging anything." Document 02, 4/14: "equal censuses decide equal schemas in either [edition], for two
+-- batches of one edition"; the options word says which, and both calls have the same.
 
 -- a call with struct records, accepted under that options word
 pub record Taken (options : ℕ) (call : Call) : Type 0 where

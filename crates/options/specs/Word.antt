@@ -1,4 +1,4 @@
--- The options word, as in document 01's "Options word".
+-- The options word, as in document 01's "Options word" and document 02's 4/14.
 use Prim.Native.Nat.{ℕ, _/_, _%_, _^_}
 use mathlib.Core.Bool.{Bool}
 use lib.Dec.{leb, eqb}
@@ -9,11 +9,11 @@ use Rattle.datatype.specs.Codes.{utf8, largeUtf8, binary, largeBinary, list, la
 abbrev pub bit : ℕ → ℕ → Bool
 bit k word = eqb (word / 2 ^ k % 2) 1
 
--- bits 0 to 9 have a meaning
+-- bits 0 to 10 have a meaning
 abbrev pub knownBits : ℕ
-knownBits = 10
+knownBits = 11
 
--- refusal 1: a bit above 9 is set (laws/Word has it bit by bit)
+-- refusal 1, which "now covers bits 11 to 15" (laws/Word has it bit by bit)
 abbrev pub unknownBit : ℕ → Bool
 unknownBit word = leb (2 ^ knownBits) word
 
@@ -56,6 +56,10 @@ guessDates = bit 8
 -- a union of only dataless variants is a dictionary
 abbrev pub enumsWithoutDataAsStrings : ℕ → Bool
 enumsWithoutDataAsStrings = bit 9
+
+-- "bit 10 set means edition 2" of the exchange standard, clear edition 1
+abbrev pub edition2 : ℕ → Bool
+edition2 = bit 10
 
 abbrev pub stringType : ℕ → ℕ
 stringType word = if stringAsLargeUtf8 word then largeUtf8 else utf8

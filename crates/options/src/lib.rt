@@ -1,9 +1,9 @@
-// TracingOptions (tracing_options.rs): made from the options word, passed by value, each question a method. With them goes what is
-// known of the text, so that all who read one need not ask again.
+// TracingOptions (tracing_options.rs), and the edition of the exchange standard: made from the options word, passed by value, each
+// question a method. With them goes what is known of the text, so that all who read one need not ask again.
 ghost use mathlib.Core.Path.{_≡_};
 ghost use mathlib.Core.Bool.{false};
 ghost use Rattle.datatype.specs.Codes.{codeOf};
-ghost use Rattle.options.specs.Word.{unknownBit, allowNullFields, mapAsStruct, sequenceAsLargeList, stringAsLargeUtf8, bytesAsLargeBinary, stringDictionaryEncoding, coerceNumbers, allowToString, guessDates, enumsWithoutDataAsStrings, stringType, binaryType, listType, dictionaryType};
+ghost use Rattle.options.specs.Word.{unknownBit, allowNullFields, mapAsStruct, sequenceAsLargeList, stringAsLargeUtf8, bytesAsLargeBinary, stringDictionaryEncoding, coerceNumbers, allowToString, guessDates, enumsWithoutDataAsStrings, edition2, stringType, binaryType, listType, dictionaryType};
 use datatype::DataType;
 
 pub struct TracingOptions {
@@ -34,7 +34,7 @@ impl TracingOptions {
     pub fn has_unknown_bit(self) -> bool
         ensures { λ r. ⌜ r ≡ unknownBit (self .word) ⌝ }
     {
-        1024 <= self.word
+        2048 <= self.word
     }
 
     // Bit 0: fields that are Null are emitted.
@@ -105,6 +105,13 @@ impl TracingOptions {
         ensures { λ r. ⌜ r ≡ enumsWithoutDataAsStrings (self .word) ⌝ }
     {
         self.word / 512 % 2 == 1
+    }
+
+    // Bit 10: edition 2, in which integers and floats have no joint.
+    pub fn edition_2(self) -> bool
+        ensures { λ r. ⌜ r ≡ edition2 (self .word) ⌝ }
+    {
+        self.word / 1024 % 2 == 1
     }
 
     // The type of a text.

@@ -3,7 +3,7 @@ use Prim.Native.Nat.{ℕ}
 use Rattle.refusal.specs.declared.Refusal.{Refusal}
 use Rattle.refusal.specs.declared.Refusal.the-variants as R
 
--- an options bit above 9 is set
+-- an options bit above 10 is set
 abbrev pub unknownOption : ℕ
 unknownOption = 1
 

@@ -3,7 +3,7 @@ ghost use mathlib.Core.Path.{_≡_};
 ghost use Rattle.refusal.specs.Number.{numberOf};
 
 pub enum Refusal {
-    // An options bit above 9 is set.
+    // An options bit above 10 is set.
     UnknownOption,
     // The work table has fewer than 16,384 words.
     ShortTable,

@@ -129,7 +129,7 @@ fn ask_tight(question: &Question, answer: &Answer, roomy: &Lent) {
 fn options(random: &mut Random) -> u16 {
     match random.below(20) {
         0 => random.below(65_536) as u16,
-        1..=6 => random.below(1024) as u16,
+        1..=6 => random.below(2048) as u16,
         _ => 30 + 64 + random.below(2) as u16,
     }
 }

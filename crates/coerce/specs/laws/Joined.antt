@@ -1,15 +1,15 @@
 -- Laws of the joint. Where types that meet at a place one after the other give a type, it is the one that the census reads off
 -- the set of them.
 use mathlib.Core.Path.{_≡_, refl, sym, _∙_, ap, subst}
-use mathlib.Core.Bool.{Bool, true, false, _&&_, _||_, or-assoc, or-false, false≢true}
+use mathlib.Core.Bool.{Bool, true, false, not, _&&_, _||_, or-assoc, or-false}
 use mathlib.Core.Option.{some, Option·some-injective}
 use mathlib.Core.List.{List, [], _∷_}
 use Prim.Native.Nat.{ℕ, _≤_, _<_}
 use native.Mathlib.Omega.{arith}
 use lib.Dec.{eqb}
-use borrow.Author.Tests.{eqb-true, eq-eqb, not-true, not-false}
+use borrow.Author.Tests.{eqb-true, eq-eqb, not-true}
 use Rattle.logic.specs.Test.{if_then_else_}
-use Rattle.logic.specs.laws.Test.{cases, neither, if-passed, if-failed}
+use Rattle.logic.specs.laws.Test.{cases, if-passed, if-failed}
 use Rattle.logic.specs.laws.Flag.{if-either}
 use Rattle.logic.specs.All.{All, has}
 use Rattle.logic.specs.laws.All.{all-map, all-both, has-none, all-has, has-or}
@@ -17,7 +17,7 @@ use Rattle.logic.specs.Maybe.{andThen, OnSome}
 use Rattle.logic.specs.laws.Maybe.{then-some, then-agree}
 use Rattle.datatype.specs.Codes.{null, int64, uint64, float64, dictionaryUtf8}
 use Rattle.options.specs.Word.{coerceNumbers, allowToString, stringAsLargeUtf8, stringType}
-use Rattle.coerce.specs.Joint.{isString, isTimestamp, isNumber, isFloat, isSigned, yieldsToString, numberJoint, jointOfNumbers, jointWithString, jointOfTimestamps, jointOfUnequal, joint, joinedFrom, joined}
+use Rattle.coerce.specs.Joint.{isString, isTimestamp, isNumber, isFloat, isSigned, isForbidden, yieldsToString, numberJoint, jointOfNumbers, jointWithString, jointOfTimestamps, jointOfUnequal, joint, joinedFrom, joined}
 use Rattle.coerce.specs.Census.{isOther, isStringOrTimestamp, severalSeen, typeSeen, nonNull, Fits}
 use Rattle.coerce.specs.laws.Rules.{Joins, isSignedOrFloat, joint-swap, joint-joins}
 
@@ -46,7 +46,7 @@ joint-among P word a b u pa pb pf pi pu ps e =
     (if-either (OnSome P) (eqb b null) pa
     (if-either (OnSome P) (eqb a b) pa
     (if-either (OnSome P) (isNumber a && isNumber b)
-    (if-either (OnSome P) (coerceNumbers word) (if-either P (eqb a b) pa (if-either P (isFloat a || isFloat b) pf (if-either P (isSigned a || isSigned b) pi pu))) tt)
+    (if-either (OnSome P) (not (coerceNumbers word)) tt (if-either (OnSome P) (isForbidden word a b) tt (if-either P (eqb a b) pa (if-either P (isFloat a || isFloat b) pf (if-either P (isSigned a || isSigned b) pi pu)))))
     (if-either (OnSome P) (isString a) (if-either (OnSome P) (yieldsToString word b) pa tt)
     (if-either (OnSome P) (isString b) (if-either (OnSome P) (yieldsToString word a) pb tt)
     (if-either (OnSome P) (isTimestamp a && isTimestamp b) (if-either P (eqb a b) pa ps) tt)))))))
@@ -84,7 +84,7 @@ nonNull-all [] = tt
 nonNull-all (t ∷ ts) = cases (eqb t null) (λ e. rw e (nonNull-all ts)) (λ e. rw e (e, nonNull-all ts))
 
 -- several types are told by three families
-same-several : (string : ℕ) (xs ys : List ℕ) → has isStringOrTimestamp xs ≡ has isStringOrTimestamp ys → has isFloat xs ≡ has isFloat ys →
+pub same-several : (string : ℕ) (xs ys : List ℕ) → has isStringOrTimestamp xs ≡ has isStringOrTimestamp ys → has isFloat xs ≡ has isFloat ys →
     has isSignedOrFloat xs ≡ has isSignedOrFloat ys → severalSeen string xs ≡ severalSeen string ys
 unfolding severalSeen if_then_else_
 same-several string xs ys p q r =
@@ -95,31 +95,6 @@ same-several string xs ys p q r =
     has isSignedOrFloat zs ≡ has isSigned zs = λ zs d. has-or isSigned isFloat zs ∙ ap (λ (b : Bool). has isSigned zs || b) d ∙ or-false
     (has isSigned zs) in
     rw (p, q, e, sym (signed xs (q ∙ e)) ∙ r ∙ signed ys e))
-
--- No proof cites this: that the type which the census reads off a list depends on the set alone, as document 01 says it. Lists hold the same
--- if no test tells them apart.
-abbrev Same : List ℕ → List ℕ → Type 0
-Same xs ys = (p : ℕ → Bool) → has p xs ≡ has p ys
-
-one-seen : (x y : ℕ) (xs ys : List ℕ) → Same (x ∷ xs) (y ∷ ys) → has (isOther x) xs ≡ false → (x ≡ y) × (has (isOther y) ys ≡ false)
-unfolding has
-one-seen x y xs ys s e =
-    let first : (isOther x x || has (isOther x) xs) ≡ false = rw (eq-eqb x x refl) e in
-    neither (isOther x y) (has (isOther x) ys) (sym (s (isOther x)) ∙ first) λ here rest.
-    let same : y ≡ x = eqb-true y x (not-false (eqb y x) here) in
-    (sym same, rw same rest)
-
-pub typeSeen-same : (word : ℕ) (xs ys : List ℕ) → Same xs ys → typeSeen word xs ≡ typeSeen word ys
-unfolding typeSeen has if_then_else_
-typeSeen-same word [] [] s = refl
-typeSeen-same word [] (y ∷ ys) s = absurd (false≢true (s (λ t. true)))
-typeSeen-same word (x ∷ xs) [] s = absurd (false≢true (sym (s (λ t. true))))
-typeSeen-same word (x ∷ xs) (y ∷ ys) s =
-    cases (has (isOther x) xs)
-    (λ e. cases (has (isOther y) ys)
-    (λ f. rw (e, f) (same-several (stringType word) (x ∷ xs) (y ∷ ys) (s isStringOrTimestamp) (s isFloat) (s isSignedOrFloat)))
-    (λ f. absurd (false≢true (sym (one-seen y x ys xs (λ p. sym (s p)) f .1) ∙ e))))
-    (λ e. let one = one-seen x y xs ys s e in rw (e, one .1) (one .0))
 
 -- ---- with allow_to_string off, of types that fit the options
 module _ (word : ℕ) (off : allowToString word ≡ false) where

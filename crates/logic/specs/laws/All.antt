@@ -32,6 +32,11 @@ unfolding has
 has-none p [] e = tt
 has-none p (x ∷ xs) e = neither (not (p x)) (has (λ x. not (p x)) xs) e λ here rest. (not-false (p x) here, has-none p xs rest)
 
+pub none-has : {A : Type 0} (p : A → Bool) (xs : List A) → All (λ x. p x ≡ true) xs → has (λ x. not (p x)) xs ≡ false
+unfolding has
+none-has p [] h = refl
+none-has p (x ∷ xs) h = rw (h .0) (none-has p xs (h .1))
+
 -- two tests at once
 pub has-or : {A : Type 0} (p q : A → Bool) (xs : List A) → has (λ x. p x || q x) xs ≡ (has p xs || has q xs)
 unfolding has
