@@ -108,9 +108,9 @@ FILES = {
     **{f"remarks/{name}.bin": remarks.commands for name, remarks in REMARKS.items()},
     "edition_2/options.bin": u16(DEFAULT | COERCE_NUMBERS | EDITION_2),
     "edition_2/lengths.bin": LENGTHS.commands,
-    "edition_2/lengths.text.bin": LENGTHS.text,
+    "edition_2/lengths_text.bin": LENGTHS.text,
     "edition_2/millimetres.bin": MILLIMETRES.commands,
-    "edition_2/millimetres.text.bin": MILLIMETRES.text,
+    "edition_2/millimetres_text.bin": MILLIMETRES.text,
     "wrong/one.bin": b"\x5f",
     "wrong/three.bin": b"\x5f\0\0",
     "wrong/commands.bin": b"\x15\x17" * (TOO_LONG // 2),
@@ -127,7 +127,7 @@ RETURNS = [
     ("decks/options.bin", "wrong/commands.bin", "decks/text.bin"),
     ("decks/options.bin", "decks/commands.bin", "wrong/text.bin"),
     *(("remarks/options.bin", f"remarks/{name}.bin", "remarks/text.bin") for name in REMARKS),
-    *(("edition_2/options.bin", f"edition_2/{name}.bin", f"edition_2/{name}.text.bin") for name in ("lengths", "millimetres")),
+    *(("edition_2/options.bin", f"edition_2/{name}.bin", f"edition_2/{name}_text.bin") for name in ("lengths", "millimetres")),
 ]
 
 

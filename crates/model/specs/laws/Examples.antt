@@ -9,7 +9,7 @@ use lib.ListN.{replicate}
 use Rattle.logic.specs.Test.{if_then_else_}
 use Rattle.logic.specs.All.{has}
 use Rattle.datatype.specs.Codes.{uint8, struct, map, noStrategy}
-use Rattle.refusal.specs.Number.{tooDeep, nullRoot, nullField}
+use Rattle.refusal.specs.Number.{tooDeep, noJoint, nullRoot, nullField}
 use Rattle.text.specs.Name.{dot, eqName, ltName, dots}
 use Rattle.text.specs.Utf8 as U
 use Rattle.coerce.specs.Census as Y
@@ -87,6 +87,21 @@ empty-map-mode = refl
 pub null-column : remarks (0x00 ∷ []) ≡ 1 ∷ 1 ∷ []
 unfolding schemaIn E.countOf E.columnsOf
 null-column = refl
+
+-- ---- the editions (document 02, 4/14)
+-- two records with a length, an f64 in the first and a u32 in the second
+abbrev pub lengths : ℕ → List ℕ
+lengths options =
+    outcome options (0x15 ∷ 0x16 ∷ 0 ∷ 0 ∷ 1 ∷ 0 ∷ 0x0B ∷ 0x17 ∷ 0x15 ∷ 0x16 ∷ 0 ∷ 0 ∷ 1 ∷ 0 ∷ 0x08 ∷ 0x17 ∷ []) (108 ∷ [])
+
+-- in edition 1 both numbers have a joint, in edition 2 the u32 is refused
+pub first-edition : lengths 94 ≡ 0 ∷ 0 ∷ []
+unfolding schemaIn
+first-edition = refl
+
+pub second-edition : lengths 1118 ≡ noJoint ∷ 14 ∷ []
+unfolding schemaIn
+second-edition = refl
 
 -- what the census says of the field `a`
 unfoldable pub said : List ℕ → Option S.Said

@@ -1,31 +1,31 @@
 -- The kind that the values at a place leave there is the one that the census reads off the kinds seen.
-use mathlib.Core.Path.{_≡_, refl, ap, sym, subst, _∙_}
+use mathlib.Core.Path.{_≡_, refl, ap, sym, _∙_}
 use mathlib.Core.Bool.{true, false, true≢false, false≢true}
 use mathlib.Core.List.{List, [], _∷_}
 use mathlib.Core.Option.{Option, none, some}
 use Prim.Native.Nat.{ℕ, _<_}
 use native.Mathlib.Omega.{arith}
-use lib.Dec.{eqb, ltb}
-use borrow.Author.Tests.{eqb-true, ltb-true, leb-false, lt-leb}
+use lib.Dec.{eqb}
+use borrow.Author.Tests.{eqb-true, leb-false, lt-leb}
 use Rattle.logic.specs.Test.{if_then_else_}
 use Rattle.logic.specs.laws.Test.{cases}
 use Rattle.logic.specs.All.{All}
 use Rattle.logic.specs.Maybe.{andThen}
-use Rattle.datatype.specs.Codes.{null, dictionaryUtf8}
-use Rattle.options.specs.Word.{allowToString, stringType}
-use Rattle.coerce.specs.Joint.{joint, joinedFrom, isString}
+use Rattle.datatype.specs.Codes.{null}
+use Rattle.options.specs.Word.{allowToString}
+use Rattle.coerce.specs.Joint.{joint, joinedFrom}
 use Rattle.coerce.specs.Census.{Fits}
-use Rattle.coerce.specs.laws.Rules.{string-fits, other-fits}
 use Rattle.coerce.specs.laws.Joined.{joint-below, joined-seen}
 use Rattle.model.specs.Result.{accepted}
-use Rattle.model.specs.Kinds.{sequenceKind, structKind, mapKind, unionKind, tupleKind, mapModeKind, isContainer, isStruct}
+use Rattle.model.specs.Kinds.{sequenceKind, structKind, mapModeKind, isContainer, isStruct}
 use Rattle.model.specs.Reading.{Value, val, cut}
 use Rattle.model.specs.Tracing.{Tree, kindOf, fresh, sameContainer}
 use Rattle.model.specs.Census.{kindIn, kindsSeen, containerSeen, kindSeen}
 use Rattle.equality.specs.laws.Base.{and-left, and-right, or-cases}
 use Rattle.model.specs.Unbounded.{seeAll}
-use Rattle.equality.specs.laws.Proper.{isContainerKind, typeFits, kindFits, isProper, areProper, allProper}
+use Rattle.equality.specs.laws.Proper.{kindFits, isProper, areProper, allProper}
 use Rattle.equality.specs.laws.tracing.Place.{together, onward, togetherAll, all-kind}
+use Rattle.equality.specs.laws.tracing.Kinds.{type-fits, fits-joint}
 
 onward-some : {A B P : Type 0} (o : Option A) (f : A → Option B) (b : B) → onward o f ≡ some b → ((a : A) → o ≡ some a → f a ≡ some b → P) → P
 onward-some none f b e k = absurd (let z : _≡_ {A = ℕ} 0 1 = cc in omega arith)
@@ -100,28 +100,6 @@ reads o (h ∷ kinds) k t a e =
     record { container = λ c. rw b (ih .container (rw b at c)); type = λ c. rw g (ih .type (rw b at c)) })
 
 -- ---- types that fit
-container-kind : (k : ℕ) → isContainerKind k ≡ true → isContainer k ≡ true
-container-kind k e =
-    or-cases _ (eqb k mapModeKind) e
-    (λ e₁. or-cases _ (eqb k tupleKind) e₁
-    (λ e₂. or-cases _ (eqb k unionKind) e₂
-    (λ e₃. or-cases _ (eqb k mapKind) e₃
-    (λ e₄. or-cases _ (eqb k structKind) e₄ (λ a. rw (eqb-true k sequenceKind a)) (λ a. rw (eqb-true k structKind a)))
-    (λ a. rw (eqb-true k mapKind a)))
-    (λ a. rw (eqb-true k unionKind a)))
-    (λ a. rw (eqb-true k tupleKind a)))
-    (λ a. rw (eqb-true k mapModeKind a))
-
-type-fits : (o k : ℕ) → isContainer k ≡ false → kindFits o k ≡ true → Fits o k
-unfolding if_then_else_
-type-fits o k a e =
-    cases (isString k)
-    (λ s. subst (Fits o) (sym (eqb-true k (stringType o) (rw s at (and-right (ltb k dictionaryUtf8) _ typed)))) (string-fits o))
-    (λ s. let l : k < 20 = ltb-true k dictionaryUtf8 (and-left (ltb k dictionaryUtf8) _ typed) in other-fits o k (omega arith) s)
-  where
-    typed : typeFits o k ≡ true
-    typed = or-cases (isContainerKind k) (typeFits o k) e (λ c. absurd (true≢false (sym (container-kind k c) ∙ a))) (λ f. f)
-
 pub kind-fits : (o : ℕ) (v : Value) → isProper o v ≡ true → kindFits o (kindIn v) ≡ true
 unfolding isProper if_then_else_
 kind-fits o (val at b k n ps) p = and-left (kindFits o k) (areProper o k n 0 ps) p
@@ -133,7 +111,7 @@ kinds-fit o [] p c = tt
 kinds-fit o (v ∷ vs) p c =
     cases (isContainer (kindIn v))
     (λ b. absurd (true≢false (sym b ∙ (rw b at c))))
-    (λ b. (type-fits o (kindIn v) b (kind-fits o v (and-left (isProper o v) (allProper o vs) p)), kinds-fit o vs (and-right (isProper o v) (allProper o vs) p) (rw b at c)))
+    (λ b. (fits-joint o (kindIn v) (type-fits o (kindIn v) b (kind-fits o v (and-left (isProper o v) (allProper o vs) p))), kinds-fit o vs (and-right (isProper o v) (allProper o vs) p) (rw b at c)))
 
 pub kind-seen : (o d : ℕ) (vs : List Value) (t : Tree) → allowToString o ≡ false → allProper o vs ≡ true → seeAll o d vs fresh ≡ accepted t → kindOf t ≡ kindSeen o (kindsSeen vs)
 unfolding kindSeen if_then_else_

@@ -6,14 +6,14 @@ use mathlib.Core.Option.{Option, none, some}
 use Prim.Native.Nat.{ℕ, _<_}
 use native.Mathlib.Omega.{arith}
 use lib.Dec.{eqb, ltb}
-use borrow.Author.Tests.{eqb-true, eqb-false, eq-eqb, ne-eqb, leb-false, lt-leb, ltb-true, le-leb}
+use borrow.Author.Tests.{eqb-true, eqb-false, eq-eqb, ne-eqb, leb-false, lt-leb, ltb-true}
 use Rattle.logic.specs.Test.{if_then_else_}
 use Rattle.logic.specs.laws.Test.{cases, both, neither}
 use Rattle.logic.specs.laws.Flag.{if-either}
 use Rattle.logic.specs.All.{All}
 use Rattle.logic.specs.laws.All.{all-perm}
 use Rattle.logic.specs.Maybe.{andThen, OnSome}
-use Rattle.datatype.specs.Codes.{null, int64, uint64, float64, dictionaryUtf8, union}
+use Rattle.datatype.specs.Codes.{null, int64, uint64, float64, dictionaryUtf8}
 use Rattle.options.specs.Word.{allowToString, stringAsLargeUtf8, stringType}
 use Rattle.coerce.specs.Joint.{isString, joint}
 use Rattle.coerce.specs.Census.{fitting, Fits}
@@ -79,9 +79,8 @@ type-below o k f = ltb-true k dictionaryUtf8 (and-left (ltb k dictionaryUtf8) _ 
 pub fits-joint : (o k : ℕ) → typeFits o k ≡ true → Fits o k
 unfolding fitting if_then_else_
 fits-joint o k f =
-    let h : k < dictionaryUtf8 = type-below o k f in
     let r = and-right (ltb k dictionaryUtf8) _ f in
-    rw (le-leb k union (omega arith)) (cases (isString k) (λ e. rw e (rw e at r)) (λ e. rw e))
+    rw (and-left (ltb k dictionaryUtf8) _ f) (cases (isString k) (λ e. rw e (rw e at r)) (λ e. rw e))
 
 -- ---- two kinds
 module _ (o : ℕ) where
