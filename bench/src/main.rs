@@ -188,11 +188,7 @@ impl Case {
         let start = clock::processor_time();
         let answer = lent.trace(&batch);
         let first = clock::processor_time() - start;
-        let question = batch::Question {
-            word: batch.options,
-            commands: &batch.commands,
-            text: &batch.text,
-        };
+        let question = batch::Question::new(batch.options, &batch.commands, &batch.text).expect("edition 1");
         match batch::answer(&question, ours::ENOUGH.0, ours::ENOUGH.1) {
             Ok(rust) => {
                 assert_eq!((answer.refusal, answer.columns as usize), (0, rust.columns));

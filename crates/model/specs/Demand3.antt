@@ -15,7 +15,7 @@ use Rattle.model.specs.Emission.{Field, mk, Fields, no-fields, more, rec
 use Rattle.model.specs.Answer.{Batch, Buffers, Answer, recordBytes}
 use Rattle.model.specs.Census.{kindIn, standing}
 
--- an options word with allow_to_string and enums_without_data_as_strings off
+-- an options word with allow_to_string and enums_without_data_as_strings off, in either edition
 pub record Plain (options : ℕ) : Type 0 where
   pub to-string-off : allowToString options ≡ false
   pub enums-off : enumsWithoutDataAsStrings options ≡ false

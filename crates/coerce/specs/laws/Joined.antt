@@ -46,7 +46,9 @@ joint-among P word a b u pa pb pf pi pu ps e =
     (if-either (OnSome P) (eqb b null) pa
     (if-either (OnSome P) (eqb a b) pa
     (if-either (OnSome P) (isNumber a && isNumber b)
-    (if-either (OnSome P) (not (coerceNumbers word)) tt (if-either (OnSome P) (isForbidden word a b) tt (if-either P (eqb a b) pa (if-either P (isFloat a || isFloat b) pf (if-either P (isSigned a || isSigned b) pi pu)))))
+    (if-either (OnSome P) (not (coerceNumbers word)) tt
+    (if-either (OnSome P) (isForbidden word a b) tt
+    (if-either P (eqb a b) pa (if-either P (isFloat a || isFloat b) pf (if-either P (isSigned a || isSigned b) pi pu)))))
     (if-either (OnSome P) (isString a) (if-either (OnSome P) (yieldsToString word b) pa tt)
     (if-either (OnSome P) (isString b) (if-either (OnSome P) (yieldsToString word a) pb tt)
     (if-either (OnSome P) (isTimestamp a && isTimestamp b) (if-either P (eqb a b) pa ps) tt)))))))

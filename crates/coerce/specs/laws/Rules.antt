@@ -1,5 +1,6 @@
 -- Rules of the joint, each checked at all types that fit by one test that antt computes. The joint depends on the options
--- word only through four bits, of which allow_to_string is off here and the edition tells only with coerce_numbers: six words stand for all.
+-- word only through four bits. Of these allow_to_string is off here, and the edition matters only with coerce_numbers: six words
+-- stand for all.
 use mathlib.Core.Path.{_≡_, refl, sym, _∙_, ap₂, fun-ext}
 use mathlib.Core.Bool.{Bool, true, false, _&&_, _||_, Bool·beq, false≢true}
 use mathlib.Core.List.{[], _∷_}

@@ -55,7 +55,7 @@ has-nonNull p (t ∷ ts) = cases (eqb t null) (λ e. rw e (has-nonNull p ts)) (�
 same-nonNull : (xs ys : List ℕ) → Same xs ys → Same (nonNull xs) (nonNull ys)
 same-nonNull xs ys s p = has-nonNull p xs ∙ s (λ t. isOther null t && p t) ∙ sym (has-nonNull p ys)
 
--- a float and an integer
+-- in edition 2 a float and an integer have no joint
 apart : (word : ℕ) → edition2 word ≡ true → (a b : ℕ) → isFloat a ≡ true → isInteger b ≡ true → joint word a b ≡ none
 unfolding joint jointOfUnequal jointOfNumbers if_then_else_
 apart word second a b f i =
@@ -64,8 +64,19 @@ apart word second a b f i =
     let a-low : float32 ≤ a = leb-true float32 a above in
     let b-low : int8 ≤ b = leb-true int8 b low in
     let b-high : b ≤ uint64 = leb-true b uint64 high in
-    simp (ne-eqb a null (λ e. omega arith), ne-eqb b null (λ e. omega arith), ne-eqb a b (λ e. omega arith), le-leb int8 a (omega arith), le-leb b float64 (omega arith),
-    second, above, below, low, high, or-true) (if-either (λ (o : Option ℕ). o ≡ none) (not (coerceNumbers word)) refl refl)
+    simp (
+      ne-eqb a null (λ e. omega arith),
+      ne-eqb b null (λ e. omega arith),
+      ne-eqb a b (λ e. omega arith),
+      le-leb int8 a (omega arith),
+      le-leb b float64 (omega arith),
+      second,
+      above,
+      below,
+      low,
+      high,
+      or-true,
+    ) (if-either (λ (o : Option ℕ). o ≡ none) (not (coerceNumbers word)) refl refl)
 
 -- ---- with allow_to_string off, of types that fit the options
 module _ (word : ℕ) (off : allowToString word ≡ false) where
