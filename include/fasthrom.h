@@ -41,7 +41,7 @@ enum {
     FASTHROM_ALLOW_TO_STRING = 128,
     FASTHROM_GUESS_DATES = 256,
     FASTHROM_ENUMS_WITHOUT_DATA_AS_STRINGS = 512,
-    /* Edition 2 of the exchange standard: integers and floats that meet have no common type. */
+    /* Edition 2 of the exchange standard: integers and floats that meet have no common type, even with FASTHROM_COERCE_NUMBERS. */
     FASTHROM_EDITION_2 = 1024,
     FASTHROM_DEFAULT_OPTIONS = 30
 };

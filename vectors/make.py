@@ -188,7 +188,7 @@ def joint_record(word, first, second, joint):
 
 
 def make_joints():
-    """Those of edition 1; then those of edition 2 under the same words, of types that a batch can show."""
+    """Those of edition 1; then those of edition 2 under the same words, but for the string type that the options do not give."""
     asked = [[None if word == "-" else int(word) for word in line.split()] for line in ask("coerce")]
     records = [joint_record(*one) for one in asked]
     for word, first, second, _ in asked:

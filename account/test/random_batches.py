@@ -12,7 +12,7 @@ from batches import Batches  # noqa: E402
 
 
 def any_readings(seed, count):
-    """Well-formed and damaged batches under any options word that is known: options, what was read."""
+    """Well-formed and damaged batches under any options word of edition 1 that is known: options, what was read."""
     made = Batches(seed)
     for _ in range(count):
         word, written, text = made.line().split(" ")

@@ -1,4 +1,5 @@
-"""The account held to the stored answers of the published Rust (vectors/README.md has the layouts)."""
+"""The account held to the stored answers of the published Rust, and in edition 2 to its own as they are stored
+(vectors/README.md has the layouts)."""
 
 import pathlib
 

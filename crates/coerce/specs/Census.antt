@@ -1,14 +1,13 @@
 -- The type of a place read off the set of non-null types seen there, as in document 01's "Census". Nothing is merged: the
 -- list is only asked what it holds. It is the same in either edition: in edition 2 no accepted place holds integers and floats
--- both, with allow_to_string off (laws/Sets).
+-- both, with allow_to_string off (`kinds-apart`, proved in `equality`).
 use Prim.Native.Nat.{ℕ}
-use mathlib.Core.Path.{_≡_}
-use mathlib.Core.Bool.{Bool, true, not, _&&_, _||_}
+use mathlib.Core.Bool.{Bool, not, _||_}
 use mathlib.Core.List.{List, [], _∷_}
-use lib.Dec.{eqb, ltb}
+use lib.Dec.{eqb}
 use Rattle.logic.specs.Test.{if_then_else_}
 use Rattle.logic.specs.All.{has}
-use Rattle.datatype.specs.Codes.{null, int64, uint64, float64, dictionaryUtf8}
+use Rattle.datatype.specs.Codes.{null, int64, uint64, float64}
 use Rattle.options.specs.Word.{stringType}
 use Rattle.coerce.specs.Joint.{isSigned, isFloat, isString, isTimestamp}
 
@@ -37,10 +36,3 @@ typeSeen word (t ∷ ts) = if has (isOther t) ts then severalSeen (stringType wo
 unfoldable pub nonNull : List ℕ → List ℕ
 nonNull [] = []
 nonNull (t ∷ ts) = if eqb t null then nonNull ts else t ∷ nonNull ts
-
--- the types that a value can show under an options word: those before the dictionaries, and of the string types only the options' own
-unfoldable pub fitting : ℕ → ℕ → Bool
-fitting string t = ltb t dictionaryUtf8 && (if isString t then eqb t string else true)
-
-abbrev pub Fits : ℕ → ℕ → Type 0
-Fits word t = fitting (stringType word) t ≡ true

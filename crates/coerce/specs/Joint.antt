@@ -3,10 +3,8 @@
 use Prim.Native.Nat.{ℕ}
 use mathlib.Core.Bool.{Bool, not, _&&_, _||_}
 use mathlib.Core.Option.{Option, none, some}
-use mathlib.Core.List.{List, [], _∷_}
 use lib.Dec.{leb, eqb}
 use Rattle.logic.specs.Test.{if_then_else_}
-use Rattle.logic.specs.Maybe.{andThen}
 use Rattle.datatype.specs.Codes.{codeOf, null, boolean, int8, int64, uint64, float32, float64, utf8, largeUtf8, timestampNaive, timestampUtc}
 use Rattle.options.specs.Word.{coerceNumbers, allowToString, edition2, stringType}
 use Rattle.coerce.specs.declared.Coerced.{Coerced}
@@ -88,14 +86,6 @@ joint word a b =
     if eqb b null then some a else
     if eqb a b then some a else
     jointOfUnequal word a b
-
--- what becomes of a type that meets others one after the other, and of a place where those were observed
-unfoldable pub joinedFrom : ℕ → ℕ → List ℕ → Option ℕ
-joinedFrom word t [] = some t
-joinedFrom word t (u ∷ us) = andThen (joint word t u) (λ v. joinedFrom word v us)
-
-abbrev pub joined : ℕ → List ℕ → Option ℕ
-joined word = joinedFrom word null
 
 -- the code that an answer stands for
 abbrev pub codesOf : Coerced → Option ℕ

@@ -144,7 +144,7 @@ fn number_joint(a: u8, b: u8) -> DataType
     NUMBERS[(a - first) as usize][(b - first) as usize]
 }
 
-// Number types meet.
+// Unequal number types meet: the switch is asked, then the edition, then the table.
 fn joint_of_numbers(a: u8, b: u8, options: TracingOptions) -> Coerced
     requires { ⌜ (isNumber a && isNumber b) ≡ true ⌝ }
     ensures { λ r. ⌜ codesOf r ≡ jointOfNumbers (options .word) a b ⌝ }

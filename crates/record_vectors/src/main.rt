@@ -1,5 +1,6 @@
 // Replays the files of records: texts through the four matchers and text_type, byte strings through is_utf8, pairs of
-// types through coerce_primitive_type, each against the answers of the published Rust, or of Rust's from_utf8.
+// types through coerce_primitive_type, each against the answers of the published Rust, or of Rust's from_utf8, and pairs in
+// edition 2 against the account's.
 ghost use mathlib.Core.Path.{_≡_};
 ghost use Prim.Native.Nat.{_≤_};
 ghost use Rattle.datatype.specs.Codes.{codeOf};

@@ -6,7 +6,8 @@ use Prim.Native.Nat.{ℕ, _+_}
 use Rattle.logic.specs.Test.{if_then_else_}
 use Rattle.logic.specs.Maybe.{andThen}
 use Rattle.datatype.specs.Codes.{int8, int32, int64, uint8, uint16, uint32, uint64, float32, float64, utf8}
-use Rattle.coerce.specs.Joint.{numberJoint, jointOfNumbers, jointWithString, jointOfTimestamps, jointOfUnequal, joint, joinedFrom, joined}
+use Rattle.coerce.specs.Joint.{numberJoint, jointOfNumbers, jointWithString, jointOfTimestamps, jointOfUnequal, joint}
+use Rattle.coerce.specs.laws.Joined.{joinedFrom, joined}
 
 -- edition 2 alone, with coerce_numbers, and with allow_to_string too
 abbrev pub plain : ℕ

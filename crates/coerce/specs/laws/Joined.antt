@@ -2,7 +2,7 @@
 -- the set of them.
 use mathlib.Core.Path.{_≡_, refl, sym, _∙_, ap, subst}
 use mathlib.Core.Bool.{Bool, true, false, not, _&&_, _||_, or-assoc, or-false}
-use mathlib.Core.Option.{some, Option·some-injective}
+use mathlib.Core.Option.{Option, some, Option·some-injective}
 use mathlib.Core.List.{List, [], _∷_}
 use Prim.Native.Nat.{ℕ, _≤_, _<_}
 use native.Mathlib.Omega.{arith}
@@ -17,9 +17,17 @@ use Rattle.logic.specs.Maybe.{andThen, OnSome}
 use Rattle.logic.specs.laws.Maybe.{then-some, then-agree}
 use Rattle.datatype.specs.Codes.{null, int64, uint64, float64, dictionaryUtf8}
 use Rattle.options.specs.Word.{coerceNumbers, allowToString, stringAsLargeUtf8, stringType}
-use Rattle.coerce.specs.Joint.{isString, isTimestamp, isNumber, isFloat, isSigned, isForbidden, yieldsToString, numberJoint, jointOfNumbers, jointWithString, jointOfTimestamps, jointOfUnequal, joint, joinedFrom, joined}
-use Rattle.coerce.specs.Census.{isOther, isStringOrTimestamp, severalSeen, typeSeen, nonNull, Fits}
-use Rattle.coerce.specs.laws.Rules.{Joins, isSignedOrFloat, joint-swap, joint-joins}
+use Rattle.coerce.specs.Joint.{isString, isTimestamp, isNumber, isFloat, isSigned, isForbidden, yieldsToString, numberJoint, jointOfNumbers, jointWithString, jointOfTimestamps, jointOfUnequal, joint}
+use Rattle.coerce.specs.Census.{isOther, isStringOrTimestamp, severalSeen, typeSeen, nonNull}
+use Rattle.coerce.specs.laws.Rules.{Fits, Joins, isSignedOrFloat, joint-swap, joint-joins}
+
+-- what becomes of a type that meets others one after the other, and of a place where those were observed
+unfoldable pub joinedFrom : ℕ → ℕ → List ℕ → Option ℕ
+joinedFrom word t [] = some t
+joinedFrom word t (u ∷ us) = andThen (joint word t u) (λ v. joinedFrom word v us)
+
+abbrev pub joined : ℕ → List ℕ → Option ℕ
+joined word = joinedFrom word null
 
 -- ---- under any options
 

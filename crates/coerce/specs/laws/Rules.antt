@@ -18,9 +18,15 @@ use Rattle.logic.specs.laws.Table.{allBelow, below-at}
 use Rattle.datatype.specs.Codes.{null, dictionaryUtf8}
 use Rattle.options.specs.Word.{coerceNumbers, allowToString, edition2, stringAsLargeUtf8, stringType}
 use Rattle.coerce.specs.Joint.{isString, isFloat, isSigned, numberJoint, jointOfNumbers, jointWithString, jointOfTimestamps, jointOfUnequal, joint}
-use Rattle.coerce.specs.Census.{isOther, isStringOrTimestamp, severalSeen, fitting, Fits}
+use Rattle.coerce.specs.Census.{isOther, isStringOrTimestamp, severalSeen}
 
--- Null fits
+-- every type that a value can show is among these: those before the dictionaries, and of the string types only the options' own
+unfoldable pub fitting : ℕ → ℕ → Bool
+fitting string t = ltb t dictionaryUtf8 && (if isString t then eqb t string else true)
+
+abbrev pub Fits : ℕ → ℕ → Type 0
+Fits word t = fitting (stringType word) t ≡ true
+
 pub null-fits : (word : ℕ) → Fits word null
 unfolding fitting if_then_else_
 null-fits word = refl

@@ -1,5 +1,6 @@
 -- What depends on the set of types seen alone, as document 01 says it: the type that the census reads off them; and, with allow_to_string
--- off and in either edition, the joint of them, which is there in any order or in none. No proof cites these laws.
+-- off and in either edition, the joint of them, which is there in any order or in none; and that in edition 2 types that have a joint are
+-- never both integers and floats. No proof cites `joined-same`.
 use mathlib.Core.Path.{_≡_, refl, sym, _∙_, ap}
 use mathlib.Core.Bool.{Bool, true, false, not, _&&_, _||_, or-true, and-false, false≢true}
 use mathlib.Core.Option.{Option, none, some, Option·none-ne-some}
@@ -17,10 +18,10 @@ use Rattle.logic.specs.Maybe.{andThen, sameMaybe}
 use Rattle.logic.specs.laws.Maybe.{then-some, then-agree, then-is, then-then, same-maybe, maybe-same, same-answers}
 use Rattle.datatype.specs.Codes.{null, int8, uint64, float32, float64}
 use Rattle.options.specs.Word.{coerceNumbers, allowToString, edition2, stringType}
-use Rattle.coerce.specs.Joint.{isInteger, isFloat, jointOfNumbers, jointOfUnequal, joint, joinedFrom, joined}
-use Rattle.coerce.specs.Census.{isOther, isStringOrTimestamp, typeSeen, nonNull, Fits}
-use Rattle.coerce.specs.laws.Rules.{isSignedOrFloat, null-fits, joint-swap, joint-joins}
-use Rattle.coerce.specs.laws.Joined.{null-joint, joined-absorbed, same-several, joined-fits, joined-absorbs, joined-seen}
+use Rattle.coerce.specs.Joint.{isInteger, isFloat, jointOfNumbers, jointOfUnequal, joint}
+use Rattle.coerce.specs.Census.{isOther, isStringOrTimestamp, typeSeen, nonNull}
+use Rattle.coerce.specs.laws.Rules.{Fits, isSignedOrFloat, null-fits, joint-swap, joint-joins}
+use Rattle.coerce.specs.laws.Joined.{joinedFrom, joined, null-joint, joined-absorbed, same-several, joined-fits, joined-absorbs, joined-seen}
 
 -- Lists hold the same if no test tells them apart.
 abbrev pub Same : List ℕ → List ℕ → Type 0

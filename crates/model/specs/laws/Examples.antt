@@ -105,7 +105,7 @@ second-edition = refl
 
 -- what the census says of the field `a`
 unfoldable pub said : List ℕ → Option S.Said
-unfolding has if_then_else_ eqName ltName same U.within U.dueIn U.reads U.fits C.formOf C.operands C.made C.nameIn C.badCommand C.badName C.readCommand R.shapeOf R.nextPart R.recordsFrom R.values R.readValue R.readShape R.readParts T.has T.holds Y.severalSeen Y.typeSeen Y.nonNull Y.fitting S.partsAt S.below S.standing S.anyNull S.samples S.holders S.kindsSeen S.containerSeen S.kindSeen S.fixedSteps S.stepsIn S.sight S.sights S.stepsSeen S.insertStep S.asSet S.census
+unfolding has if_then_else_ eqName ltName same U.within U.dueIn U.reads U.fits C.formOf C.operands C.made C.nameIn C.badCommand C.badName C.readCommand R.shapeOf R.nextPart R.recordsFrom R.values R.readValue R.readShape R.readParts T.has T.holds Y.severalSeen Y.typeSeen Y.nonNull S.partsAt S.below S.standing S.anyNull S.samples S.holders S.kindsSeen S.containerSeen S.kindSeen S.fixedSteps S.stepsIn S.sight S.sights S.stepsSeen S.insertStep S.asSet S.census
 said commands = S.census 30 (field (97 ∷ []) ∷ []) false (R.values 30 commands (97 ∷ []))
 
 -- of two records the first has the field and the second has not: null is admitted there, since fewer samples of its struct hold it than exist

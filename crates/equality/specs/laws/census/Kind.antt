@@ -1,6 +1,6 @@
 -- The kind that the values at a place leave there is the one that the census reads off the kinds seen.
 use mathlib.Core.Path.{_≡_, refl, ap, sym, _∙_}
-use mathlib.Core.Bool.{true, false, true≢false, false≢true}
+use mathlib.Core.Bool.{true, false, _&&_, true≢false, false≢true}
 use mathlib.Core.List.{List, [], _∷_}
 use mathlib.Core.Option.{Option, none, some}
 use Prim.Native.Nat.{ℕ, _<_}
@@ -9,13 +9,14 @@ use lib.Dec.{eqb}
 use borrow.Author.Tests.{eqb-true, leb-false, lt-leb}
 use Rattle.logic.specs.Test.{if_then_else_}
 use Rattle.logic.specs.laws.Test.{cases}
-use Rattle.logic.specs.All.{All}
+use Rattle.logic.specs.All.{All, has}
 use Rattle.logic.specs.Maybe.{andThen}
 use Rattle.datatype.specs.Codes.{null}
-use Rattle.options.specs.Word.{allowToString}
-use Rattle.coerce.specs.Joint.{joint, joinedFrom}
-use Rattle.coerce.specs.Census.{Fits}
-use Rattle.coerce.specs.laws.Joined.{joint-below, joined-seen}
+use Rattle.options.specs.Word.{allowToString, edition2}
+use Rattle.coerce.specs.Joint.{isInteger, isFloat, joint}
+use Rattle.coerce.specs.laws.Rules.{Fits}
+use Rattle.coerce.specs.laws.Joined.{joinedFrom, joint-below, joined-seen}
+use Rattle.coerce.specs.laws.Sets.{never-both}
 use Rattle.model.specs.Result.{accepted}
 use Rattle.model.specs.Kinds.{sequenceKind, structKind, mapModeKind, isContainer, isStruct}
 use Rattle.model.specs.Reading.{Value, val, cut}
@@ -120,3 +121,11 @@ kind-seen o d vs t f p e =
     cases (isContainer (containerSeen (kindsSeen vs)))
     (λ c. rw c (r .container c))
     (λ c. rw c (joined-seen o f (kindOf t) (kindsSeen vs) (kinds-fit o vs p c) (r .type c)))
+
+-- In edition 2 no place that is traced and is no container holds integers and floats both, so that what the census reads off the types seen
+-- stays document 01's. No proof cites this.
+pub kinds-apart : (o d : ℕ) (vs : List Value) (t : Tree) → allowToString o ≡ false → edition2 o ≡ true → allProper o vs ≡ true → seeAll o d vs fresh ≡ accepted t →
+    isContainer (containerSeen (kindsSeen vs)) ≡ false → (has isInteger (kindsSeen vs) && has isFloat (kindsSeen vs)) ≡ false
+kinds-apart o d vs t off second p e c =
+    let r = reads o (kindsSeen vs) null (kindOf t) refl (all-kind o d vs fresh t e) in
+    never-both o off second (kindOf t) (kindsSeen vs) (kinds-fit o vs p c) (r .type c)

@@ -16,8 +16,7 @@ use Rattle.logic.specs.Maybe.{andThen, OnSome}
 use Rattle.datatype.specs.Codes.{null, int64, uint64, float64, dictionaryUtf8}
 use Rattle.options.specs.Word.{allowToString, stringAsLargeUtf8, stringType}
 use Rattle.coerce.specs.Joint.{isString, joint}
-use Rattle.coerce.specs.Census.{fitting, Fits}
-use Rattle.coerce.specs.laws.Rules.{joint-swap, null-fits}
+use Rattle.coerce.specs.laws.Rules.{fitting, Fits, null-fits, joint-swap}
 use Rattle.coerce.specs.laws.Joined.{joint-null, null-joint, joint-among, joint-below}
 use Rattle.model.specs.Kinds.{sequenceKind, structKind, mapKind, unionKind, tupleKind, mapModeKind, isContainer, isStruct}
 use Rattle.model.specs.Tracing.{sameContainer}
