@@ -104,7 +104,22 @@ def rename_page(text, table, fields):
     return re.sub(r"`[^`\n]+`", lambda m: rename(m.group(0), table, fields), text)
 
 
+IMPORT = re.compile(r"^\s*(?:ghost )?use ([^\s{]+?)\.\{([^}]*)\}", re.M)
+
+
+def of_library(text, crates):
+    """The names that a file imports from a library, which stay."""
+    names = set()
+    for path, listed in IMPORT.findall(text):
+        parts = path.split(".")
+        if not (parts[0] == "Rattle" and len(parts) > 1 and parts[1] in crates):
+            names |= {n.strip().split(" as ")[0] for n in listed.split(",")}
+            names |= {n.strip().split(" as ")[-1] for n in listed.split(",")}
+    return names
+
+
 def main():
+    crates = {p.name for p in Path("crates").iterdir()}
     dry = "--dry" in sys.argv
     antt, sources, edits, pages = files("*.antt"), files("*.rt"), files("*.edit"), files("*.md")
     table, lemmas, fields = table_of(antt)
@@ -127,9 +142,13 @@ def main():
     if dry:
         return
     for f in antt:
-        f.write_text(rename(f.read_text(), both, fields))
+        text = f.read_text()
+        kept = of_library(text, crates)
+        f.write_text(rename(text, {o: n for o, n in both.items() if o not in kept}, fields))
     for f in sources + edits:
-        f.write_text(rename_source(f.read_text(), table, fields))
+        text = f.read_text()
+        kept = of_library(text, crates)
+        f.write_text(rename_source(text, {o: n for o, n in table.items() if o not in kept}, fields))
     for f in pages:
         f.write_text(rename_page(f.read_text(), table, fields))
 

@@ -1,7 +1,7 @@
 -- `joint_of_timestamps` takes both zones apart; a type that is no timestamp has no joint here.
 use borrow.Author.Rules.{rules}
 use mathlib.Core.Path.{◌≡◌, refl}
-use mathlib.Core.Bool.{false, and_false}
+use mathlib.Core.Bool.{false, and-false}
 use mathlib.Core.Option.{none, some}
 use mathlib.Core.List.{List, [], ◌∷◌}
 use Prim.Native.Nat.{ℕ}
@@ -58,7 +58,7 @@ module _ (word : ℕ) (t u : DataType) where
 
   no_second : OneOf others (tag_of the_type u) → none ≡ joint_of_timestamps word (code_of t) (code_of u)
   unfolding joint_of_timestamps if◌then◌else◌
-  no_second h = rw (other_type u h, and_false (is_timestamp (code_of t)))
+  no_second h = rw (other_type u h, and-false (is_timestamp (code_of t)))
 
   module _ (x y : Zone) (p : t ≡ D.Timestamp x) (q : u ≡ D.Timestamp y) where
     naive : x ≡ Z.Naive → y ≡ Z.Naive → some (code_of (D.Timestamp x)) ≡ joint_of_timestamps word (code_of t) (code_of u)

@@ -3,8 +3,8 @@
 use Rattle.std.specs.Prelude.{◌≡◌, refl, Bool, true, false, not, ◌&&◌, ◌||◌}
 use Rattle.std.proofs.Math.Path.{sym, ap, subst}
 use Rattle.std.proofs.Common.{◌∙◌, arith, eqb-true, eq-eqb}
-use Rattle.std.proofs.Math.Bool.{or_assoc, or_false}
-use Rattle.std.proofs.Math.Option.{Option, some, some_injective}
+use Rattle.std.proofs.Math.Bool.{or_assoc, or-false}
+use Rattle.std.proofs.Math.Option.{Option, some, some-injective}
 use mathlib.Core.List.{List, [], ◌∷◌}
 use Prim.Native.Nat.{ℕ, ◌≤◌, ◌<◌}
 use Rattle.std.proofs.Math.Dec.{eqb}
@@ -103,7 +103,7 @@ same_several string xs ys p q r =
     (λ e. rw (p, q, e))
     (λ e.
     let signed : (zs : List ℕ) → has is_float zs ≡ false →
-    has is_signed_or_float zs ≡ has is_signed zs = λ zs d. has_or is_signed is_float zs ∙ ap (λ (b : Bool). has is_signed zs || b) d ∙ or_false
+    has is_signed_or_float zs ≡ has is_signed zs = λ zs d. has_or is_signed is_float zs ∙ ap (λ (b : Bool). has is_signed zs || b) d ∙ or-false
     (has is_signed zs) in
     rw (p, q, e, sym (signed xs (q ∙ e)) ∙ r ∙ signed ys e))
 
@@ -112,7 +112,7 @@ module _ (word : ℕ) (off : allow_to_string word ≡ false) where
   -- a joint fits too
   pub joined_fits : (t u : ℕ) (xs : List ℕ) → Fits word t → All (Fits word) xs → joined_from word t xs ≡ some u → Fits word u
   unfolding joined_from
-  joined_fits t u [] f h e = subst (Fits word) (some_injective t u e) f
+  joined_fits t u [] f h e = subst (Fits word) (some-injective t u e) f
   joined_fits t u (x ∷ xs) f h e =
       then_some (joint word t x) (λ v. joined_from word v xs) u e λ v p q.
       joined_fits v u xs (joint_joins word off t x v f h.0 p).fits h.1 q
@@ -120,7 +120,7 @@ module _ (word : ℕ) (off : allow_to_string word ≡ false) where
   -- a type that takes x in still does so after more types
   keeps : (t u x : ℕ) (xs : List ℕ) → Fits word t → Fits word x → All (Fits word) xs → joint word t x ≡ some t → joined_from word t xs ≡ some u → joint word u x ≡ some u
   unfolding joined_from and_then
-  keeps t u x [] f g h a e = subst (λ (v : ℕ). joint word v x ≡ some v) (some_injective t u e) a
+  keeps t u x [] f g h a e = subst (λ (v : ℕ). joint word v x ≡ some v) (some-injective t u e) a
   keeps t u x (y ∷ ys) f g h a e =
       then_some (joint word t y) (λ v. joined_from word v ys) u e λ v p q.
       let s : joint word v x ≡ some v = sym (rw (a, p) at (joint_swap word off t x y f g h.0)) in
@@ -139,7 +139,7 @@ module _ (word : ℕ) (off : allow_to_string word ≡ false) where
   joined_shows : (p : ℕ → Bool) → ((a b u : ℕ) → Joins word a b u → p u ≡ (p a || p b)) → (t u : ℕ) (xs : List ℕ) → Fits word t → All (Fits word) xs →
       joined_from word t xs ≡ some u → p u ≡ (p t || has p xs)
   unfolding joined_from has
-  joined_shows p w t u [] f h e = ap p (sym (some_injective t u e)) ∙ sym (or_false (p t))
+  joined_shows p w t u [] f h e = ap p (sym (some-injective t u e)) ∙ sym (or-false (p t))
   joined_shows p w t u (x ∷ xs) f h e =
       then_some (joint word t x) (λ v. joined_from word v xs) u e λ v q r.
       let j = joint_joins word off t x v f h.0 q in
@@ -155,7 +155,7 @@ module _ (word : ℕ) (off : allow_to_string word ≡ false) where
   unfolding has
   joined_several s t ss h n e o =
       let f : Fits word t = joined_fits s t ss h.0 h.1 e in
-      let shown : (p : ℕ → Bool) → ((a b u : ℕ) → Joins word a b u → p u ≡ (p a || p b)) → has p (t ∷ []) ≡ has p (s ∷ ss) = λ p w. or_false (p t) ∙ joined_shows p w s t ss h.0 h.1 e in
+      let shown : (p : ℕ → Bool) → ((a b u : ℕ) → Joins word a b u → p u ≡ (p a || p b)) → has p (t ∷ []) ≡ has p (s ∷ ss) = λ p w. or-false (p t) ∙ joined_shows p w s t ss h.0 h.1 e in
       let wide : t ≡ several_seen (string_type word) (t ∷ []) =
       cases (eqb s t)
       (λ q. all_has (λ u. (joint word t u ≡ some t) × ((eqb u null ≡ false) × Fits word u)) (is_other s) ss
@@ -167,12 +167,12 @@ module _ (word : ℕ) (off : allow_to_string word ≡ false) where
 
   joined_seen_non_null : (t : ℕ) (seen : List ℕ) → All (Fits word) seen → All (λ u. eqb u null ≡ false) seen → joined word seen ≡ some t → t ≡ type_seen word seen
   unfolding joined_from and_then type_seen
-  joined_seen_non_null t [] h n e = sym (some_injective null t e)
+  joined_seen_non_null t [] h n e = sym (some-injective null t e)
   joined_seen_non_null t (s ∷ ss) h n e =
       let d : joined_from word s ss ≡ some t = rw (null_joint word s) at e in
       cases (has (is_other s) ss)
       (λ o. joined_several s t ss h n d o ∙ sym (if-passed s o))
-      (λ o. some_injective t s (sym d ∙ joined_absorbed word s ss (all_map _ _ ss (λ u q. rw (eqb-true u s q) (joint_same word s)) (has_none (λ u. eqb u s) ss o))) ∙ sym (if-failed _ o))
+      (λ o. some-injective t s (sym d ∙ joined_absorbed word s ss (all_map _ _ ss (λ u q. rw (eqb-true u s q) (joint_same word s)) (has_none (λ u. eqb u s) ss o))) ∙ sym (if-failed _ o))
 
   -- the type that came of all observed is the one that the census reads off the set
   pub joined_seen : (t : ℕ) (codes : List ℕ) → All (Fits word) codes → joined word codes ≡ some t → t ≡ type_seen word (non_null codes)

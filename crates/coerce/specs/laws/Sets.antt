@@ -4,7 +4,7 @@
 use Rattle.std.specs.Prelude.{◌≡◌, refl, true, false, ◌&&◌, ◌||◌, eqb, leb}
 use Rattle.std.proofs.Math.Path.{sym, ap}
 use Rattle.std.proofs.Common.{◌∙◌, arith, eqb-true, eq-eqb, ne_eqb, leb-true, le-leb}
-use Rattle.std.proofs.Math.Bool.{Bool, not, or_true, and_false}
+use Rattle.std.proofs.Math.Bool.{Bool, not, or-true, and-false}
 use Rattle.std.proofs.lemmas.Bool.{false≢true, not-false}
 use Rattle.std.proofs.Math.Option.{Option, none, some, none-ne-some}
 use mathlib.Core.List.{List, [], ◌∷◌}
@@ -76,7 +76,7 @@ apart word second a b f i =
       below,
       low,
       high,
-      or_true,
+      or-true,
     ) (if-either (λ (o : Option ℕ). o ≡ none) (not (coerce_numbers word)) refl refl)
 
 -- ---- with allow_to_string off, of types that fit the options
@@ -120,7 +120,7 @@ module _ (word : ℕ) (off : allow_to_string word ≡ false) where
       all_has _ is_integer codes all i λ a absorbs integer.
       all_has _ is_float codes all f λ b takes float.
       let g = (joint_joins word off t b t (joined_fits word off null t codes (null_fits word) h e) takes.0 takes.1).floats in
-      let u : is_float t ≡ true = g ∙ rw float (or_true (is_float t)) in
+      let u : is_float t ≡ true = g ∙ rw float (or-true (is_float t)) in
       absurd (none-ne-some t (sym (apart word second t a u integer) ∙ absorbs.1)))
-      (λ f. rw f (and_false (has is_integer codes))))
+      (λ f. rw f (and-false (has is_integer codes))))
       (λ i. rw i)

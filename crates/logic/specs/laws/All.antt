@@ -1,7 +1,7 @@
 -- Laws of what holds of every element, and of tests on elements.
 use Rattle.std.specs.Prelude.{◌≡◌, refl, Bool, true, false, not, ◌||◌}
 use Rattle.std.proofs.Common.{sym, subst}
-use Rattle.std.proofs.Math.Bool.{or_true}
+use Rattle.std.proofs.Math.Bool.{or-true}
 use Rattle.std.proofs.lemmas.Bool.{false≢true, not-false}
 use mathlib.Core.List.{List, [], ◌∷◌, Permᴰ}
 use Rattle.logic.specs.laws.Test.{cases, neither}
@@ -45,4 +45,4 @@ has_or p q [] = refl
 has_or p q (x ∷ xs) =
     cases (p x)
     (λ e. rw e)
-    (λ e. cases (q x) (λ f. rw (e, f) (sym (or_true (has p xs)))) (λ f. rw (e, f) (has_or p q xs)))
+    (λ e. cases (q x) (λ f. rw (e, f) (sym (or-true (has p xs)))) (λ f. rw (e, f) (has_or p q xs)))

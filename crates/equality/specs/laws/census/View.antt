@@ -2,7 +2,7 @@
 use Rattle.std.specs.Prelude.{◌≡◌, refl, Bool, true, false, not, ◌&&◌, ◌||◌, List, [], ◌∷◌, ◌++◌, ℕ, ◌+◌, eqb, ltb}
 use Rattle.std.proofs.Math.Path.{ap}
 use Rattle.std.proofs.Common.{ap₂, sym, ◌∙◌, arith, eqb-true}
-use Rattle.std.proofs.Math.Bool.{or_false}
+use Rattle.std.proofs.Math.Bool.{or-false}
 use Rattle.std.proofs.Math.Option.{Option, none, some}
 use Rattle.logic.specs.Test.{if◌then◌else◌}
 use Rattle.logic.specs.laws.Test.{cases}
@@ -101,7 +101,7 @@ distinct_snoc s [] e h = refl
 distinct_snoc s (r ∷ ss) e h =
     let a = or_left_false (same s r) (has s ss) e in
     let b = or_right_false (same s r) (has s ss) e in
-    rw (has_snoc r s ss, same_sym r s, a, or_false (has r ss), and_left (not (has r ss)) (distinct ss) h) (distinct_snoc s ss b (and_right (not (has r ss)) (distinct ss) h))
+    rw (has_snoc r s ss, same_sym r s, a, or-false (has r ss), and_left (not (has r ss)) (distinct ss) h) (distinct_snoc s ss b (and_right (not (has r ss)) (distinct ss) h))
 
 distinct_sight : (s : Step) (ss : List Step) → distinct ss ≡ true → distinct (sight s ss) ≡ true
 unfolding sight if◌then◌else◌

@@ -1,10 +1,10 @@
 -- A reordering of an accepted batch is accepted, and its places differ in the order of the places below alone.
 use Rattle.std.specs.Prelude.{◌≡◌, refl, Bool, true, false, ◌&&◌, ◌||◌, ℕ, ◌+◌, eqb}
 use Rattle.std.proofs.Common.{ap, ap₂, sym, ◌∙◌, arith, eqb-true}
-use Rattle.std.proofs.Math.Bool.{not, or_false}
+use Rattle.std.proofs.Math.Bool.{not, or-false}
 use mathlib.Core.List.Permᴰ
 use mathlib.Core.List.{List, [], ◌∷◌, append_assoc, Permᴰ}
-use Rattle.std.proofs.Math.Option.{some_injective}
+use Rattle.std.proofs.Math.Option.{some-injective}
 use Rattle.logic.specs.Test.{if◌then◌else◌}
 use Rattle.logic.specs.laws.Test.{cases, both, neither}
 use Rattle.logic.specs.All.{All}
@@ -103,7 +103,7 @@ any_shows s (v ∷ vs) = shown_by s v || any_shows s vs
 
 has_seen_is : (s : Step) (vs : List Value) (ss : List Step) → has s (steps_seen vs ss) ≡ (has s ss || any_shows s vs)
 unfolding steps_seen any_shows
-has_seen_is s [] ss = sym (or_false (has s ss))
+has_seen_is s [] ss = sym (or-false (has s ss))
 has_seen_is s (v ∷ vs) ss =
     rw (has_seen_is s vs (sights (steps_in (parts_of v)) (sights (fixed_steps (kind_in v)) ss)), has_sights_is, has_sights_is)
     (or_four (has s ss) (has s (fixed_steps (kind_in v))) (has s (steps_in (parts_of v))) (any_shows s vs))
@@ -154,7 +154,7 @@ one_mode o vs p e g =
     no_struct k n s = eqb-true k map_mode_kind (rw n at s)
 
     no_map : (k : ℕ) → is_struct k ≡ true → eqb k map_mode_kind ≡ false → k ≡ struct_kind
-    no_map k s n = eqb-true k struct_kind (rw (n, or_false (eqb k struct_kind)) at s)
+    no_map k s n = eqb-true k struct_kind (rw (n, or-false (eqb k struct_kind)) at s)
 
 perm_together : (o : ℕ) → allow_to_string o ≡ false → {vs ws : List Value} → Permᴰ vs ws → all_proper o vs ≡ true → OneMode vs
     → together_all o (kinds_seen vs) null ≡ together_all o (kinds_seen ws) null
@@ -179,7 +179,7 @@ perm_alike o off d vs ws t u r p e f g =
     let b = steps_fresh o d ws u g q in
     record {
       null = all_null o d vs fresh t f ∙ perm_null r ∙ sym (all_null o d ws fresh u g);
-      kind = some_injective (kind_of t) (kind_of u) (sym (all_kind o d vs fresh t f) ∙ perm_together o off r p e ∙ all_kind o d ws fresh u g);
+      kind = some-injective (kind_of t) (kind_of u) (sym (all_kind o d vs fresh t f) ∙ perm_together o off r p e ∙ all_kind o d ws fresh u g);
       samples = samples_fresh o d vs t f ∙ perm_samples r ∙ sym (samples_fresh o d ws u g);
       steps = λ s. rw (a, b) (perm_has s r);
       held = λ s. held_fresh o d vs t f s ∙ perm_holders r s ∙ sym (held_fresh o d ws u g s);

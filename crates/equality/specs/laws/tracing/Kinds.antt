@@ -2,7 +2,7 @@
 use Rattle.std.specs.Prelude.{◌≡◌, Bool, not, ◌&&◌, ◌||◌, ℕ, ◌<◌, ltb}
 use Rattle.std.proofs.Math.Path.{refl, ap, ap₂, subst, sym}
 use Rattle.std.proofs.Common.{◌∙◌, true≢false, arith}
-use Rattle.std.proofs.Math.Bool.{true, false, or_false, or_comm, and_comm}
+use Rattle.std.proofs.Math.Bool.{true, false, or-false, or_comm, and_comm}
 use Rattle.std.proofs.lemmas.Bool.{false≢true}
 use mathlib.Core.List.{List, ◌∷◌, Permᴰ}
 use Rattle.std.proofs.Math.Option.{Option, none, some}
@@ -131,7 +131,7 @@ module _ (o mode : ℕ) where
   same_is k h a b =
       cases (is_struct k && is_struct h)
       (λ s. both (is_struct k) (is_struct h) s λ p q. rw (eq-eqb k h (a.moded p ∙ sym (b.moded q))))
-      (λ s. rw s (or_false (eqb k h)))
+      (λ s. rw s (or-false (eqb k h)))
 
   -- where one of them is a container and neither is Null, they are the same or do not go together
   met : (k h : ℕ) → Suits o mode k → Suits o mode h → (is_container k || is_container h) ≡ true → eqb k null ≡ false → eqb h null ≡ false

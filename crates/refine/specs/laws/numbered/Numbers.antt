@@ -2,7 +2,7 @@
 use Rattle.std.specs.Prelude.{◌≡◌, Bool, false, ◌||◌, ℕ, ◌+◌, ◌<◌, ◌≤◌, eqb}
 use Rattle.std.proofs.Math.Path.{refl}
 use Rattle.std.proofs.Common.{ap, sym, ◌∙◌, true≢false, arith, eqb-true, eq-eqb, ne_eqb}
-use Rattle.std.proofs.Math.Bool.{or_false, or_assoc, true}
+use Rattle.std.proofs.Math.Bool.{or-false, or_assoc, true}
 use Rattle.std.proofs.lemmas.Bool.{false≢true}
 use Rattle.logic.specs.Test.{if◌then◌else◌}
 use Rattle.logic.specs.laws.Test.{cases}
@@ -110,15 +110,15 @@ child_good n c s (child r h m u ks) g e =
 -- a new child
 pub has_add : (q : ℕ) (s : Step) (n : ℕ) (ks : Spots) → within_in q (add_s s n ks) ≡ (within_in q ks || eqb q n)
 unfolding add_s
-has_add q s n no_spots = or_false _ ∙ or_false _
+has_add q s n no_spots = or-false _ ∙ or-false _
 has_add q s n (child r h m u ks) = rw (has_add q s n ks) (sym (or_assoc (within q u) (within_in q ks) (eqb q n)))
 
 pub has_add_old : (q : ℕ) (s : Step) (n : ℕ) (ks : Spots) → q < n → within_in q (add_s s n ks) ≡ within_in q ks
-has_add_old q s n ks l = rw (has_add q s n ks, ne_eqb q n (omega arith)) (or_false (within_in q ks))
+has_add_old q s n ks l = rw (has_add q s n ks, ne_eqb q n (omega arith)) (or-false (within_in q ks))
 
 pub near_add : (r s : Step) (n : ℕ) (ks : Spots) → near_in r (add_s s n ks) ≡ (near_in r ks || near r s)
 unfolding add_s near_in
-near_add r s n no_spots = or_false (near r s)
+near_add r s n no_spots = or-false (near r s)
 near_add r s n (child q h m u ks) = rw (near_add r s n ks) (sym (or_assoc (near r q) (near_in r ks) (near r s)))
 
 pub add_good : (n c : ℕ) (s : Step) (ks : Spots) → c < n → near_in s ks ≡ false → GoodIn n c ks → GoodIn (n + 1) c (add_s s n ks)

@@ -2,7 +2,7 @@
 use Rattle.std.specs.Prelude.{◌≡◌, List, Bool, true, false, ◌||◌, ℕ, suc, ◌+◌, ◌*◌, ◌<◌, ◌≤◌, length, eqb, ltb}
 use Rattle.std.proofs.Math.Path.{refl}
 use Rattle.std.proofs.Common.{ap, sym, subst, ◌∙◌, arith, eqb-true, eq-eqb, lt-ltb, ltb-true, ltb-false}
-use Rattle.std.proofs.Math.Bool.{or_false, or_assoc}
+use Rattle.std.proofs.Math.Bool.{or-false, or_assoc}
 use Rattle.std.proofs.lemmas.Bool.{false≢true, eqb-false}
 use Rattle.logic.specs.Test.{if◌then◌else◌}
 use Rattle.logic.specs.laws.Test.{cases}
@@ -60,7 +60,7 @@ links_word F a b c p ks q f (at_right _ e) = c
 -- ---- the steps and numbers of children, one of them new
 has_added : (r s : Step) (n : ℕ) (ks : Spots) → has r (steps_s (add_s s n ks)) ≡ (has r (steps_s ks) || same r s)
 unfolding add_s has steps_s
-has_added r s n no_spots = or_false (same r s)
+has_added r s n no_spots = or-false (same r s)
 has_added r s n (child q h m u ks) = rw (has_added r s n ks) (sym (or_assoc (same r q) (has r (steps_s ks)) (same r s)))
 
 last_num : (c q : ℕ) (ks : Spots) → within_in q ks ≡ true → num_in (last_from c ks) ks ≡ true

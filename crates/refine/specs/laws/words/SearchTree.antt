@@ -2,7 +2,7 @@
 use Rattle.std.specs.Prelude.{◌≡◌, List, Bool, ◌||◌, ℕ, ◌+◌, ◌*◌, ◌%◌, ◌<◌, ◌≤◌, eqb}
 use Rattle.std.proofs.Math.Path.{refl}
 use Rattle.std.proofs.Common.{ap, sym, ◌∙◌, arith, eqb-true, le-ltb}
-use Rattle.std.proofs.Math.Bool.{or_false, or_assoc, true, false}
+use Rattle.std.proofs.Math.Bool.{or-false, or_assoc, true, false}
 use Rattle.std.proofs.lemmas.Bool.{false≢true}
 use Rattle.logic.specs.Test.{if◌then◌else◌}
 use Rattle.logic.specs.laws.Test.{cases}
@@ -253,7 +253,7 @@ module _ (s : Step) (N : ℕ) (v : Spot) where
 -- a new child
 pub add_nums : (q : ℕ) (s : Step) (n : ℕ) (ks : Spots) → num_in q (add_s s n ks) ≡ (num_in q ks || eqb q n)
 unfolding add_s
-add_nums q s n no_spots = or_false (eqb q n)
+add_nums q s n no_spots = or-false (eqb q n)
 add_nums q s n (child r h m u ks) = rw (add_nums q s n ks) (sym (or_assoc (eqb q (num u)) (num_in q ks) (eqb q n)))
 
 pub indexes_add : (t : List ℕ) (s : Step) (n : ℕ) (ks : Spots) → Indexes t (new_spot n) → IndexesIn t ks → IndexesIn t (add_s s n ks)

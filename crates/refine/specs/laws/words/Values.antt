@@ -3,7 +3,7 @@ use Rattle.std.specs.Prelude.{◌≡◌, List, Bool, ◌||◌, eqb, ltb}
 use Rattle.std.proofs.Math.Path.{refl}
 use Rattle.std.proofs.Common.{sym, ◌∙◌, le_refl}
 use Rattle.std.proofs.Math.Option.{Option, none, some}
-use Rattle.std.proofs.Math.Bool.{or_true, or_false, true, false}
+use Rattle.std.proofs.Math.Bool.{or-true, or-false, true, false}
 use Prim.Native.Nat.{◌-◌, ℕ, zero, suc, ◌+◌, ◌*◌, ◌<◌, ◌≤◌}
 use native.Mathlib.Omega.{arith}
 use Rattle.std.proofs.Math.ListN.{length, get_or}
@@ -51,7 +51,7 @@ use Rattle.refine.specs.laws.words.Made.{EnsuresAll, all_there, ensure_made, not
 -- ---- one value
 walk_marked : (options depth n p : ℕ) (b : Bool) (k m : ℕ) (ks : Spots) (v : Value) → walk options depth (marked true v) n (spot p b k m ks) ≡ walk options depth v n (spot p true k m ks)
 unfolding walk if◌then◌else◌
-walk_marked options depth n p b k m ks (val at b' k' r ps) = rw (or_true b) refl
+walk_marked options depth n p b k m ks (val at b' k' r ps) = rw (or-true b) refl
 walk_marked options depth n p b k m ks (cut x at) = refl
 
 unmarked : (v : Value) → marked false v ≡ v
@@ -105,9 +105,9 @@ module _ (options : ℕ) (commands text : List ℕ) (bytes : Bytes commands) (de
       go null (M.Refused x) = balked
       go true (M.Kind j) =
           let A = set_kind text t n p b j₀ m ks h j in
-          rw (or_true b) (went y z (and_then text t (with_word t p kind_word j) (with_word (with_word t p kind_word j) p null_word 1) n n n
+          rw (or-true b) (went y z (and_then text t (with_word t p kind_word j) (with_word (with_word t p kind_word j) p null_word 1) n n n
           (spot p b j₀ m ks) (spot p b j m ks) (spot p true j m ks) A (set_null text (with_word t p kind_word j) n p b j m ks A.fits)))
-      go false (M.Kind j) = rw (or_false b) (went y z (set_kind text t n p b j₀ m ks h j))
+      go false (M.Kind j) = rw (or-false b) (went y z (set_kind text t n p b j₀ m ks h j))
 
   contents_sim : (levels ≡ 0 → ⊥) → (k r f here at n p : ℕ) (b : Bool) (j m : ℕ) (t : List ℕ) (ks : Spots) → at ≤ length commands →
       4 * length commands + 2 ≤ 4 * at + f → {x : Result (Counted Spots)} {y : Making} → EnsuresAll text p b j m ks t n here x y
@@ -125,7 +125,7 @@ module _ (options : ℕ) (commands text : List ℕ) (bytes : Bytes commands) (de
   unfolding walk container_by container_made if◌then◌else◌
   container_sim k r f here at n t (spot p b j₀ m ks) c y i h =
       let w : word t p kind_word ≡ j₀ = h.rep.0 0 (omega arith) in
-      rw (w, meets options depth levels here j₀ k level, c, or_false b) (go (meeting options levels j₀ k) refl)
+      rw (w, meets options depth levels here j₀ k level, c, or-false b) (go (meeting options levels j₀ k) refl)
     where
       go : (x : Met) → meeting options levels j₀ k ≡ x → Agrees text commands t n (spot p b j₀ m ks) at
           (of_met here x >>= λ j. make_all_s here (made k r j₀) n ks >>= λ q. walk_parts options depth (onward m)
@@ -146,7 +146,7 @@ module _ (options : ℕ) (commands text : List ℕ) (bytes : Bytes commands) (de
   unfolding walk make_all_s made variant_by variant_held held if◌then◌else◌
   choice_sim c k name f here at n t (spot p b j₀ m ks) st y i h =
       let w : word t p kind_word ≡ j₀ = h.rep.0 0 (omega arith) in
-      rw (w, meets options depth levels here j₀ union_kind level, or_false b) (go (meeting options levels j₀ union_kind) refl)
+      rw (w, meets options depth levels here j₀ union_kind level, or-false b) (go (meeting options levels j₀ union_kind) refl)
     where
       base : (c : Contents) → at ≤ low c at
       base N.Unit = omega arith

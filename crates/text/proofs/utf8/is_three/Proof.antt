@@ -3,7 +3,7 @@ use borrow.Author.Rules.{rules}
 use mathlib.Core.Path.{◌≡◌, sym}
 use Prim.Native.Nat.{ℕ, ◌+◌, ◌-◌, ◌≤◌, ◌<◌}
 use native.Mathlib.Omega.{arith}
-use mathlib.Core.Bool.{false, ◌&&◌, and_true, and_assoc}
+use mathlib.Core.Bool.{false, ◌&&◌, and-true, and_assoc}
 use mathlib.Core.List.{List, [], ◌∷◌}
 use lib.Dec.{leb}
 use lib.ListN.{length, get_or, drop, length-drop}
@@ -27,7 +27,7 @@ module _ (bytes : List ℕ) (at : ℕ) where
   unfolding begins within
   compared h =
       let two : at + 1 + 1 ≡ at + 2 = omega arith in
-      rw (drop_at bytes at (omega arith), drop_at bytes (at + 1) (omega arith), two, drop_at bytes (at + 2) (omega arith)) (simp (and_assoc, and_true))
+      rw (drop_at bytes at (omega arith), drop_at bytes (at + 1) (omega arith), two, drop_at bytes (at + 2) (omega arith)) (simp (and_assoc, and-true))
 
 pub is_three_spec : {M : Type 1} → statement M
 is_three_spec =
