@@ -1,6 +1,9 @@
 // Replays stored questions: each put to the call over buffers and a table that hold a pattern, and all that comes of
 // it against the answer of the published Rust, in edition 2 of the account: the five numbers, what was written, and what
 // had to be left alone.
+
+#![tactic(auto)]
+
 ghost use Rattle.std.specs.Prelude.{◌≡◌, true, ◌↔◌, ◌≤◌, min, length};
 ghost use Rattle.questions.specs.Question.{header_bytes};
 ghost use Rattle.answers_vectors.specs.Agrees.{CalledOver, Met, agrees, question_tally};

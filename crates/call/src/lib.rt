@@ -1,5 +1,8 @@
 // The call: whatever commands, texts, options word and buffers are handed in, the whole schema or one of eighteen
 // refusals and a place. Callers need test nothing first. What it promises is in specs/Call.antt; the crate fasthrom exports it.
+
+#![tactic(auto)]
+
 ghost use Rattle.std.specs.Prelude.{◌≡◌, ◌||◌, ◌≤◌, ltb, length, get_or};
 ghost use Rattle.words.specs.Word.{IsTable};
 ghost use Rattle.commands.specs.Bytes.{Bytes};

@@ -1,5 +1,8 @@
 // The four matchers of chrono.rs, and the type that a text observes (document 01, "Date texts"). No range is tested.
 // Each match reads on and never goes back: nothing that follows digits begins with one.
+
+#![tactic(auto)]
+
 ghost use Rattle.std.specs.Prelude.{◌≡◌, ◌+◌, ◌≤◌, length, drop};
 ghost use Rattle.datatype.specs.Codes.{code_of};
 ghost use Rattle.options.specs.Word.{string_type};

@@ -1,5 +1,8 @@
 // The joint of two primitive types that meet at one place (tracer.rs, coerce_primitive_type; the edition is not the Rust's). Samples
 // give no strategy on primitives, and nullability is the caller's affair.
+
+#![tactic(auto)]
+
 ghost use Rattle.std.specs.Prelude.{◌≡◌, true, ◌&&◌, leb};
 ghost use Rattle.datatype.specs.Codes.{code_of};
 ghost use Rattle.coerce.specs.Joint.{is_integer, is_float, is_number, is_string, is_timestamp, is_to_string, yields_to_string, is_mixed, is_forbidden, number_joint, joint_of_numbers, joint_with_string, joint_of_timestamps, joint_of_unequal, joint, codes_of};

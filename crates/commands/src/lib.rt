@@ -1,4 +1,7 @@
 // One command of the host (document 01, "Commands and texts"): a byte, then u16 operands, low byte first.
+
+#![tactic(auto)]
+
 ghost use Rattle.std.specs.Prelude.{◌≡◌, ◌+◌, ◌*◌, ◌<◌, ◌≤◌, length, get_or};
 ghost use Rattle.std.proofs.Math.Option.{some};
 ghost use Rattle.commands.specs.Commands.{operand_at, name_at, forms, form_of, operands, made, stands, bad_key, bad_name, read_command, refusal_of, place_of};

@@ -1,5 +1,8 @@
 // The types and strategies of field records, and their codes. The names are those of Arrow's Schema.fbs
 // and of serde_arrow (strategy.rs).
+
+#![tactic(auto)]
+
 ghost use Rattle.std.specs.Prelude.{◌≡◌};
 ghost use Rattle.datatype.specs.Codes.{code_of, decoded, strategy_code};
 

@@ -1,5 +1,8 @@
 // What is exported to C and to Rust, and nothing else. What it promises is in specs/Called.antt, and what follows for the
 // planner in specs/Demands.antt.
+
+#![tactic(auto)]
+
 ghost use Rattle.call.specs.Call.{handed_in, lent_in, left_in};
 ghost use Rattle.fasthrom.specs.Called.{Called};
 

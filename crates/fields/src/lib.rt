@@ -1,4 +1,7 @@
 // What the field of a place is: its type and strategy, whether it is nullable, and how many fields stand below it.
+
+#![tactic(auto)]
+
 ghost use Rattle.std.specs.Prelude.{◌≡◌, ◌&&◌, ◌||◌, ◌%◌, eqb};
 ghost use Rattle.logic.specs.Slices.{at_entry};
 ghost use Rattle.datatype.specs.Codes.{utf8, large_utf8, strategy_code};

@@ -1,4 +1,7 @@
 // How the programs read their files: a file's bytes, the numbers in them, and parts that the file may cut off.
+
+#![tactic(auto)]
+
 ghost use Rattle.std.specs.Prelude.{◌≡◌, ◌+◌, ◌<◌, ◌≤◌, min, length};
 ghost use Rattle.io.specs.Counts.{IsPrefixLen};
 ghost use Rattle.files.specs.Bytes.{two_bytes, three_bytes};

@@ -1,4 +1,7 @@
 // New places (tracer.rs, ensure_*): children that are found or made, samples counted, and the children that a container makes.
+
+#![tactic(auto)]
+
 ghost use Rattle.std.specs.Prelude.{◌≡◌, ◌<◌, ◌&&◌, [], ◌∷◌, ◌==◌, ◌≢◌};
 ghost use Rattle.words.specs.Word.{word, IsTable, IsRow};
 ghost use Rattle.shapes.specs.Steps.{field_code, code_of, name_of, Good};

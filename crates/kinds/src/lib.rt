@@ -1,4 +1,7 @@
 // Kinds that meet at a place (tracer.rs, ensure_* and coerce_primitive_type): a kind is a primitive type's code, or a container's.
+
+#![tactic(auto)]
+
 ghost use Rattle.std.specs.Prelude.{◌≡◌, ◌<◌, ◌&&◌, ◌||◌, eqb};
 ghost use Rattle.kinds.specs.Meeting.{meeting, of_joint};
 ghost use Rattle.coerce.specs.Joint.{joint};

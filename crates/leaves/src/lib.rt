@@ -1,4 +1,7 @@
 // The marks before a value, and a primitive at its place (tracer.rs, ensure_primitive).
+
+#![tactic(auto)]
+
 ghost use Rattle.std.specs.Prelude.{◌≡◌, ◌<◌};
 ghost use Rattle.words.specs.Word.{word, IsTable, IsRow};
 ghost use Rattle.shapes.specs.Leaf.{Told};

@@ -1,4 +1,7 @@
 // The lines that list field records: level, type, nullable, strategy, variant, children, name (document 01, "Soundings").
+
+#![tactic(auto)]
+
 ghost use Rattle.std.specs.Prelude.{◌≡◌, ◌+◌, ◌<◌, ◌≤◌, length};
 ghost use Rattle.listing.specs.Levels.{level_after, one_fewer, next_level, next_due};
 

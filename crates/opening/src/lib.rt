@@ -1,4 +1,7 @@
 // What is opened before anything below it is read: a container, a variant, a field (tracer.rs, ensure_struct and the like).
+
+#![tactic(auto)]
+
 ghost use Rattle.std.specs.Prelude.{◌≡◌};
 ghost use Rattle.shapes.specs.Steps.{field_code, code_of, name_of, Inside, Good};
 ghost use Rattle.places.specs.Layout.{Ready};

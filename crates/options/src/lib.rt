@@ -1,5 +1,8 @@
 // TracingOptions (tracing_options.rs), and the edition of the exchange standard: made from the options word, passed by value, each
 // question a method. With them goes what is known of the text, so that all who read one need not ask again.
+
+#![tactic(auto)]
+
 ghost use Rattle.std.specs.Prelude.{◌≡◌, false};
 ghost use Rattle.datatype.specs.Codes.{code_of};
 ghost use Rattle.options.specs.Word.{unknown_bit, allow_null_fields, map_as_struct, sequence_as_large_list, string_as_large_utf8, bytes_as_large_binary, string_dictionary_encoding, coerce_numbers, allow_to_string, guess_dates, enums_without_data_as_strings, edition2, string_type, binary_type, list_type, dictionary_type};

@@ -1,4 +1,7 @@
 // Field records and names put into the output buffers.
+
+#![tactic(auto)]
+
 ghost use Rattle.std.specs.Prelude.{◌≡◌, ◌≤◌, length};
 ghost use Rattle.logic.specs.Slices.{at_entry};
 ghost use Rattle.text.specs.Decimal.{decimal};

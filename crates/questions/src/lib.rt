@@ -1,6 +1,9 @@
 // Stored questions to the whole call: how one is laid out in its file, and whether what a call left is what it says.
 // A question is a header, the commands, the text, and the field records and names of the answer. The header is the options
 // word and ten numbers of three bytes.
+
+#![tactic(auto)]
+
 ghost use Rattle.std.specs.Prelude.{◌≡◌, true, ◌↔◌, ◌≤◌, ◌<◌, length, replicate};
 ghost use Rattle.files.specs.Bytes.{two_bytes};
 ghost use Rattle.questions.specs.Question.{header_bytes, number_at, question_size, question_end};

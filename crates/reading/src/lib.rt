@@ -1,5 +1,8 @@
 // Reads the values of a batch and traces each at its place (from_samples/mod.rs). A container's contents are read by a
 // call on itself, with the levels left falling from 20: a level for each step down, and one for each dot of its name.
+
+#![tactic(auto)]
+
 ghost use Rattle.std.specs.Prelude.{◌≡◌, true, ◌-◌};
 ghost use Rattle.model.specs.Kinds.{sequence_kind, map_kind, tuple_kind, is_struct};
 ghost use Rattle.shapes.specs.Steps.{Unnamed, Inside, Good};

@@ -1,6 +1,9 @@
 // Replays the files of records: texts through the four matchers and text_type, byte strings through is_utf8, pairs of
 // types through coerce_primitive_type, each against the answers of the published Rust, or of Rust's from_utf8, and pairs in
 // edition 2 against the account's.
+
+#![tactic(auto)]
+
 ghost use Rattle.std.specs.Prelude.{◌≡◌, ◌≤◌};
 ghost use Rattle.datatype.specs.Codes.{code_of};
 ghost use Rattle.chrono.specs.Text.{text_type};

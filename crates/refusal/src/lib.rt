@@ -1,4 +1,7 @@
 // The eighteen ways to be turned down (document 01), in the order of their numbers.
+
+#![tactic(auto)]
+
 ghost use Rattle.std.specs.Prelude.{◌≡◌};
 ghost use Rattle.refusal.specs.Number.{number_of};
 

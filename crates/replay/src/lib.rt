@@ -1,5 +1,8 @@
 // What the programs that replay stored vectors share. A file of vectors is records one after another, each a byte that
 // counts the bytes after it.
+
+#![tactic(auto)]
+
 ghost use Rattle.std.specs.Prelude.{◌≡◌, ◌≤◌, ◌<◌, length};
 ghost use Rattle.logic.specs.Test.{if◌then◌else◌};
 ghost use Rattle.replay.specs.Records.{record_end};

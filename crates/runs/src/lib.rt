@@ -1,4 +1,7 @@
 // Runs of elements that change nothing: the present sample of a sequence holds one already, and they are of its type.
+
+#![tactic(auto)]
+
 ghost use Rattle.std.specs.Prelude.{◌≡◌, ◌+◌, ◌≤◌, length};
 ghost use Rattle.words.specs.Word.{word, IsTable, IsRow};
 ghost use Rattle.places.specs.Layout.{first_word};

@@ -1,4 +1,7 @@
 // Reads a batch, each record a value at the root (from_samples/mod.rs).
+
+#![tactic(auto)]
+
 ghost use Rattle.std.specs.Prelude.{◌≡◌};
 ghost use Rattle.shapes.specs.Leaf.{Told};
 ghost use Rattle.places.specs.Layout.{Sound};

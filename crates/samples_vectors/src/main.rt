@@ -1,5 +1,8 @@
 // Traces each batch of batches.bin, and prints the places that are there then, also where tracing is refused halfway: of each
 // place all words in use, links as halves.
+
+#![tactic(auto)]
+
 ghost use Rattle.std.specs.Prelude.{◌≡◌, true, false, ◌<◌, ◌≤◌};
 ghost use Rattle.logic.specs.Slices.{at_entry};
 ghost use Rattle.words.specs.Word.{place_words, IsTable, IsRow, is_link};

@@ -1,5 +1,8 @@
 // The second walk, which writes the field of a place and all below it; and the schema as a whole, with refusals 15 to 18
 // (Tracer::to_schema). Nothing is written before everything is decided.
+
+#![tactic(auto)]
+
 ghost use Rattle.std.specs.Prelude.{◌≡◌, ◌≤◌};
 ghost use Rattle.logic.specs.Slices.{at_entry};
 ghost use Rattle.words.specs.Word.{IsRow};

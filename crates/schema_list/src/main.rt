@@ -1,6 +1,9 @@
 // Lists the schema of the return in the folder that it runs in: options.bin, commands.bin and text.bin. A line for each
 // field record, and a last one; or why there is no schema, and where. Arguments name the files of other returns, three
 // for each, which are listed one after another.
+
+#![tactic(auto)]
+
 ghost use Rattle.std.specs.Prelude.{◌≡◌, ◌≤◌, length};
 ghost use Rattle.schema_list.specs.Call.{output_bytes, TracedInto};
 

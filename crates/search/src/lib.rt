@@ -1,5 +1,8 @@
 // The child of a place at a step: fields found in order of first sight, numbered children in a search tree (tracer.rs has a
 // HashMap and a Vec there).
+
+#![tactic(auto)]
+
 ghost use Rattle.std.specs.Prelude.{◌≡◌, ◌+◌, ◌-◌, ◌/◌, ◌%◌, ◌<◌, ◌≤◌, true, ◌&&◌};
 ghost use Rattle.model.specs.Tracing.{place_limit};
 ghost use Rattle.words.specs.Word.{word, IsTable, IsRow, is_link};

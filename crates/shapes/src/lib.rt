@@ -1,5 +1,8 @@
 // What a command begins, the steps down from a place, and what stands before a part of a container. Nothing is traced
 // here: these read commands alone.
+
+#![tactic(auto)]
+
 ghost use Rattle.std.specs.Prelude.{◌≡◌, get_or, true};
 ghost use Rattle.text.specs.declared.Name.{Name};
 ghost use Rattle.text.specs.Name.{bytes_of};

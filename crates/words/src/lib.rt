@@ -1,6 +1,9 @@
 // The words of a place in the lent work table: whole words, and links of 16 bits, two to a word of its row. Callers lend the
 // part that has a row for each place, and nothing else. The words of all places at one number of the row stand one after
 // another, a plane, so that the tags of eight places can be looked at at a time.
+
+#![tactic(auto)]
+
 ghost use Rattle.std.specs.Prelude.{◌≡◌, true, false, ◌+◌, ◌*◌, ◌<◌, ◌≤◌, length};
 ghost use Rattle.words.specs.Word.{table_places, table_words, row_words, plane_words, place_words, link_limit, IsTable, IsRow, is_link};
 ghost use Rattle.words.specs.Word.{plane_index, index_of};

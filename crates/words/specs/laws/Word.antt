@@ -386,7 +386,7 @@ module _ (i k n : ℕ) (l : i < plane_words) (inside : k * plane_words + i < tab
       let j : f < orders_end = ltb-true f orders_end d in
       let (q, r) = link_row f (omega arith) (omega arith) in
       let (x, y) = order_rows in
-      let m = left-before.1 in
+      let m = left_before.1 in
       absurd (true≢false (sym (rw (x, y, le-leb 7 (k + 1) (omega arith), lt-ltb (k + 1) 9 (omega arith)) refl) ∙ m)))
       (λ a. a)
 
