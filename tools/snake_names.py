@@ -11,8 +11,8 @@ import subprocess
 import sys
 from pathlib import Path
 
-TOKEN = re.compile(r"(?P<before>[^\s(){}.,;\"`«»\[\]]*\.)?(?P<name>[^\s(){}.,;\"`«»\[\]]+)")
-MADE = re.compile(r"^(invariant|decreases|loop|returns|ghost|overflow|bounds|in|if|the)-(?!all$|each$)")
+PATH = re.compile(r"[^\s(){},;\"`«»\[\]]+")
+MADE = re.compile(r"^(invariant|decreases)-|^returns(-\d+)?$")
 SIGNATURE = re.compile(r"^\s*(?:pub |abbrev |unfoldable |opaque |package )*([^\s(){}.,;:λ]+(?: [^\s(){}.,;:λ]+)*) :(?: |$)")
 RECORD = re.compile(r"^(\s*)(?:pub )?record\b.*\bwhere\s*$")
 # where neither rule gives a name
@@ -83,16 +83,22 @@ def table_of(antt):
 
 def rename(text, table, fields):
     def turned(m):
-        before, name = m.group("before"), m.group("name")
-        if name not in table:
-            return m.group(0)
-        if before and before != "." and not before[:1].isupper() and name not in fields:
-            return m.group(0)  # a step of a proof, not a name of ours
-        if before == "." and name not in fields and m.start() and m.string[m.start() - 1] not in " \n\t({":
-            return m.group(0)
-        return (before or "") + table[name]
+        path = m.group(0)
+        if path.startswith("..") or "." not in path.strip("."):
+            core = path.strip(".")
+            return path.replace(core, table.get(core, core)) if core else path
+        parts = path.split(".")
+        out = []
+        for i, name in enumerate(parts):
+            head = next((p for p in parts if p), "")
+            # behind a value stands a field, or a step of a proof, which is no name of ours; behind a module anything
+            own = (i == 0 or (i == 1 and parts[0] == "")) or name in fields or head[:1].isupper()
+            if i == 1 and parts[0] == "" and m.start() and text[m.start() - 1] in ")}":
+                own = name in fields
+            out.append(table.get(name, name) if own else name)
+        return ".".join(out)
 
-    return TOKEN.sub(turned, text)
+    return PATH.sub(turned, text)
 
 
 def rename_source(text, table, fields):
@@ -134,7 +140,7 @@ def main():
             print("together:", new, olds)
     for f in antt:
         body = "\n".join(l.split("-- ")[0] for l in f.read_text().split("\n"))
-        have = {m.group("name") for m in TOKEN.finditer(body) if not (m.group("before") or "").startswith("Rattle")}
+        have = {n for p in PATH.findall(body) if not p.startswith("Rattle") for n in p.split(".")}
         for n in sorted(have & set(both)):
             if both[n] in have and both[n] not in lemmas and both[n] not in both:
                 print("met:", f, n, both[n])

@@ -37,7 +37,7 @@ abbrev pub new_clauses : {M : Type 1} (𝓤 : Ura M) → Clauses 𝓤 new_ended
 new_clauses 𝓤 κs a = record { ghost = Unit {0}; requires = λ _. emp 𝓤; ensures = λ _ r _. fact 𝓤 ((r.commands ≡ a.0) × (r.at ≡ a.1.0)) }
 
 abbrev pub New : {M : Type 1} {𝓤 : Ura M} (𝓛 : Logic 𝓤) → Contract 𝓤
-New {𝓤 = 𝓤} 𝓛 = triple_of 𝓛 new-ended.signature (closing 𝓛 new_ended (new_clauses 𝓤))
+New {𝓤 = 𝓤} 𝓛 = triple_of 𝓛 new_ended.signature (closing 𝓛 new_ended (new_clauses 𝓤))
 
 -- the struct at the second of two lifetimes, as it stands behind `&mut self`
 abbrev pub ReaderS : Slot 2

@@ -41,11 +41,11 @@ module _ (t : List ℕ) (inner : Writer) (kind place slot child : ℕ) (w : Writ
     ended (suc n) e z = rw (s, f) at (rw z at e)
 
 -- ---- a child, after the slots before it
-pub in-child : (t : List ℕ) (inner : Writer) (kind place slot child i j after count number : ℕ) (lacking : Bool) (fields names records : List ℕ) (w : Writing) →
+pub in_child : (t : List ℕ) (inner : Writer) (kind place slot child i j after count number : ℕ) (lacking : Bool) (fields names records : List ℕ) (w : Writing) →
     count ≡ gaps_at kind t slot child → put after records ≡ put_gaps slot 0 count (put i fields) → number ≡ variant_at t child → lacking ≡ lacking_at t kind place child →
     w ≡ inner child lacking (number % 256) (writing after j records names) → w ≡ child_in t inner kind place slot child (writing i j fields names)
 unfolding child_in gaps_in
-in-child t inner kind place slot child i j after count number lacking fields names records w c p n l e = rw (← c, ← n, ← l, ← p) e
+in_child t inner kind place slot child i j after count number lacking fields names records w c p n l e = rw (← c, ← n, ← l, ← p) e
 
 some : (m : ℕ) → eqb (suc m) 0 ≡ false
 some m = ne_eqb (suc m) 0 (λ z. omega arith)

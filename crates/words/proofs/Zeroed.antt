@@ -15,17 +15,17 @@ use Rattle.words.specs.laws.Word.{where_length, where_at, where_is, where_zeros}
 
 -- ---- from an index on
 module _ (t : List ℕ) (a : ℕ) where
-  pub in-none : t ≡ zeroed_in t a a
+  pub in_none : t ≡ zeroed_in t a a
   unfolding zeroed_in if◌then◌else◌
-  in-none =
+  in_none =
       where_is (λ j. leb a j && ltb j a) t t refl (λ j _.
       cases (ltb j a)
       (λ c. rw (lt-leb a j (ltb-true j a c)) refl)
       (λ c. rw (le-leb a j (ltb-false j a c), c) refl))
 
-  pub in-more : (i b : ℕ) (u : List ℕ) → u ≡ zeroed_in t a i → a ≤ i → i < b → b ≤ length t → set u i 0 ≡ zeroed_in t a (i + 1)
+  pub in_more : (i b : ℕ) (u : List ℕ) → u ≡ zeroed_in t a i → a ≤ i → i < b → b ≤ length t → set u i 0 ≡ zeroed_in t a (i + 1)
   unfolding zeroed_in if◌then◌else◌
-  in-more i b u e l m o =
+  in_more i b u e l m o =
       let z : List ℕ = zeroed_in t a i in
       let g : length z ≡ length t = where_length (λ j. leb a j && ltb j i) t in
       let q : i < length z = omega arith in
@@ -51,26 +51,26 @@ in_all_lem t u n e =
 -- ---- gap by gap, each with the plane behind it
 -- how many words of it: the planes 7 and 8, behind the gaps 6 and 7, are those with links that putting children in order stores
 module _ (k n : ℕ) (m : n ≤ table_places) (b : k < row_words) where
-  pub in-last : k ≡ row_words - 1 → (gap_words ≡ cleared_in k n) × (k * plane_words + gap_words ≤ table_words)
+  pub in_last : k ≡ row_words - 1 → (gap_words ≡ cleared_in k n) × (k * plane_words + gap_words ≤ table_words)
   unfolding cleared_in if◌then◌else◌
-  in-last e = (rw (eq-eqb k (row_words - 1) e) refl, omega arith)
+  in_last e = (rw (eq-eqb k (row_words - 1) e) refl, omega arith)
 
   module _ (e : k ≡ row_words - 1 → ⊥) where
-    pub in-orders : 6 ≤ k → k < 8 → (plane_words ≡ cleared_in k n) × (k * plane_words + plane_words ≤ table_words)
+    pub in_orders : 6 ≤ k → k < 8 → (plane_words ≡ cleared_in k n) × (k * plane_words + plane_words ≤ table_words)
     unfolding cleared_in row_word if◌then◌else◌
-    in-orders c d = (rw (ne_eqb k (row_words - 1) e, le-leb 7 (k + 1) (omega arith), lt-ltb (k + 1) 9 (omega arith)) refl, omega (arith, e))
+    in_orders c d = (rw (ne_eqb k (row_words - 1) e, le-leb 7 (k + 1) (omega arith), lt-ltb (k + 1) 9 (omega arith)) refl, omega (arith, e))
 
-    pub in-before : k < 6 → (gap_words + n ≡ cleared_in k n) × (k * plane_words + (gap_words + n) ≤ table_words)
+    pub in_before : k < 6 → (gap_words + n ≡ cleared_in k n) × (k * plane_words + (gap_words + n) ≤ table_words)
     unfolding cleared_in row_word if◌then◌else◌
-    in-before c = (rw (ne_eqb k (row_words - 1) e, lt-leb 7 (k + 1) (omega arith)) refl, omega (arith, e))
+    in_before c = (rw (ne_eqb k (row_words - 1) e, lt-leb 7 (k + 1) (omega arith)) refl, omega (arith, e))
 
-    pub in-behind : 8 ≤ k → (gap_words + n ≡ cleared_in k n) × (k * plane_words + (gap_words + n) ≤ table_words)
+    pub in_behind : 8 ≤ k → (gap_words + n ≡ cleared_in k n) × (k * plane_words + (gap_words + n) ≤ table_words)
     unfolding cleared_in row_word if◌then◌else◌
-    in-behind c = (rw (ne_eqb k (row_words - 1) e, le-leb 7 (k + 1) (omega arith), le-ltb (k + 1) 9 (omega arith)) refl, omega (arith, e))
+    in_behind c = (rw (ne_eqb k (row_words - 1) e, le-leb 7 (k + 1) (omega arith), le-ltb (k + 1) 9 (omega arith)) refl, omega (arith, e))
 
-in-inside : (k n : ℕ) → n ≤ table_places → cleared_in k n ≤ plane_words
+in_inside : (k n : ℕ) → n ≤ table_places → cleared_in k n ≤ plane_words
 unfolding cleared_in if◌then◌else◌
-in-inside k n l =
+in_inside k n l =
     cases (eqb k (row_words - 1)) (λ a. rw a (omega arith))
     (λ a. cases (leb (row_word orders_from) (k + 1) && ltb (k + 1) (row_word orders_end)) (λ c. rw (a, c) (omega arith)) (λ c. rw (a, c) (omega arith)))
 
@@ -88,7 +88,7 @@ unfolding if◌then◌else◌
 turn n k i x l =
     let q : ℕ = i / plane_words in
     let p : ℕ = i % plane_words in
-    let h : cleared_in k n ≤ plane_words = in-inside k n l in
+    let h : cleared_in k n ≤ plane_words = in_inside k n l in
     cases (ltb q k)
     (λ a. let b : q < k = ltb-true q k a in rw (lt-leb (k * plane_words) i (omega arith), a, lt-ltb q (k + 1) (omega arith)) refl)
     (λ a.

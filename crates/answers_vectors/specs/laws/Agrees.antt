@@ -5,7 +5,7 @@ use Rattle.std.proofs.Common.{subst, ◌∙◌, arith, eqb-true, eq-eqb, le-leb}
 use Rattle.std.proofs.lemmas.Bool.{lt-leb}
 use Rattle.logic.specs.Test.{if◌then◌else◌}
 use Rattle.logic.specs.laws.Test.{both, same_test}
-use Rattle.logic.specs.laws.Flag.{if-either}
+use Rattle.logic.specs.laws.Flag.{if_either}
 use Rattle.text.specs.laws.Name.{eq_name_true, eq_name_refl}
 use Rattle.files.specs.Bytes.{between}
 use Rattle.questions.specs.Question.{header_bytes, number_at, names_from, commands_in, text_in, records_in, question_end}
@@ -138,7 +138,7 @@ agrees_by question a b d r ea eb ed room iff = parts question (omega arith) r (r
 -- ---- the questions of a file
 later : (vectors : List ℕ) (at : ℕ) → at < length vectors → at < question_end vectors at
 unfolding question_end
-later vectors at h = if-either (λ n. at < n) (ltb (length vectors - at) header_bytes) h (omega arith)
+later vectors at h = if_either (λ n. at < n) (ltb (length vectors - at) header_bytes) h (omega arith)
 
 module _ (vectors : List ℕ) (all : Tally) where
   -- the rest of the file, with what is passed, gives that

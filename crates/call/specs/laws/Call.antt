@@ -78,13 +78,13 @@ abbrev Stands : {A : Type 0} → ℕ → Result A → Type 0
 Stands end (accepted a) = Unit {0}
 Stands end (refused number place) = place ≡ end
 
-if-stands : {A : Type 0} (end : ℕ) (t : Bool) (a b : Result A) → Stands end a → Stands end b → Stands end (if t then a else b)
+if_stands : {A : Type 0} (end : ℕ) (t : Bool) (a b : Result A) → Stands end a → Stands end b → Stands end (if t then a else b)
 unfolding if◌then◌else◌
-if-stands end true a b h k = h
-if-stands end false a b h k = k
+if_stands end true a b h k = h
+if_stands end false a b h k = k
 
 root_stands : (end : ℕ) (f : Field) → Stands end (root_fields end f)
-root_stands end (mk type nullable strategy number name fs) = if-stands end _ _ _ refl (if-stands end _ _ _ refl (if-stands end _ _ _ tt refl))
+root_stands end (mk type nullable strategy number name fs) = if_stands end _ _ _ refl (if_stands end _ _ _ refl (if_stands end _ _ _ tt refl))
 
 emission_stands : (options end : ℕ) (tree : Tree) → Stands end (to_schema options end tree)
 unfolding to_schema

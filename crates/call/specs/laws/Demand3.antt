@@ -16,13 +16,13 @@ module _ (options : ℕ) (plain : Plain options) (b c : Batch) (lent other : Buf
       let h' : Took (batch options b.commands b.text) (answer (batch options b.commands b.text) lent) = rw (x-is, u) at h in
       let k' : Took (batch options c.commands c.text) (answer (batch options c.commands c.text) other) = rw (y-is, v) at k in
       rw (x-is, y-is, u, v)
-      (demand-3.equal options plain b.commands b.text lent h'.0 h'.1 h'.2 c.commands c.text other k'.0 k'.1 k'.2)
+      (demand_3.equal options plain b.commands b.text lent h'.0 h'.1 h'.2 c.commands c.text other k'.0 k'.1 k'.2)
 
   pub again : b.options ≡ options → Took b x → (records others : List (List ℕ)) → AreRecords b records → Permᴰ records others →
       c ≡ with_records b others → NoShorter lent other → Accepted y × SameButOrder x y
   again u h records others are perm v long =
       let h' : Took b (answer b lent) = rw x-is at h in
-      rw (x-is, y-is, v) (demand-3.reordered b (rw u plain) lent h'.0 h'.1 h'.2 records others are perm other long)
+      rw (x-is, y-is, v) (demand_3.reordered b (rw u plain) lent h'.0 h'.1 h'.2 records others are perm other long)
 
 pub apart : (b : Batch) (lent : Buffers) (x : Answer) → x ≡ answer b lent → Accepted x → Split b
-apart b lent x x-is a = demand-3.split b lent (rw x-is at a)
+apart b lent x x-is a = demand_3.split b lent (rw x-is at a)

@@ -4,7 +4,7 @@ use mathlib.Core.Bool.{Bool, true, false}
 use mathlib.Core.List.{List}
 use Prim.Native.Nat.{ℕ}
 use borrow.Author.Rules.{rules}
-use Rattle.logic.specs.laws.Test.{if-passed, if-failed}
+use Rattle.logic.specs.laws.Test.{if_passed, if_failed}
 use Rattle.options.specs.Word.{guess_dates, string_type}
 use Rattle.chrono.specs.Text.{date_texts, first_fit, text_type}
 use Rattle.chrono.proofs.text_type.Statement.{statement}
@@ -13,11 +13,11 @@ use Rattle.chrono.proofs.text_type.Tie as tie
 module _ (flag : Bool) (word : ℕ) (s : List ℕ) (t : ℕ) (e : flag ≡ guess_dates word) where
   guessed : flag ≡ true → t ≡ first_fit date_texts s (string_type word) → t ≡ text_type word s
   unfolding text_type
-  guessed f p = p ∙ sym (if-passed _ (sym e ∙ f))
+  guessed f p = p ∙ sym (if_passed _ (sym e ∙ f))
 
   unguessed : flag ≡ false → t ≡ string_type word → t ≡ text_type word s
   unfolding text_type
-  unguessed f p = p ∙ sym (if-failed _ (sym e ∙ f))
+  unguessed f p = p ∙ sym (if_failed _ (sym e ∙ f))
 
 pub text_type_spec : {M : Type 1} → statement M
 text_type_spec =

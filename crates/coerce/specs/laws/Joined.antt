@@ -10,8 +10,8 @@ use Prim.Native.Nat.{ℕ, ◌≤◌, ◌<◌}
 use Rattle.std.proofs.Math.Dec.{eqb}
 use Rattle.std.proofs.lemmas.Bool.{not-true}
 use Rattle.logic.specs.Test.{if◌then◌else◌}
-use Rattle.logic.specs.laws.Test.{cases, if-passed, if-failed}
-use Rattle.logic.specs.laws.Flag.{if-either}
+use Rattle.logic.specs.laws.Test.{cases, if_passed, if_failed}
+use Rattle.logic.specs.laws.Flag.{if_either}
 use Rattle.logic.specs.All.{All, has}
 use Rattle.logic.specs.laws.All.{all_map, all_both, has_none, all_has, has_or}
 use Rattle.logic.specs.Maybe.{and_then, OnSome}
@@ -51,21 +51,21 @@ pub joint_among : (P : ℕ → Type 0) (word a b u : ℕ) → P a → P b → P 
 unfolding joint joint_of_unequal joint_of_numbers number_joint joint_with_string joint_of_timestamps
 joint_among P word a b u pa pb pf pi pu ps e =
     subst (OnSome P) e
-    (if-either (OnSome P) (eqb a null) pb
-    (if-either (OnSome P) (eqb b null) pa
-    (if-either (OnSome P) (eqb a b) pa
-    (if-either (OnSome P) (is_number a && is_number b)
-    (if-either (OnSome P) (not (coerce_numbers word)) tt
-    (if-either (OnSome P) (is_forbidden word a b) tt
-    (if-either P (eqb a b) pa (if-either P (is_float a || is_float b) pf (if-either P (is_signed a || is_signed b) pi pu)))))
-    (if-either (OnSome P) (is_string a) (if-either (OnSome P) (yields_to_string word b) pa tt)
-    (if-either (OnSome P) (is_string b) (if-either (OnSome P) (yields_to_string word a) pb tt)
-    (if-either (OnSome P) (is_timestamp a && is_timestamp b) (if-either P (eqb a b) pa ps) tt)))))))
+    (if_either (OnSome P) (eqb a null) pb
+    (if_either (OnSome P) (eqb b null) pa
+    (if_either (OnSome P) (eqb a b) pa
+    (if_either (OnSome P) (is_number a && is_number b)
+    (if_either (OnSome P) (not (coerce_numbers word)) tt
+    (if_either (OnSome P) (is_forbidden word a b) tt
+    (if_either P (eqb a b) pa (if_either P (is_float a || is_float b) pf (if_either P (is_signed a || is_signed b) pi pu)))))
+    (if_either (OnSome P) (is_string a) (if_either (OnSome P) (yields_to_string word b) pa tt)
+    (if_either (OnSome P) (is_string b) (if_either (OnSome P) (yields_to_string word a) pb tt)
+    (if_either (OnSome P) (is_timestamp a && is_timestamp b) (if_either P (eqb a b) pa ps) tt)))))))
 
 -- the joint of types is a type, and of primitive ones a primitive one
 pub joint_below : (n word a b u : ℕ) → dictionary_utf8 ≤ n → a < n → b < n → joint word a b ≡ some u → u < n
 joint_below n word a b u h p q e =
-    joint_among (λ t. t < n) word a b u p q (omega arith) (omega arith) (omega arith) (if-either (λ t. t < n) (string_as_large_utf8 word) (omega arith) (omega arith)) e
+    joint_among (λ t. t < n) word a b u p q (omega arith) (omega arith) (omega arith) (if_either (λ t. t < n) (string_as_large_utf8 word) (omega arith) (omega arith)) e
 
 -- the Nulls observed change nothing
 pub joined_non_null : (word t : ℕ) (xs : List ℕ) → joined_from word t (non_null xs) ≡ joined_from word t xs
@@ -171,8 +171,8 @@ module _ (word : ℕ) (off : allow_to_string word ≡ false) where
   joined_seen_non_null t (s ∷ ss) h n e =
       let d : joined_from word s ss ≡ some t = rw (null_joint word s) at e in
       cases (has (is_other s) ss)
-      (λ o. joined_several s t ss h n d o ∙ sym (if-passed s o))
-      (λ o. some-injective t s (sym d ∙ joined_absorbed word s ss (all_map _ _ ss (λ u q. rw (eqb-true u s q) (joint_same word s)) (has_none (λ u. eqb u s) ss o))) ∙ sym (if-failed _ o))
+      (λ o. joined_several s t ss h n d o ∙ sym (if_passed s o))
+      (λ o. some-injective t s (sym d ∙ joined_absorbed word s ss (all_map _ _ ss (λ u q. rw (eqb-true u s q) (joint_same word s)) (has_none (λ u. eqb u s) ss o))) ∙ sym (if_failed _ o))
 
   -- the type that came of all observed is the one that the census reads off the set
   pub joined_seen : (t : ℕ) (codes : List ℕ) → All (Fits word) codes → joined word codes ≡ some t → t ≡ type_seen word (non_null codes)

@@ -9,7 +9,7 @@ use Rattle.std.specs.Bool.{beq}
 use Rattle.std.proofs.lemmas.Bool.{false≢true}
 use Rattle.std.proofs.Math.Option.{Option, none, some}
 use Rattle.logic.specs.Test.{if◌then◌else◌}
-use Rattle.logic.specs.laws.Test.{both, cases, if-passed}
+use Rattle.logic.specs.laws.Test.{both, cases, if_passed}
 use Rattle.logic.specs.All.{has}
 use Rattle.logic.specs.Maybe.{and_then, same_maybe}
 use Rattle.logic.specs.laws.Maybe.{same_maybe_lem}
@@ -85,7 +85,7 @@ for_all string p = for_fitting string dictionary_utf8 p
 
 for_fitting_lem : (string n : ℕ) (p : ℕ → Bool) → for_fitting string n p ≡ true → (t : ℕ) → t < n → fitting string t ≡ true → p t ≡ true
 unfolding for_fitting
-for_fitting_lem string n p e t h f = sym (if-passed true f) ∙ below_at n (λ t. if fitting string t then p t else true) e t h
+for_fitting_lem string n p e t h f = sym (if_passed true f) ∙ below_at n (λ t. if fitting string t then p t else true) e t h
 
 for_all_lem : (string : ℕ) (p : ℕ → Bool) → for_all string p ≡ true → (t : ℕ) → fitting string t ≡ true → p t ≡ true
 unfolding for_all fitting
@@ -198,5 +198,5 @@ module _ (word : ℕ) (off : allow_to_string word ≡ false) where
         texts = beq_true _ _ h₃;
         floats = beq_true _ _ h₄;
         signs = beq_true _ _ h₅;
-        several = λ t. eqb-true _ _ (sym (if-passed true t) ∙ h₆);
+        several = λ t. eqb-true _ _ (sym (if_passed true t) ∙ h₆);
       }

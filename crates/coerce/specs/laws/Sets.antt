@@ -11,7 +11,7 @@ use mathlib.Core.List.{List, [], ◌∷◌}
 use Prim.Native.Nat.{ℕ, ◌≤◌}
 use Rattle.logic.specs.Test.{if◌then◌else◌}
 use Rattle.logic.specs.laws.Test.{both, cases, neither}
-use Rattle.logic.specs.laws.Flag.{if-either}
+use Rattle.logic.specs.laws.Flag.{if_either}
 use Rattle.logic.specs.All.{All, has}
 use Rattle.logic.specs.laws.All.{all_map, all_both, has_none, none_has, all_has}
 use Rattle.logic.specs.Maybe.{and_then, same_maybe}
@@ -77,7 +77,7 @@ apart word second a b f i =
       low,
       high,
       or-true,
-    ) (if-either (λ (o : Option ℕ). o ≡ none) (not (coerce_numbers word)) refl refl)
+    ) (if_either (λ (o : Option ℕ). o ≡ none) (not (coerce_numbers word)) refl refl)
 
 -- ---- with allow_to_string off, of types that fit the options
 module _ (word : ℕ) (off : allow_to_string word ≡ false) where

@@ -10,7 +10,7 @@ use borrow.Author.Tests.{leb-true, leb-false, lt-leb, ltb-false, le-ltb, eqb-tru
 use Rattle.std.proofs.Math.ListN.{length, get_or, get_or-map}
 use Rattle.logic.specs.Test.{if◌then◌else◌}
 use Rattle.logic.specs.laws.Test.{cases, both, neither}
-use Rattle.logic.specs.laws.Flag.{if-either}
+use Rattle.logic.specs.laws.Flag.{if_either}
 use Rattle.text.specs.declared.Name.{Name}
 use Rattle.text.specs.Name.{inside, bytes_of}
 use Rattle.text.specs.Utf8.{is_utf8}
@@ -176,8 +176,8 @@ unfolding read_command RefusedAt
 refused_place commands text at due refusal place e =
     let P : Read → Type 0 = RefusedAt at in
     let byte : ℕ = get_or commands at 0 in
-    let known : RefusedAt at (read_command commands text at due) = if-either P (bad_command commands at due) refl
-    (if-either P (bad_name text (name_in (form_of byte) commands (at + 1))) refl (if-either P (bad_key due byte) refl tt)) in
+    let known : RefusedAt at (read_command commands text at due) = if_either P (bad_command commands at due) refl
+    (if_either P (bad_name text (name_in (form_of byte) commands (at + 1))) refl (if_either P (bad_key due byte) refl tt)) in
     rw e at known
 
 -- the converse of what is known: a command that is whole and can stand there is read, unless its name is bad
@@ -218,15 +218,15 @@ module _ (commands text : List ℕ) (at : ℕ) (due : Due) (answer : Read) (comm
   read_good = good commands text at due command next (sym e ∙ h)
 
   pub next_above : at < next
-  next_above = read-good.above
+  next_above = read_good.above
 
   pub next_within : next ≤ length commands
-  next_within = read-good.within
+  next_within = read_good.within
 
   -- the name in a command is inside the text and UTF-8
   name_good : (which : Command) (name : Name) → command ≡ which → name_of which ≡ some name → (inside text name && is_utf8 (bytes_of text name)) ≡ true
   unfolding bad_name
-  name_good which name w n = not-false _ (rw (w, n) at read-good.name)
+  name_good which name w n = not-false _ (rw (w, n) at read_good.name)
 
   pub name_inside : (which : Command) (name : Name) → command ≡ which → name_of which ≡ some name → inside text name ≡ true
   name_inside which name w n = both _ _ (name_good which name w n) λ i u. i

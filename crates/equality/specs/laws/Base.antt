@@ -23,10 +23,10 @@ pub not_refused : {A P : Type 0} {n at : ℕ} {a : A} → refused n at ≡ accep
 not_refused e = absurd (let z : ◌≡◌ {A = ℕ} 0 1 = cc in omega arith)
 
 -- ---- tests
-pub if-ap : {A B : Type 0} (f : A → B) (t : Bool) (a b : A) → f (if t then a else b) ≡ (if t then f a else f b)
+pub if_ap : {A B : Type 0} (f : A → B) (t : Bool) (a b : A) → f (if t then a else b) ≡ (if t then f a else f b)
 unfolding if◌then◌else◌
-if-ap f true a b = refl
-if-ap f false a b = refl
+if_ap f true a b = refl
+if_ap f false a b = refl
 
 pub and_left : (s t : Bool) → (s && t) ≡ true → s ≡ true
 and_left true t e = refl

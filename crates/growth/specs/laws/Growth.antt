@@ -7,7 +7,7 @@ use native.Mathlib.Omega.{arith}
 use borrow.Author.Tests.{eqb-true, eqb-false, ne_eqb}
 use Rattle.logic.specs.Test.{if◌then◌else◌}
 use Rattle.logic.specs.laws.Test.{cases}
-use Rattle.logic.specs.laws.Flag.{if-either}
+use Rattle.logic.specs.laws.Flag.{if_either}
 use Rattle.text.specs.declared.Name.{Name}
 use Rattle.words.specs.Word.{word, with_word, IsRow, IsTable, in_whole, in_each}
 use Rattle.words.specs.laws.Word.{word_same, word_other, length_with, with_swap}
@@ -39,7 +39,7 @@ sound_sampled text t u n place kind e h s = rw e (sound_plain text _ n place sam
 pub sound_touched : (text t u : List ℕ) (n place child : ℕ) → u ≡ touched place child t → child < n → Sound text t n → Sound text u n
 unfolding touched
 sound_touched text t u n place child e h s =
-    rw e (if-either (λ x. Sound text x n) (word t child mark_word == word t place samples_word) s
+    rw e (if_either (λ x. Sound text x n) (word t child mark_word == word t place samples_word) s
     (sound_plain text _ n child mark_word _ refl h (sound_plain text t n child held_word _ refl h s)))
 
 -- ---- a new last child
@@ -50,10 +50,10 @@ unfolding entered if◌then◌else◌
 sound_entered text t u n place code e h m s =
     let ends = seek_ends code n t (λ w. is_plain w ≡ true) refl refl refl place h (omega arith) in
     let l = ends.here in
-    rw e (if-either (λ x. Sound text x (n + 1)) (is_numbered code) (sound_plain text t (n + 1) _ _ n ends.link (omega (arith, l)) s) s)
+    rw e (if_either (λ x. Sound text x (n + 1)) (is_numbered code) (sound_plain text t (n + 1) _ _ n ends.link (omega (arith, l)) s) s)
 
 pub length_either : (test : Bool) (x y : List ℕ) (n : ℕ) → length x ≡ n → length y ≡ n → length (if test then x else y) ≡ n
-length_either test x y n e d = if-either (λ z. length z ≡ n) test e d
+length_either test x y n e d = if_either (λ z. length z ≡ n) test e d
 
 length_linked : (place child : ℕ) (t : List ℕ) → length (linked place child t) ≡ length t
 unfolding linked
@@ -129,7 +129,7 @@ stepped place code child t = with_word (below place child t) child step_word cod
 linked_else : (place child : ℕ) (t : List ℕ) (q f : ℕ) → next_word < f → word (linked place child t) q f ≡ word t q f
 unfolding linked
 linked_else place child t q f a =
-    if-either (λ x. word x q f ≡ word t q f) (word t place first_word == 0) {a = with_word t place first_word child} {b = with_word t (word t place last_word) next_word child}
+    if_either (λ x. word x q f ≡ word t q f) (word t place first_word == 0) {a = with_word t place first_word child} {b = with_word t (word t place last_word) next_word child}
     (word_other t place first_word child q f (λ e d. omega arith)) (word_other t (word t place last_word) next_word child q f (λ e d. omega arith))
 
 appended_else : (place code child : ℕ) (name : Name) (t : List ℕ) (q f : ℕ) → q < child → parent_word < f → word (appended place code name child t) q f ≡ word t q f
@@ -158,7 +158,7 @@ module _ (text t : List ℕ) (n place : ℕ) (ready : Ready text t n place) (roo
   linked_linked =
       let b : place < n = ready.here in
       let l : word t place last_word < n = links.last place (omega arith) in
-      if-either (λ x. Linked text x (n + 1)) (word t place first_word == 0)
+      if_either (λ x. Linked text x (n + 1)) (word t place first_word == 0)
       (linked_stored text t n (n + 1) place first_word n links (omega arith) (omega arith) (λ z. omega arith) (λ z. absurd (omega arith)) (λ z. absurd (omega arith)) (λ z. absurd (omega arith)))
       (linked_stored text t n (n + 1) (word t place last_word) next_word n links (omega arith) (omega arith) (λ z. absurd (omega arith))
       (λ z. absurd (omega arith)) (λ z. (omega arith, l)) (λ z. absurd (omega arith)))
@@ -285,7 +285,7 @@ module _ (text t : List ℕ) (n place : ℕ) (ready : Ready text t n place) (roo
           (λ q l. word_other after n tag_word tag q tag_word (λ e d. omega arith) ∙ kept q tag_word l (omega arith))
           (λ q l b. let o : q ≡ n = omega arith in rw (o, same n name_word (omega arith)) appended_utf8)
           (λ q l b d. let o : q ≡ n = omega arith in rw (o, same n name_word (omega arith), appended_name, packed_bytes text name h)
-          (word_same after n tag_word tag linked-appended.room room (omega arith) (in_whole refl)))
+          (word_same after n tag_word tag linked_appended.room room (omega arith) (in_whole refl)))
 
       pub sound_tagged : Sound text u (n + 1)
       unfolding tagged
@@ -315,8 +315,8 @@ module _ (text t : List ℕ) (n place : ℕ) (step : Step) where
   unfolding ensured ensured_by confirmed if◌then◌else◌
   ensured_says P found new =
       cases (sought == 0)
-      (λ e. rw e (if-either (OnChild P) (nat_le place_limit n) tt new))
-      (λ e. rw e (if-either (λ r. OnChild P (ensuring r t)) (eq_name (bytes_of text (unpacked_name (word t sought name_word))) (bytes_of text (name_of step))) (found (eqb-false sought 0 e)) tt))
+      (λ e. rw e (if_either (OnChild P) (nat_le place_limit n) tt new))
+      (λ e. rw e (if_either (λ r. OnChild P (ensuring r t)) (eq_name (bytes_of text (unpacked_name (word t sought name_word))) (bytes_of text (name_of step))) (found (eqb-false sought 0 e)) tt))
 
   -- there are never fewer places than before
   pub ensured_more : OnChild (λ child m. n ≤ m) (ensured text place step n t)
@@ -344,7 +344,7 @@ appended_more : (place i left n : ℕ) (t : List ℕ) → OnPlaces (λ m. n ≤ 
 unfolding appended_from
 appended_more place i zero n t = le_refl n
 appended_more place i (suc left) n t =
-    if-either (OnPlaces (λ m. n ≤ m)) (nat_le place_limit n) tt (up (appended_from place (suc i) left (n + 1) _) (appended_more place (suc i) left (n + 1) _))
+    if_either (OnPlaces (λ m. n ≤ m)) (nat_le place_limit n) tt (up (appended_from place (suc i) left (n + 1) _) (appended_more place (suc i) left (n + 1) _))
   where
     up : (x : Making) → OnPlaces (λ m. n + 1 ≤ m) x → OnPlaces (λ m. n ≤ m) x
     up (making (D.Places m) u) l = omega arith
@@ -353,10 +353,10 @@ appended_more place i (suc left) n t =
 pub all_more : (text t : List ℕ) (place kind positions before n : ℕ) → OnPlaces (λ m. n ≤ m) (made text place kind positions before n t)
 unfolding made positions_made
 all_more text t place kind positions before n =
-    if-either More (kind == sequence_kind) (made_more text place _ n t) (
-    if-either More (kind == map_kind) (made_more text place _ n t) (
-    if-either More (kind == tuple_kind && before == null) (
-    if-either More (word t place first_word == 0) (stored (appended_from place 0 positions n t) (appended_more place 0 positions n t)) (made_more text place _ n t))
+    if_either More (kind == sequence_kind) (made_more text place _ n t) (
+    if_either More (kind == map_kind) (made_more text place _ n t) (
+    if_either More (kind == tuple_kind && before == null) (
+    if_either More (word t place first_word == 0) (stored (appended_from place 0 positions n t) (appended_more place 0 positions n t)) (made_more text place _ n t))
     (le_refl n)))
   where
     More : Making → Type 0
@@ -402,7 +402,7 @@ module _ (text : List ℕ) (step : Step) (name : Name) (e : name ≡ name_of ste
   step_good = rw e good
 
   pub step_inside : Inside text name
-  step_inside = step-good.inside
+  step_inside = step_good.inside
 
 -- the last child is a place
 pub last_small : (text t : List ℕ) (n place : ℕ) → Ready text t n place → IsRow (word t place last_word)

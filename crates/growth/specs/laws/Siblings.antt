@@ -107,7 +107,7 @@ module _ (text t u : List ℕ) (n place : ℕ) (ready : Ready text t n place) (a
       let d : word u place first_word ≡ 0 = rw (eqb-true c n i, a.parent) at e in
       cases (word t place first_word == 0)
       (λ y. let f : word u place first_word ≡ n = a.first (eqb-true _ 0 y) in omega arith)
-      (λ y. eqb-false _ 0 y (sym (new-first.1 (eqb-false _ 0 y)) ∙ d)))
+      (λ y. eqb-false _ 0 y (sym (new_first.1 (eqb-false _ 0 y)) ∙ d)))
       (λ i. let o = eqb-false c n i in let m : c < n = omega (arith, o) in s.some c h m (sym (first_kept c h m) ∙ e))
 
   from : (c : ℕ) → 0 < c → c < n + 1 → word u (word u c parent_word) first_word ≤ c
@@ -118,7 +118,7 @@ module _ (text t u : List ℕ) (n place : ℕ) (ready : Ready text t n place) (a
       rw (j, a.parent)
       (cases (word t place first_word == 0)
       (λ y. let f : word u place first_word ≡ n = a.first (eqb-true _ 0 y) in omega arith)
-      (λ y. let f = new-first.1 (eqb-false _ 0 y) in let g : word t place first_word < n = k.first place (omega arith) in omega arith)))
+      (λ y. let f = new_first.1 (eqb-false _ 0 y) in let g : word t place first_word < n = k.first place (omega arith) in omega arith)))
       (λ i. let o = eqb-false c n i in let m : c < n = omega (arith, o) in rw (first_kept c h m) (s.from c h m))
 
   to : (c : ℕ) → 0 < c → c < n + 1 → c ≤ word u (word u c parent_word) last_word

@@ -11,7 +11,7 @@ use Rattle.logic.specs.laws.Turns.{Says, Falls, holds, goes_on, ends}
 use Rattle.commands.specs.declared.Read.TheVariants as R
 use Rattle.shapes.specs.declared.Part.TheVariants as P
 use Rattle.leaves.specs.Marks.{Chain, chain, is_mark, past_turn, past_marks, marked, some_byte}
-use Rattle.logic.specs.laws.Flag.{if-either}
+use Rattle.logic.specs.laws.Flag.{if_either}
 use Rattle.words.specs.Word.{word}
 use Rattle.kinds.specs.declared.Met.{Met}
 use Rattle.kinds.specs.declared.Met.TheVariants as M
@@ -91,8 +91,8 @@ module _ (text t : List ℕ) (n place : ℕ) (ready : Ready text t n place) wher
 
       kept : (s : Chain) → Ok s → Says Ok Ok (past_turn commands place s)
       kept (chain i x) h =
-          if-either (Says Ok Ok) (ltb i (length commands))
-          (if-either (Says Ok Ok) (is_mark (get_or commands i 0)) (if-either (λ y. Sound text y n) (eqb (get_or commands i 0) some_byte) (sound_plain text x n place null_word 1 refl ready.here h) h) h)
+          if_either (Says Ok Ok) (ltb i (length commands))
+          (if_either (Says Ok Ok) (is_mark (get_or commands i 0)) (if_either (λ y. Sound text y n) (eqb (get_or commands i 0) some_byte) (sound_plain text x n place null_word 1 refl ready.here h) h) h)
           h
 
   -- a primitive
@@ -106,7 +106,7 @@ module _ (text t : List ℕ) (n place : ℕ) (ready : Ready text t n place) wher
 
       go : (met : Met) → Ok (on_met here t (λ joint. out (T.Next behind n) (stored is_null joint place t)) met)
       go (M.Kind joint) = (
-        if-either (λ x. Sound text x n) is_null
+        if_either (λ x. Sound text x n) is_null
             (sound_plain text _ n place null_word 1 refl ready.here (sound_plain text t n place kind_word joint refl ready.here ready.sound))
             (sound_plain text t n place kind_word joint refl ready.here ready.sound),
         le_refl n,

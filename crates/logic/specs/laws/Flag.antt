@@ -20,7 +20,7 @@ pub or_failed : (s t r : Bool) → s ≡ false → r ≡ t → r ≡ (s || t)
 or_failed s t r p e = rw p e
 
 -- what holds of both choices holds of the one taken
-pub if-either : {A : Type 0} (P : A → Type 0) (t : Bool) {a b : A} → P a → P b → P (if t then a else b)
+pub if_either : {A : Type 0} (P : A → Type 0) (t : Bool) {a b : A} → P a → P b → P (if t then a else b)
 unfolding if◌then◌else◌
-if-either P true pa pb = pa
-if-either P false pa pb = pb
+if_either P true pa pb = pa
+if_either P false pa pb = pb

@@ -5,20 +5,20 @@ use Rattle.std.proofs.lemmas.Bool.{false≢true}
 use Rattle.logic.specs.Test.{if◌then◌else◌}
 
 -- what a choice gives where its test passed, or failed
-pub if-passed : {A : Type 0} {t : Bool} {a : A} (b : A) → t ≡ true → (if t then a else b) ≡ a
+pub if_passed : {A : Type 0} {t : Bool} {a : A} (b : A) → t ≡ true → (if t then a else b) ≡ a
 unfolding if◌then◌else◌
-if-passed b e = rw e
+if_passed b e = rw e
 
-pub if-failed : {A : Type 0} {t : Bool} (a : A) {b : A} → t ≡ false → (if t then a else b) ≡ b
+pub if_failed : {A : Type 0} {t : Bool} (a : A) {b : A} → t ≡ false → (if t then a else b) ≡ b
 unfolding if◌then◌else◌
-if-failed a e = rw e
+if_failed a e = rw e
 
 -- the same from a flag that holds the test
 pub chosen : {A : Type 0} (flag test : Bool) (a b : A) → flag ≡ test → flag ≡ true → a ≡ (if test then a else b)
-chosen flag test a b e p = sym (if-passed b (sym e ∙ p))
+chosen flag test a b e p = sym (if_passed b (sym e ∙ p))
 
 pub other : {A : Type 0} (flag test : Bool) (a b : A) → flag ≡ test → flag ≡ false → b ≡ (if test then a else b)
-other flag test a b e p = sym (if-failed a (sym e ∙ p))
+other flag test a b e p = sym (if_failed a (sym e ∙ p))
 
 -- case analysis on a test, with its outcome at hand
 pub cases : {P : Type 0} (t : Bool) → (t ≡ true → P) → (t ≡ false → P) → P

@@ -134,13 +134,13 @@ module _ (text u : List ℕ) (did : Ensured) (s : SoundEnsured text u did) (chil
   child_sound = rw e at s
 
   pub child_room : IsTable u
-  child_room = child-sound.0.linked.room
+  child_room = child_sound.0.linked.room
 
   pub child_place : IsRow child
-  child_place = let b : m ≤ place_limit = child-sound.0.linked.most in let h : child < m = child-sound.1 in omega arith
+  child_place = let b : m ≤ place_limit = child_sound.0.linked.most in let h : child < m = child_sound.1 in omega arith
 
   pub child_held : (place : ℕ) (v : List ℕ) → v ≡ touched place child u → SoundEnsured text v (E.Child child m)
-  child_held place v h = (sound_touched text u v m place child h child-sound.1 child-sound.0, child-sound.1)
+  child_held place v h = (sound_touched text u v m place child h child_sound.1 child_sound.0, child_sound.1)
 
   pub held_ready : Ready text u m child
   held_ready = child_ready text u did child m s e

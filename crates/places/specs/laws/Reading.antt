@@ -3,7 +3,7 @@ use Rattle.std.specs.Prelude.{◌≡◌, refl, List, ℕ, ◌+◌, ◌*◌, ◌%
 use Rattle.std.proofs.Common.{sym, ap, arith, eq-eqb, ne_eqb, ltb-true}
 use Rattle.logic.specs.Test.{if◌then◌else◌}
 use Rattle.logic.specs.laws.Test.{cases}
-use Rattle.logic.specs.laws.Flag.{if-either}
+use Rattle.logic.specs.laws.Flag.{if_either}
 use Rattle.words.specs.Word.{IsRow, word}
 use Rattle.text.specs.declared.Name.{Name}
 use Rattle.model.specs.Kinds.{variant_of}
@@ -69,11 +69,11 @@ variant_in_lem text (S.Variant number name) = refl
 has_name : (code : ℕ) (given : Name) → HasName given (step_of code given)
 unfolding step_of
 has_name code given =
-    if-either (HasName given) (eqb code 0) tt
-    (if-either (HasName given) (eqb code 1) tt
-    (if-either (HasName given) (eqb code 2) tt
-    (if-either (HasName given) (eqb code field_code) refl
-    (if-either (HasName given) (eqb (code % 2) 0) tt refl))))
+    if_either (HasName given) (eqb code 0) tt
+    (if_either (HasName given) (eqb code 1) tt
+    (if_either (HasName given) (eqb code 2) tt
+    (if_either (HasName given) (eqb code field_code) refl
+    (if_either (HasName given) (eqb (code % 2) 0) tt refl))))
 
 module _ (text t : List ℕ) (child : ℕ) where
   named : (step : Step) → step_at t child ≡ step → HasName (given_name t child) step

@@ -5,7 +5,7 @@ use Rattle.std.proofs.Common.{◌∙◌, arith, take-append-drop, length-append,
 use Rattle.std.proofs.Math.ListN.{length, take, drop, replicate}
 use Rattle.std.proofs.lemmas.List.{length-replicate, get_or-replicate}
 use Rattle.std.proofs.Math.Seq.{take_all}
-use Rattle.logic.specs.laws.Test.{if-passed, if-failed}
+use Rattle.logic.specs.laws.Test.{if_passed, if_failed}
 use Rattle.words.specs.Word.{table_words, zeros}
 use Rattle.words.specs.laws.Word.{zeros_table}
 use Rattle.questions.specs.Left.{lent_byte, lent_word, lent_bytes, lent_buffer, written_over, early, left_table}
@@ -75,13 +75,13 @@ module _ (table : List ℕ) (refusal : ℕ) (flag : Bool) (told : flag ≡ early
   -- after an early refusal
   pub left_early : flag ≡ true → (all : Bool) → (all ≡ true) ↔ (table ≡ replicate (length table) lent_word) → (all ≡ true) ↔ Left
   unfolding left_table
-  left_early t all d = rw (if-passed (zeros ++ replicate (length table - table_words) lent_word) (sym told ∙ t)) d
+  left_early t all d = rw (if_passed (zeros ++ replicate (length table - table_words) lent_word) (sym told ∙ t)) d
 
   -- after any other, and on success
   module _ (late : flag ≡ false) where
     is_late : left_table refusal (length table) ≡ zeros ++ replicate (length table - table_words) lent_word
     unfolding left_table
-    is_late = if-failed _ (sym told ∙ late)
+    is_late = if_failed _ (sym told ∙ late)
 
     pub left_short : length table < table_words → (false ≡ true) ↔ Left
     left_short h = no Left (λ e. omega (arith, zeros_table, simp length-append at (ap length (e ∙ is_late))))

@@ -91,10 +91,10 @@ module _ (commands text : List ℕ) (options levels kind positions place i at n 
           n t (step_within commands text kind positions i at part p step value s)))
 
       parts_above : at < behind
-      parts_above = let a : at ≤ value = step_above commands text kind positions i at part p step value s in let b : suc value ≤ behind = moved-behind.0 in omega arith
+      parts_above = let a : at ≤ value = step_above commands text kind positions i at part p step value s in let b : suc value ≤ behind = moved_behind.0 in omega arith
 
       parts_within : behind ≤ length commands
-      parts_within = moved-behind.1
+      parts_within = moved_behind.1
 
       -- from there on, or from further on
       pub parts_less : (further : ℕ) → behind ≤ further → length commands - further < length commands - at
@@ -309,7 +309,7 @@ module _ (commands text : List ℕ) (options levels kind place at n : ℕ) (t : 
           (readers_on commands text options levels (dots_in text name) N.Value at (at + 5) child m u (whole_field child m e)))
 
       pub fields_less : length commands - behind < length commands - at
-      fields_less = let a = fields-moved.0 in let b = fields-moved.1 in omega arith
+      fields_less = let a = fields_moved.0 in let b = fields_moved.1 in omega arith
 
 -- ---- the values of a tuple
 module _ (commands text : List ℕ) (positions i at : ℕ) where

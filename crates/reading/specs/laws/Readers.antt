@@ -145,11 +145,11 @@ module _ (commands text : List ℕ) (options at place n : ℕ) (t : List ℕ) (h
 
     leaf_parted : (levels : ℕ) → observed options is_null kind levels here behind place n u ≡ parted commands text options levels here place n u
     unfolding parted
-    leaf_parted levels = rw (leaf-is.read, leaf-is.shape) refl
+    leaf_parted levels = rw (leaf_is.read, leaf_is.shape) refl
 
     any_level : (levels lower : ℕ) → observed options is_null kind levels here behind place n u ≡ observed options is_null kind lower here behind place n u
     unfolding observed meeting if◌then◌else◌
-    any_level levels lower = rw (lt-leb sequence_kind kind leaf-is.below) refl
+    any_level levels lower = rw (lt-leb sequence_kind kind leaf_is.below) refl
 
     pub value_leaf : (levels lower : ℕ) (o : Out) → o ≡ observed options is_null kind levels here behind place n u → o ≡ value_at commands text options lower at place n t
     value_leaf levels lower o p = p ∙ any_level levels lower ∙ leaf_parted lower ∙ value_is lower

@@ -69,11 +69,11 @@ module _ (place : ℕ) (t : List ℕ) (held : is_held place (word t place first_
 
   held_touched : t ≡ touched place (word t place first_word) t
   unfolding touched if◌then◌else◌ child
-  held_touched = rw (eq-eqb (word t child mark_word) (word t place samples_word) held-known.3) refl
+  held_touched = rw (eq-eqb (word t child mark_word) (word t place samples_word) held_known.3) refl
 
   held_turn : (text : List ℕ) → find_turn text (code_of S.Element) no_name t child ≡ done child
   unfolding find_turn is_at if◌then◌else◌
-  held_turn text = rw (ne_eqb child 0 held-known.0, held-known.1) refl
+  held_turn text = rw (ne_eqb child 0 held_known.0, held_known.1) refl
 
   held_found : (text : List ℕ) → find_from text (code_of S.Element) no_name t child ≡ child
   unfolding find_from turns after
@@ -81,11 +81,11 @@ module _ (place : ℕ) (t : List ℕ) (held : is_held place (word t place first_
 
   held_confirmed : (text : List ℕ) (n : ℕ) → confirmed text no_name child n t ≡ E.Child child n
   unfolding confirmed eq_name if◌then◌else◌
-  held_confirmed text n = rw held-known.2 refl
+  held_confirmed text n = rw held_known.2 refl
 
   held_ensured : (text : List ℕ) (n : ℕ) → ensuring (E.Child (word t place first_word) n) t ≡ ensured text place S.Element n t
   unfolding ensured ensured_by child_at if◌then◌else◌ child
-  held_ensured text n = rw (held_found text, ne_eqb child 0 held-known.0, held_confirmed text n) refl
+  held_ensured text n = rw (held_found text, ne_eqb child 0 held_known.0, held_confirmed text n) refl
 
 -- ---- a run of them
 module _ (commands text : List ℕ) (options levels place n : ℕ) (t : List ℕ) (kind : ℕ)

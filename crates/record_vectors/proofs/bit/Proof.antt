@@ -3,18 +3,18 @@ use borrow.Author.Rules.{rules}
 use mathlib.Core.Path.{◌≡◌, sym}
 use mathlib.Core.Bool.{Bool, true, false}
 use Prim.Native.Nat.{ℕ}
-use Rattle.logic.specs.laws.Test.{if-passed, if-failed}
+use Rattle.logic.specs.laws.Test.{if_passed, if_failed}
 use Rattle.record_vectors.specs.Texts.{bit_of}
 use Rattle.record_vectors.proofs.bit.Statement.{statement}
 use Rattle.record_vectors.proofs.bit.Tie as tie
 
 set : (matches : Bool) (weight : ℕ) → matches ≡ true → weight ≡ bit_of matches weight
 unfolding bit_of
-set matches weight e = sym (if-passed 0 e)
+set matches weight e = sym (if_passed 0 e)
 
 clear : (matches : Bool) (weight : ℕ) → matches ≡ false → 0 ≡ bit_of matches weight
 unfolding bit_of
-clear matches weight e = sym (if-failed weight e)
+clear matches weight e = sym (if_failed weight e)
 
 pub bit_spec : {M : Type 1} → statement M
 bit_spec = tie.close (tie.spec (λ c. search (set, rules)) (λ c. search (clear, rules)))

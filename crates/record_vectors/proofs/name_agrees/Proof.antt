@@ -10,7 +10,7 @@ use lib.Dec.{eqb}
 use lib.ListN.{length, get_or, take, drop, length-drop}
 use lib.Seq.{take_all}
 use Rattle.logic.specs.Test.{if◌then◌else◌}
-use Rattle.logic.specs.laws.Test.{if-passed, if-failed}
+use Rattle.logic.specs.laws.Test.{if_passed, if_failed}
 use Rattle.text.specs.Utf8.{is_utf8}
 use Rattle.record_vectors.specs.Names.{name_agrees}
 use Rattle.record_vectors.proofs.name_agrees.Statement.{statement}
@@ -34,10 +34,10 @@ module _ (stored : List ℕ) (some : length stored ≡ 0 → ⊥) (few : length 
   all = ap is_utf8 (sym (take_all (length stored - 1) (drop 1 stored) (simp length-drop (omega arith)))) ∙ sym told
 
   one : flag ≡ true → eqb (get_or stored 0 0) 1 ≡ name_agrees stored
-  one e = byte 1 (if-passed 0 (all ∙ e))
+  one e = byte 1 (if_passed 0 (all ∙ e))
 
   zero : flag ≡ false → eqb (get_or stored 0 0) 0 ≡ name_agrees stored
-  zero e = byte 0 (if-failed 1 (all ∙ e))
+  zero e = byte 0 (if_failed 1 (all ∙ e))
 
 pub name_agrees_spec : {M : Type 1} → statement M
 name_agrees_spec =

@@ -3,7 +3,7 @@ use Rattle.std.specs.Prelude.{◌≡◌, Bool, List, ℕ, suc, ◌+◌, ◌-◌,
 use Rattle.std.proofs.Math.Path.{sym}
 use Rattle.std.proofs.Common.{subst, ◌∙◌, arith, lt-ltb, le-ltb, ltb-true, ltb-false}
 use Rattle.logic.specs.Test.{if◌then◌else◌}
-use Rattle.logic.specs.laws.Test.{if-passed, if-failed, cases}
+use Rattle.logic.specs.laws.Test.{if_passed, if_failed, cases}
 use Rattle.logic.specs.Turns.{again, done}
 use Rattle.logic.specs.laws.Turns.{Falls, goes_on, ends}
 use Rattle.files.specs.Bytes.{between}
@@ -20,11 +20,11 @@ module _ (size : ℕ) (end : ℕ → ℕ) (agrees : ℕ → Bool) (later : (at :
 
   within : (p : Passed) → p.at < size → pass size end agrees p ≡ again (next p)
   unfolding pass
-  within p h = if-passed (done (tally_of p)) (lt-ltb p.at size h)
+  within p h = if_passed (done (tally_of p)) (lt-ltb p.at size h)
 
   at_end : (p : Passed) → size ≤ p.at → pass size end agrees p ≡ done (tally_of p)
   unfolding pass
-  at_end p h = if-failed (again (next p)) (le-ltb p.at size h)
+  at_end p h = if_failed (again (next p)) (le-ltb p.at size h)
 
   -- a record brings the end nearer
   falls : (p : Passed) → Falls left (left p) (pass size end agrees p)

@@ -7,7 +7,7 @@ use native.Mathlib.Omega.{arith}
 use borrow.Author.Tests.{eq-eqb, ne_eqb, eqb-true, ltb-true}
 use Rattle.logic.specs.Test.{if◌then◌else◌}
 use Rattle.logic.specs.laws.Test.{both}
-use Rattle.logic.specs.laws.Flag.{if-either}
+use Rattle.logic.specs.laws.Flag.{if_either}
 use Rattle.words.specs.Word.{word}
 use Rattle.places.specs.Layout.{kind_word, samples_word, first_word, step_word, name_word, mark_word}
 use Rattle.shapes.specs.Leaf.{char_byte, is_own_byte}
@@ -89,6 +89,6 @@ pub same_above : (commands : List ℕ) (at place : ℕ) (t : List ℕ) (behind :
 unfolding past_same past_held behind_run
 same_above commands at place t behind e =
     rw e
-    (if-either (λ x. at ≤ x) (is_held place (word t place first_word) t)
-    (if-either (λ x. at ≤ x) (is_own_byte (word t (word t place first_word) kind_word)) (omega arith) (le_refl at))
+    (if_either (λ x. at ≤ x) (is_held place (word t place first_word) t)
+    (if_either (λ x. at ≤ x) (is_own_byte (word t (word t place first_word) kind_word)) (omega arith) (le_refl at))
     (le_refl at))

@@ -36,8 +36,8 @@ invariant-loop table newest₀ place₀ newest place = (place ≤ place_limit) �
 abbrev decreases-loop : tie.decreases-loop
 decreases-loop table newest₀ place₀ newest place = place_limit - place
 
-loop-again : tie.Need-loop-preserved invariant-loop decreases-loop
-loop-again c =
+loop_again : tie.Need-loop-preserved invariant-loop decreases-loop
+loop_again c =
     let inv = c.before.before.before.loop.invariant in
     let link = c.before.link.ensures in
     ⊎_elim
@@ -58,6 +58,6 @@ made_spec =
     (λ c κs. search rules)
     (λ c. search rules)
     (λ c. search rules)
-    loop-again
+    loop_again
     (λ c. search rules)
     returns)

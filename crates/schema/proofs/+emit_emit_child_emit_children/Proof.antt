@@ -17,7 +17,7 @@ use Rattle.words.proofs.get.Reads as get
 use Rattle.places.specs.Layout.{Linked}
 use Rattle.putting.specs.Put.{writing}
 use Rattle.schema.specs.Emit.{fields_from, emitted_at}
-use Rattle.schema.proofs.Emits.{spent, ended, next, in-child, some_level, leaf, opened}
+use Rattle.schema.proofs.Emits.{spent, ended, next, in_child, some_level, leaf, opened}
 use Rattle.fields.proofs.is_lacking.Reads as is-lacking
 use Rattle.fields.proofs.is_leaf.Reads as is_IsLeaf
 use Rattle.fields.proofs.is_nullable.Reads as is-nullable
@@ -97,8 +97,8 @@ abbrev emit_children_claims : ℕ → emit-children-lts.Claims
 emit_children_claims t = (
   put_entries.Asked,
   put_entries.Learnt,
-  next-child.Asked,
-  next-child.Learnt,
+  next_child_lem.Asked,
+  next_child_lem.Learnt,
   emit_child_below t,
   emit-child.Post,
   variant.Asked,
@@ -118,11 +118,11 @@ invariant-loop options text levels kind place table fields₀ names₀ so-far₀
 abbrev decreases-loop : emit-children-lts.decreases-loop
 decreases-loop options text levels kind place table fields₀ names₀ so-far₀ slot₀ child₀ left₀ fields names so_far slot child left = left
 
-loop-holds : (t : ℕ) → emit-children-lts.Need-loop-init (emit_children_claims t) (emit_children_at t) emit-children.Post invariant-loop decreases-loop
-loop-holds t c = (refl, search rules, search rules, search rules, search rules, search rules, search rules, search rules)
+loop_holds : (t : ℕ) → emit-children-lts.Need-loop-init (emit_children_claims t) (emit_children_at t) emit-children.Post invariant-loop decreases-loop
+loop_holds t c = (refl, search rules, search rules, search rules, search rules, search rules, search rules, search rules)
 
-loop-again : (t : ℕ) → emit-children-lts.Need-loop-preserved (emit_children_claims t) (emit_children_at t) emit-children.Post invariant-loop decreases-loop
-loop-again t c =
+loop_again : (t : ℕ) → emit-children-lts.Need-loop-preserved (emit_children_claims t) (emit_children_at t) emit-children.Post invariant-loop decreases-loop
+loop_again t c =
     let l = c.before.before.before.before.before.before.before.before.before.before.before.before.loop in
     (search (next, rules), search rules, l.invariant.2, l.invariant.3, search rules, search rules, search rules, search rules)
 
@@ -160,7 +160,7 @@ pub +emit-emit-child-emit-children-spec : {M : Type 1} → statement M
     (λ c κs. (omega arith, search rules))
     (λ c. search rules)
     (λ c. search rules)
-    (λ c. (search (in-child, rules), search rules)))
+    (λ c. (search (in_child, rules), search rules)))
     λ t. emit-children-lts.spec
     (emit_children_claims t)
     (emit_children_at t)
@@ -169,7 +169,7 @@ pub +emit-emit-child-emit-children-spec : {M : Type 1} → statement M
     decreases-loop
     (λ c κs. search rules)
     (λ c κs. search rules)
-    (loop-holds t)
+    (loop_holds t)
     (λ c. search rules)
     (λ c. search rules)
     (λ c. (search (ended, rules), search rules))
@@ -179,7 +179,7 @@ pub +emit-emit-child-emit-children-spec : {M : Type 1} → statement M
     (λ c κs. search rules)
     (λ c. search rules)
     (λ c. search rules)
-    (loop-again t)
+    (loop_again t)
     (λ c. search rules)
     (λ c. search rules)
     (λ c. (search (spent, rules), search rules))

@@ -126,6 +126,6 @@ any_name text t place code name other no_field = ap (λ turn. turns turn (λ c. 
     same child = rw (by_code text t code name no_field child, by_code text t code other no_field child)
 
 -- a position in the block is a place
-pub in-block : (place i n : ℕ) (t : List ℕ) → in_block place i n t ≡ true → word t place first_word + i < n
+pub in_block_lem : (place i n : ℕ) (t : List ℕ) → in_block place i n t ≡ true → word t place first_word + i < n
 unfolding in_block
-in-block place i n t e = both (ltb i (word t place block_word)) _ e λ a b. ltb-true (word t place first_word + i) n b
+in_block_lem place i n t e = both (ltb i (word t place block_word)) _ e λ a b. ltb-true (word t place first_word + i) n b

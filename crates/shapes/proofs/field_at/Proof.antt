@@ -7,7 +7,7 @@ use Prim.Native.Nat.{ℕ, ◌+◌}
 use native.Mathlib.Omega.{arith}
 use lib.Dec.{eqb}
 use Rattle.logic.specs.Test.{if◌then◌else◌}
-use Rattle.logic.specs.laws.Flag.{if-either}
+use Rattle.logic.specs.laws.Flag.{if_either}
 use Rattle.text.specs.declared.Name.{Name}
 use Rattle.refusal.specs.declared.Refusal.{Refusal}
 use Rattle.commands.specs.declared.Command.{Command}
@@ -25,7 +25,7 @@ use Rattle.shapes.proofs.field_at.Statement.{statement}
 use Rattle.shapes.proofs.field_at.Tie as tie
 
 due_has : (P : Due → Type 0) (kind : ℕ) → P D.FieldOrEnd → P D.KeyOrEnd → P (due_of kind)
-due_has P kind p q = if-either P (eqb kind struct_kind) p q
+due_has P kind p q = if_either P (eqb kind struct_kind) p q
 
 module _ (commands text : List ℕ) (kind at byte : ℕ) (flag : Bool) (b : byte ≡ opener_of kind) (f : flag ≡ named_at commands text byte at) where
   a_name : (name : Name) → flag ≡ true → name ≡ name_at commands (at + 1) → O.Named name ≡ field_at commands text kind at

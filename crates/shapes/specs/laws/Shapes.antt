@@ -32,10 +32,10 @@ use Rattle.shapes.specs.Steps.{no_name, name_of, Inside, Good}
 use Rattle.shapes.specs.Shapes.{shape_at, is_parted, value_part, field_part, part_at}
 
 -- a choice has what both its sides have
-if-has : {A : Type 0} (P : A → Type 0) (t : Bool) {a b : A} → (t ≡ true → P a) → (t ≡ false → P b) → P (if t then a else b)
+if_has : {A : Type 0} (P : A → Type 0) (t : Bool) {a b : A} → (t ≡ true → P a) → (t ≡ false → P b) → P (if t then a else b)
 unfolding if◌then◌else◌
-if-has P true p q = p refl
-if-has P false p q = q refl
+if_has P true p q = p refl
+if_has P false p q = q refl
 
 -- ---- names
 -- no name is a good one
@@ -61,7 +61,7 @@ module _ (commands text : List ℕ) (at : ℕ) where
   value_known step due good (R.Command command behind) e =
       let above : at < behind = L.next_above commands text at due _ command behind e refl in
       let within : behind ≤ length commands = L.next_within commands text at due _ command behind e refl in
-      if-has (KnownPart commands text at) (eqb (get_or commands at 0) end_byte) (λ end. (omega arith, λ h. within)) (λ end. (good, le_refl at, omega arith))
+      if_has (KnownPart commands text at) (eqb (get_or commands at 0) end_byte) (λ end. (omega arith, λ h. within)) (λ end. (good, le_refl at, omega arith))
   value_known step due good (R.Refused refusal place) e = tt
 
   field_known : (due : Due) (named : Name → Command) → ((name : Name) → L.name_of (named name) ≡ some name) →
@@ -70,7 +70,7 @@ module _ (commands text : List ℕ) (at : ℕ) where
   field_known due named has is (R.Command command behind) e =
       let above : at < behind = L.next_above commands text at due _ command behind e refl in
       let within : behind ≤ length commands = L.next_within commands text at due _ command behind e refl in
-      if-has (KnownPart commands text at) (eqb (get_or commands at 0) end_byte) (λ end. (omega arith, λ h. within))
+      if_has (KnownPart commands text at) (eqb (get_or commands at 0) end_byte) (λ end. (omega arith, λ h. within))
       (λ end. (name_good commands text at due _ command behind e refl _ (rw (is command behind end (sym e)) (has _)), omega arith, within))
   field_known due named has is (R.Refused refusal place) e = tt
 
@@ -78,12 +78,12 @@ module _ (commands text : List ℕ) (at : ℕ) where
   unfolding part_at
   part_known kind positions i =
       let P : Part → Type 0 = KnownPart commands text at in
-      if-has P (eqb kind sequence_kind) (λ e. value_known S.Element D.ValueOrEnd (no_name_good text) _ refl)
-      (λ e. if-has P (eqb kind struct_kind) (λ e. field_known D.FieldOrEnd C.Field (λ n. refl) (λ c n end. L.field_due commands text at c n end) _ refl)
-      (λ e. if-has P (eqb kind map_mode_kind) (λ e. field_known D.KeyOrEnd C.Text (λ n. refl) (λ c n end. L.key_due commands text at c n end) _ refl)
-      (λ e. if-has P (eqb kind map_kind && eqb (i % 2) 0) (λ e. value_known S.Key D.ValueOrEnd (no_name_good text) _ refl)
-      (λ e. if-has P (eqb kind map_kind) (λ e. value_known S.Value D.Value (no_name_good text) _ refl)
-      (λ e. if-has P (ltb i positions) (λ e. value_known (S.Position i) D.Value (no_name_good text) _ refl)
+      if_has P (eqb kind sequence_kind) (λ e. value_known S.Element D.ValueOrEnd (no_name_good text) _ refl)
+      (λ e. if_has P (eqb kind struct_kind) (λ e. field_known D.FieldOrEnd C.Field (λ n. refl) (λ c n end. L.field_due commands text at c n end) _ refl)
+      (λ e. if_has P (eqb kind map_mode_kind) (λ e. field_known D.KeyOrEnd C.Text (λ n. refl) (λ c n end. L.key_due commands text at c n end) _ refl)
+      (λ e. if_has P (eqb kind map_kind && eqb (i % 2) 0) (λ e. value_known S.Key D.ValueOrEnd (no_name_good text) _ refl)
+      (λ e. if_has P (eqb kind map_kind) (λ e. value_known S.Value D.Value (no_name_good text) _ refl)
+      (λ e. if_has P (ltb i positions) (λ e. value_known (S.Position i) D.Value (no_name_good text) _ refl)
       (λ e. (le_refl at, λ h. h)))))))
 
 -- the same of an answer that reading gave
@@ -118,9 +118,9 @@ text_below : (options : ℕ) (s : List ℕ) → text_type options s < sequence_k
 unfolding text_type first_fit
 text_below options s =
     let P : ℕ → Type 0 = λ (type : ℕ). type < sequence_kind in
-    let string : string_type options < sequence_kind = if-has P (string_as_large_utf8 options) (λ e. omega arith) (λ e. omega arith) in
-    if-has P (guess_dates options)
-    (λ e. if-has P _ (λ e. omega arith) (λ e. if-has P _ (λ e. omega arith) (λ e. if-has P _ (λ e. omega arith) (λ e. if-has P _ (λ e. omega arith) (λ e. string)))))
+    let string : string_type options < sequence_kind = if_has P (string_as_large_utf8 options) (λ e. omega arith) (λ e. omega arith) in
+    if_has P (guess_dates options)
+    (λ e. if_has P _ (λ e. omega arith) (λ e. if_has P _ (λ e. omega arith) (λ e. if_has P _ (λ e. omega arith) (λ e. if_has P _ (λ e. omega arith) (λ e. string)))))
     (λ e. string)
 
 -- what is known of the shape of a command: a leaf is of a primitive type, a null of none, parts are those of a container, and a variant has the command's name
@@ -146,13 +146,13 @@ shape_known options text C.F32 = (omega arith, λ e. absurd (false≢true e))
 shape_known options text C.F64 = (omega arith, λ e. absurd (false≢true e))
 shape_known options text C.Char = (omega arith, λ e. absurd (false≢true e))
 shape_known options text (C.Text name) = (text_below options _, λ e. absurd (false≢true e))
-shape_known options text C.Bytes = (if-has (λ (type : ℕ). type < sequence_kind) (bytes_as_large_binary options) (λ e. omega arith) (λ e. omega arith), λ e. absurd (false≢true e))
+shape_known options text C.Bytes = (if_has (λ (type : ℕ). type < sequence_kind) (bytes_as_large_binary options) (λ e. omega arith) (λ e. omega arith), λ e. absurd (false≢true e))
 shape_known options text C.None = (omega arith, λ e. refl)
 shape_known options text C.Some = tt
 shape_known options text C.NewtypeStruct = tt
 shape_known options text C.Sequence = refl
 shape_known options text (C.Tuple n) = refl
-shape_known options text C.Map = if-has (λ (kind : ℕ). is_parted kind ≡ true) (map_as_struct options) (λ e. refl) (λ e. refl)
+shape_known options text C.Map = if_has (λ (kind : ℕ). is_parted kind ≡ true) (map_as_struct options) (λ e. refl) (λ e. refl)
 shape_known options text C.Struct = refl
 shape_known options text (C.Field name) = tt
 shape_known options text C.End = tt

@@ -4,7 +4,7 @@ use Rattle.std.proofs.Common.{sym, ap, ◌∙◌, true≢false, length-take, len
 use native.Mathlib.Omega.{arith}
 use Rattle.std.proofs.lemmas.Bool.{false≢true}
 use borrow.Author.Tests.{ltb-true, ltb-false, eqb-true, lt-ltb, le-ltb, eq-eqb, ne_eqb}
-use Rattle.logic.specs.laws.Test.{if-passed, if-failed, cases, both}
+use Rattle.logic.specs.laws.Test.{if_passed, if_failed, cases, both}
 use Rattle.text.specs.declared.Name.{Name}
 use Rattle.text.specs.Name.{bytes_of, eq_name, lt_name, dot, dots}
 
@@ -94,8 +94,8 @@ lt_name_total (a ∷ x) (b ∷ y) p q =
 -- one byte more
 pub dots_yes : (b : ℕ) (x : List ℕ) → b ≡ dot → dots (b ∷ x) ≡ suc (dots x)
 unfolding dots
-dots_yes b x e = if-passed (dots x) (eq-eqb b dot e)
+dots_yes b x e = if_passed (dots x) (eq-eqb b dot e)
 
 pub dots_no : (b : ℕ) (x : List ℕ) → (b ≡ dot → ⊥) → dots (b ∷ x) ≡ dots x
 unfolding dots
-dots_no b x e = if-failed (suc (dots x)) (ne_eqb b dot e)
+dots_no b x e = if_failed (suc (dots x)) (ne_eqb b dot e)

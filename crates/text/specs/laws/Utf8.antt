@@ -6,7 +6,7 @@ use Rattle.std.proofs.Math.Option.{Option, none, some}
 use Rattle.std.proofs.Math.ListN.{get_elem?}
 use borrow.Author.Tests.{leb-true, le-leb, lt-leb}
 use Rattle.logic.specs.Test.{if◌then◌else◌}
-use Rattle.logic.specs.laws.Test.{if-passed, if-failed, cases, both}
+use Rattle.logic.specs.laws.Test.{if_passed, if_failed, cases, both}
 use Rattle.text.specs.Utf8.{Range, ◌to◌, table, within, due_in, reads, is_utf8, fits, Utf8, empty, next}
 
 -- a byte in a range, below it, above it
@@ -51,7 +51,7 @@ due_below n b [] e h = refl
 due_below n b ([] ∷ rows) e h = absurd (false≢true e)
 due_below n b ((low to high ∷ due) ∷ rows) e h =
     rising_row n low high due rows e
-    λ p q r. if-failed (some due) (within_below low high b (omega arith)) ∙ due_below (suc high) b rows r (omega arith)
+    λ p q r. if_failed (some due) (within_below low high b (omega arith)) ∙ due_below (suc high) b rows r (omega arith)
 
 -- a byte above the first bytes of row k begins none of the rows up to it
 due_above : (n k b low high : ℕ) (due : List Range) (rows : List (List Range)) → rising n rows ≡ true →
@@ -62,12 +62,12 @@ due_above n k b low high due ([] ∷ rows) e f h = absurd (false≢true e)
 due_above n zero b low high due ((l to u ∷ d) ∷ rows) e f h =
     let g : u ≡ high = cc in
     rising_row n l u d rows e
-    λ p q r. (omega arith, if-failed (some d) (within_above l u b (omega arith)))
+    λ p q r. (omega arith, if_failed (some d) (within_above l u b (omega arith)))
 due_above n (suc k) b low high due ((l to u ∷ d) ∷ rows) e f h =
     rising_row n l u d rows e
     λ p q r.
     let t : (suc u ≤ b) × (due_in rows b ≡ due_in (drop (suc k) rows) b) = due_above (suc u) k b low high due rows r f h in
-    (omega arith, if-failed (some d) (within_above l u b (omega arith)) ∙ t.1)
+    (omega arith, if_failed (some d) (within_above l u b (omega arith)) ∙ t.1)
 
 -- a first byte of row k has the rest of that row due
 due_row : (n k b low high : ℕ) (due : List Range) (rows : List (List Range)) → rising n rows ≡ true →
@@ -80,12 +80,12 @@ due_row n zero b low high due ((l to u ∷ d) ∷ rows) e f p q =
     let h : u ≡ high = cc in
     let t : ◌≡◌ {A = Option (List Range)} (some d) (some due) = cc in
     rising_row n l u d rows e
-    λ r v w. (omega arith, if-passed (due_in rows b) (within_true l u b (omega arith) (omega arith)) ∙ t)
+    λ r v w. (omega arith, if_passed (due_in rows b) (within_true l u b (omega arith) (omega arith)) ∙ t)
 due_row n (suc k) b low high due ((l to u ∷ d) ∷ rows) e f p q =
     rising_row n l u d rows e
     λ r v w.
     let t : (suc u ≤ b) × (due_in rows b ≡ some due) = due_row (suc u) k b low high due rows w f p q in
-    (omega arith, if-failed (some d) (within_above l u b (omega arith)) ∙ t.1)
+    (omega arith, if_failed (some d) (within_above l u b (omega arith)) ∙ t.1)
 
 -- the same at the table; and 80 to C1 and F5 to FF begin no row
 pub due_at : (k b low high : ℕ) (due : List Range) → get_elem? table k ≡ some (low to high ∷ due) → low ≤ b → b ≤ high → due_in table b ≡ some due
@@ -107,8 +107,8 @@ due_found b due [] e found = let z : ◌≡◌ {A = ℕ} 0 1 = cc in absurd (ome
 due_found b due ([] ∷ rows) e found = due_found b due rows e λ k. found (suc k)
 due_found b due ((range ∷ d) ∷ rows) e found =
     cases (within range b)
-    (λ t. let g : ◌≡◌ {A = Option (List Range)} (some d) (some due) = sym (if-passed (due_in rows b) t) ∙ e in found 0 range (cc) t)
-    (λ t. due_found b due rows (sym (if-failed (some d) t) ∙ e) λ k. found (suc k))
+    (λ t. let g : ◌≡◌ {A = Option (List Range)} (some d) (some due) = sym (if_passed (due_in rows b) t) ∙ e in found 0 range (cc) t)
+    (λ t. due_found b due rows (sym (if_failed (some d) t) ∙ e) λ k. found (suc k))
 
 -- what is due, then whole sequences
 reads_fits : (due : List Range) (bytes more : List ℕ) → fits due bytes ≡ true → reads due (bytes ++ more) ≡ is_utf8 more

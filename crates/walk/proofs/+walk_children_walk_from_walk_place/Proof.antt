@@ -64,8 +64,8 @@ walk_children_claims t = (walk_from_below t, walk_from.Post)
 
 abbrev walk_from_claims : ℕ → walk-from-lts.Claims
 walk_from_claims t = (
-  next-child.Asked,
-  next-child.Learnt,
+  next_child_lem.Asked,
+  next_child_lem.Learnt,
   is-beyond.Asked,
   is-beyond.Learnt,
   walk_place_below t,
@@ -104,11 +104,11 @@ invariant-loop options text levels kind place first-records first-names table re
 abbrev decreases-loop : walk-from-lts.decreases-loop
 decreases-loop options text levels kind place first-records first-names table records₀ names₀ below₀ slot₀ child₀ left₀ records names below slot child left = left
 
-loop-holds : (t : ℕ) → walk-from-lts.Need-loop-init (walk_from_claims t) (walk_from_at t) walk_from.Post invariant-loop decreases-loop
-loop-holds t c = (rw c.next-child.ensures.0, (search rules, (search rules, search rules)))
+loop_holds : (t : ℕ) → walk-from-lts.Need-loop-init (walk_from_claims t) (walk_from_at t) walk_from.Post invariant-loop decreases-loop
+loop_holds t c = (rw c.next-child.ensures.0, (search rules, (search rules, search rules)))
 
-loop-again : (t : ℕ) → walk-from-lts.Need-loop-preserved (walk_from_claims t) (walk_from_at t) walk_from.Post invariant-loop decreases-loop
-loop-again t c = (search (next, rules), (search rules, c.before.before.before.before.before.before.before.before.before.before.before.before.before.loop.invariant.1.1))
+loop_again : (t : ℕ) → walk-from-lts.Need-loop-preserved (walk_from_claims t) (walk_from_at t) walk_from.Post invariant-loop decreases-loop
+loop_again t c = (search (next, rules), (search rules, c.before.before.before.before.before.before.before.before.before.before.before.before.before.loop.invariant.1.1))
 
 opens : (t : ℕ) (c : walk-place-lts.Joined5-2 (walk_place_claims t) (walk_place_at t) walk-place.Post) →
     (let s = c.before.before.before.before.before.before.before in Opens s.args.options.word s.args.table.now c.before.before.before.before.get.result s.args.place)
@@ -140,7 +140,7 @@ pub +walk-children-walk-from-walk-place-spec : {M : Type 1} → statement M
     invariant-loop
     decreases-loop
     (λ c κs. search rules)
-    (loop-holds t)
+    (loop_holds t)
     (λ c. search (ended, rules))
     (λ c κs. search rules)
     (λ c. search (beyond, rules))
@@ -155,7 +155,7 @@ pub +walk-children-walk-from-walk-place-spec : {M : Type 1} → statement M
     (λ c κs. search rules)
     (λ c. search rules)
     (λ c. search rules)
-    (loop-again t)
+    (loop_again t)
     (λ c. search (spent, rules)))
     λ t. walk-place-lts.spec
     (walk_place_claims t)

@@ -8,12 +8,12 @@ use Rattle.words.specs.laws.Word.{index_gap, index_plane, plane_inside}
 use Rattle.words.proofs.plane_index.Statement.{statement}
 use Rattle.words.proofs.plane_index.Tie as tie
 
-in-gap : (row place : ℕ) → IsRow place → row ≡ 0 → (place / gap_words * plane_words + place % gap_words ≡ plane_index row place) × (place / gap_words * plane_words + place % gap_words < table_words)
-in-gap row place l e = (rw e (index_gap place), omega arith)
+in_gap : (row place : ℕ) → IsRow place → row ≡ 0 → (place / gap_words * plane_words + place % gap_words ≡ plane_index row place) × (place / gap_words * plane_words + place % gap_words < table_words)
+in_gap row place l e = (rw e (index_gap place), omega arith)
 
-in-plane : (row place : ℕ) → IsRow place → row < row_words → (row ≡ 0 → ⊥) →
+in_plane : (row place : ℕ) → IsRow place → row < row_words → (row ≡ 0 → ⊥) →
     ((row - 1) * plane_words + gap_words + place ≡ plane_index row place) × ((row - 1) * plane_words + gap_words + place < table_words)
-in-plane row place l m n = (index_plane row place n, omega (arith, n))
+in_plane row place l m n = (index_plane row place n, omega (arith, n))
 
 pub plane_index_spec : {M : Type 1} → statement M
 plane_index_spec =
@@ -21,9 +21,9 @@ plane_index_spec =
     (tie.spec
     (λ c. search rules)
     (λ c. search rules)
-    (λ c. in-gap _ _ c.before.requires.0 c.if1.true)
+    (λ c. in_gap _ _ c.before.requires.0 c.if1.true)
     (λ c. search rules)
     (λ c. search rules)
     (λ c. search rules)
     (λ c. search rules)
-    (λ c. in-plane _ _ c.before.requires.0 c.before.requires.1 c.if1.false))
+    (λ c. in_plane _ _ c.before.requires.0 c.before.requires.1 c.if1.false))

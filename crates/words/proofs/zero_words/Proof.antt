@@ -4,7 +4,7 @@ use mathlib.Core.Path.{◌≡◌}
 use Prim.Native.Nat.{◌-◌, ◌≤◌}
 use lib.ListN.{length, length-set}
 use Rattle.words.specs.Word.{zeroed_in}
-use Rattle.words.proofs.Zeroed.{in-none, in-more, in_end}
+use Rattle.words.proofs.Zeroed.{in_none, in_more, in_end}
 use Rattle.words.proofs.zero_words.Statement.{statement}
 use Rattle.words.proofs.zero_words.Tie as tie
 
@@ -20,11 +20,11 @@ zero_words_spec =
     (tie.spec
     invariant-loop
     decreases-loop
-    (λ c. (search (in-none, rules), search rules, search rules, search rules))
+    (λ c. (search (in_none, rules), search rules, search rules, search rules))
     (λ c. search rules)
     (λ c. search rules)
     (λ c. search rules)
     (λ c. search rules)
-    (λ c. (search (in-more, rules), search rules, search rules, simp length-set (search rules)))
+    (λ c. (search (in_more, rules), search rules, search rules, simp length-set (search rules)))
     (λ c. search rules)
     (λ c. search (in_end, rules)))

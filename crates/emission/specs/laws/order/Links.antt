@@ -157,17 +157,17 @@ module _ (text t : List ℕ) (n : ℕ) (most : n ≤ place_limit) (room : IsTabl
 
   -- ---- each place that is done is in line
   module _ (root : Spot) (good : Good n root) (rep : Rep text t root) (fit : FitS root) (cover : (q : ℕ) → q < n → within q root ≡ true) where
-    in-line : (by_name : Bool) (p : ℕ) (ks : Spots) → Placed text t n p (kind_of by_name) ks → (j : ℕ) → j ≤ n → p < j → InLine (is_before text t by_name) (nums_of ks) p (sorted_places text t j)
+    in_line : (by_name : Bool) (p : ℕ) (ks : Spots) → Placed text t n p (kind_of by_name) ks → (j : ℕ) → j ≤ n → p < j → InLine (is_before text t by_name) (nums_of ks) p (sorted_places text t j)
     unfolding sorted_places
-    in-line by_name p ks h zero l b = absurd (omega arith)
-    in-line by_name p ks h (suc j) l b =
+    in_line by_name p ks h zero l b = absurd (omega arith)
+    in_line by_name p ks h (suc j) l b =
         cases (eqb p j)
         (λ e. let d : p ≡ j = eqb-true p j e in rw (← d) (rw (sorted_as p (omega arith) by_name p ks h) (sorted_children_lem p (omega arith) by_name p ks h).line))
         (λ e.
         let z : p ≡ j → ⊥ = eqb-false p j e in
         find text t n j root good rep fit (cover j (omega arith)) λ i is g.
         let w = leaves j (omega arith) p (kind_of by_name) j ks i is z h g in
-        line_kept (is_before text t by_name) (nums_of ks) p (sorted_places text t j) (sorted_place text j (sorted_places text t j)) w.0 w.1 (in-line by_name p ks h j (omega arith) (omega arith)))
+        line_kept (is_before text t by_name) (nums_of ks) p (sorted_places text t j) (sorted_place text j (sorted_places text t j)) w.0 w.1 (in_line by_name p ks h j (omega arith) (omega arith)))
 
     abbrev ordered : List ℕ
     ordered = sorted_places text t n
@@ -180,7 +180,7 @@ module _ (text t : List ℕ) (n : ℕ) (most : n ≤ place_limit) (room : IsTabl
         Enumerates ordered sorted (kind_of by_name) p 0 (sort_by (front_of by_name) ks)
     unfolding next_child next_ordered if◌then◌else◌
     sortedly by_name sorted p ks h o =
-        let w = in-line by_name p ks h n (omega arith) h.below in
+        let w = in_line by_name p ks h n (omega arith) h.below in
         let is : nums_of (sort_by (front_of by_name) ks) ≡ w.list =
         unique (is_before text t by_name) (irreflexive text t by_name) (transitive text t by_name) (nums_of (sort_by (front_of by_name) ks)) w.list
         (sorted_sort (front_of by_name) (is_before text t by_name) (transitive text t by_name) ks (apart by_name p ks h)) w.sorted (λ z. among_sort (front_of by_name) z ks ∙ sym (w.members z)) in

@@ -9,7 +9,7 @@ use native.Mathlib.Omega.{arith}
 use Rattle.std.proofs.Math.Dec.{eqb}
 use Rattle.logic.specs.Test.{if◌then◌else◌}
 use Rattle.logic.specs.laws.Test.{cases}
-use Rattle.logic.specs.laws.Flag.{if-either}
+use Rattle.logic.specs.laws.Flag.{if_either}
 use Rattle.datatype.specs.Codes.{null}
 use Rattle.text.specs.Name.{bytes_of, lt_name}
 use Rattle.text.specs.laws.Decimal.{length_u16}
@@ -59,11 +59,11 @@ step_short : (text : List ℕ) (code given : ℕ) → Short text (step_of code (
 unfolding step_of
 step_short text code given =
     let l : length (bytes_of text (unpacked_name given)) < 65536 = rw length-take (omega arith) in
-    if-either (Short text) (eqb code 0) (omega arith)
-    (if-either (Short text) (eqb code 1) (omega arith)
-    (if-either (Short text) (eqb code 2) (omega arith)
-    (if-either (Short text) (eqb code field_code) l
-    (if-either (Short text) (eqb (code % 2) 0) (omega (arith, length_u16 (number_in code) (omega arith))) l))))
+    if_either (Short text) (eqb code 0) (omega arith)
+    (if_either (Short text) (eqb code 1) (omega arith)
+    (if_either (Short text) (eqb code 2) (omega arith)
+    (if_either (Short text) (eqb code field_code) l
+    (if_either (Short text) (eqb (code % 2) 0) (omega (arith, length_u16 (number_in code) (omega arith))) l))))
 
 pub short_name : (text t : List ℕ) (q : ℕ) → length (child_name text t q) < 65536
 unfolding child_name

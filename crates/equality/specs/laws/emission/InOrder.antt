@@ -14,7 +14,7 @@ use Rattle.model.specs.Emission.{Place, shown, Places, none_below, below, datale
 use Rattle.equality.specs.laws.Base.{and_left, and_right, and_both, not_is_true, same_sym}
 use Rattle.equality.specs.laws.Proper.{kind_fits, step_fits, steps_below, fits, fit_below}
 use Rattle.equality.specs.laws.emission.Canon.{insert_place, in_order, canon, canons}
-use Rattle.equality.specs.laws.reordering.Sorting.{precedes, leads, ordered, under, rising, has_insert, has_set, steps_insert, steps_in_order, in-order-already}
+use Rattle.equality.specs.laws.reordering.Sorting.{precedes, leads, ordered, under, rising, has_insert, has_set, steps_insert, steps_in_order, in_order_already}
 
 -- ---- the premise on unions: the numbers of their variants rise, as `by_number` leaves them where no two are the same
 unfoldable mutual
@@ -209,7 +209,7 @@ rising_union kind ps h e = rw e at h
 -- of any container but a struct
 pub order_fits : (options kind : ℕ) (ps qs : Places) → steps_below qs ≡ steps_below ps → is_struct kind ≡ false → fit_below options kind 0 ps ≡ true →
     (not (eqb kind union_kind) || rising (steps_below ps)) ≡ true → in_order qs ≡ qs
-order_fits options kind ps qs e n f u = in-order-already qs (rw e (ordered_fits options kind 0 ps n f (rising_union kind ps u)))
+order_fits options kind ps qs e n f u = in_order_already qs (rw e (ordered_fits options kind 0 ps n f (rising_union kind ps u)))
 
 pub canons_in_order : (options kind : ℕ) (ps : Places) → is_struct kind ≡ false → fit_below options kind 0 ps ≡ true →
     (not (eqb kind union_kind) || rising (steps_below ps)) ≡ true → in_order (canons ps) ≡ canons ps

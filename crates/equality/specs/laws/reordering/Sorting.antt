@@ -157,11 +157,11 @@ unfolding leads insert_place steps_below if◌then◌else◌
 insert_first s p none_below h = refl
 insert_first s p (below r q ps) h = rw (not_is_true (precedes r s) h, insert_place)
 
-pub in-order-already : (ps : Places) → ordered (steps_below ps) ≡ true → in_order ps ≡ ps
+pub in_order_already : (ps : Places) → ordered (steps_below ps) ≡ true → in_order ps ≡ ps
 unfolding ordered in_order steps_below
-in-order-already none_below h = refl
-in-order-already (below s p ps) h =
-    both (leads s (steps_below ps)) (ordered (steps_below ps)) h λ a b. rw (in-order-already ps b) (insert_first s p ps a)
+in_order_already none_below h = refl
+in_order_already (below s p ps) h =
+    both (leads s (steps_below ps)) (ordered (steps_below ps)) h λ a b. rw (in_order_already ps b) (insert_first s p ps a)
 
 -- the place at a step, where there is one
 unfoldable pub find : Step → Places → Option Place

@@ -6,7 +6,7 @@ use Rattle.std.proofs.Common.{ap, sym, ◌∙◌, true≢false, arith, eqb-true}
 use Rattle.std.proofs.lemmas.Bool.{false≢true}
 use Rattle.std.proofs.Math.Option.{none, some}
 use Rattle.logic.specs.Test.{if◌then◌else◌}
-use Rattle.logic.specs.laws.Test.{if-passed, if-failed, cases, both, neither}
+use Rattle.logic.specs.laws.Test.{if_passed, if_failed, cases, both, neither}
 use Rattle.datatype.specs.Codes.{null}
 use Rattle.options.specs.Word.{string_as_large_utf8, string_type}
 use Rattle.coerce.specs.Joint.{joint}
@@ -176,8 +176,8 @@ place_sound o k b ps g d c a =
     let v : all_variants (steps_below ps) ≡ true = sym (union_steps 0 (steps_below ps)) ∙ rw z at g.1 in
     let f : steps_fit k 0 (steps_below (by_number ps)) ≡ true = rw z (union_steps 0 (steps_below (by_number ps)) ∙ variants_number ps v) in
     let h = shown_sound o k b (by_number ps) (g.0, f) (distinct_by_number ps ∙ d) (λ _. rising_by_number ps (numbers_apart_lem (steps_below ps) d v c)) (each_number (Sound o) ps a) in
-    rw (if-passed ps e) h)
-    (λ e. rw (if-failed (by_number ps) e) (shown_sound o k b ps g d (λ f. absurd (true≢false (sym f ∙ e))) a))
+    rw (if_passed ps e) h)
+    (λ e. rw (if_failed (by_number ps) e) (shown_sound o k b ps g d (λ f. absurd (true≢false (sym f ∙ e))) a))
 
 -- ---- a tree that proper values leave
 record Grown (o : ℕ) (t : Tree) : Type 0 where

@@ -10,7 +10,7 @@ use Rattle.std.proofs.Math.Dec.{eqb}
 use borrow.Author.Tests.{eqb-true, eqb-false, eq-eqb, ne_eqb, leb-false, lt-leb, ltb-true}
 use Rattle.logic.specs.Test.{if◌then◌else◌}
 use Rattle.logic.specs.laws.Test.{cases, both, neither}
-use Rattle.logic.specs.laws.Flag.{if-either}
+use Rattle.logic.specs.laws.Flag.{if_either}
 use Rattle.logic.specs.All.{All}
 use Rattle.logic.specs.laws.All.{all_perm}
 use Rattle.logic.specs.Maybe.{and_then, OnSome}
@@ -100,10 +100,10 @@ module _ (o : ℕ) where
   unfolding together
   together_among P k h u pk ph pf pi pu ps e =
       subst (OnSome P) e
-      (if-either (OnSome P) (not (is_container k || is_container h)) (on_each P (joint o k h) (λ v q. joint_among P o k h v pk ph pf pi pu ps q))
-      (if-either (OnSome P) (eqb h null) pk
-      (if-either (OnSome P) (eqb k null) ph
-      (if-either (OnSome P) (same_container k h) pk tt))))
+      (if_either (OnSome P) (not (is_container k || is_container h)) (on_each P (joint o k h) (λ v q. joint_among P o k h v pk ph pf pi pu ps q))
+      (if_either (OnSome P) (eqb h null) pk
+      (if_either (OnSome P) (eqb k null) ph
+      (if_either (OnSome P) (same_container k h) pk tt))))
 
   together_types : (k h : ℕ) → (is_container k || is_container h) ≡ false → together o k h ≡ joint o k h
   unfolding together if◌then◌else◌

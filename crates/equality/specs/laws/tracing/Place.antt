@@ -13,7 +13,7 @@ use Rattle.model.specs.Kinds.{sequence_kind, map_kind, tuple_kind, is_container,
 use Rattle.model.specs.Reading.{Value, val, cut, Parts, no_parts, cut_off, part, is_whole, are_whole, all_whole}
 use Rattle.model.specs.Tracing.{Tree, Kids, no_kids, kid, null_of, kind_of, samples_of, kids_of, dots_of, depth_limit, same_container, meet, steps_of, has, kid_at, put, positions_from, made, holds, one, tally}
 use Rattle.model.specs.Census.{parts_of, kind_in, parts_at, below, standing, any_null, samples, holders, kinds_seen, fixed_steps, steps_in, sight, sights, steps_seen}
-use Rattle.equality.specs.laws.Base.{bind_ok, not_refused, if-ap, and_left, and_right, and_both, same_true, same_refl}
+use Rattle.equality.specs.laws.Base.{bind_ok, not_refused, if_ap, and_left, and_right, and_both, same_true, same_refl}
 use Rattle.model.specs.Unbounded.{make_all, see, see_parts, see_all}
 use Rattle.equality.specs.laws.Proper.{kind_fits, part_fits, is_proper, are_proper, all_proper}
 use Rattle.equality.specs.laws.census.Standing.{met, no_cut, part_ok}
@@ -170,7 +170,7 @@ steps_put s t no_kids = refl
 steps_put s t (kid r n u ks) =
     cases (same s r)
     (λ e. rw e)
-    (λ e. rw e (ap (λ (ss : List Step). r ∷ ss) (steps_put s t ks) ∙ if-ap (λ (ss : List Step). r ∷ ss) (has s (steps_of ks)) (steps_of ks) (steps_of ks ++ (s ∷ []))))
+    (λ e. rw e (ap (λ (ss : List Step). r ∷ ss) (steps_put s t ks) ∙ if_ap (λ (ss : List Step). r ∷ ss) (has s (steps_of ks)) (steps_of ks) (steps_of ks ++ (s ∷ []))))
 
 pub steps_make_all : (ss : List Step) (ks : Kids) → steps_of (make_all ss ks) ≡ sights ss (steps_of ks)
 unfolding make_all sights

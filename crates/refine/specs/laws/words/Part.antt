@@ -63,9 +63,9 @@ no_clash i no_spots = refl
 no_clash i (child r h m u ks) = no_clash i ks
 
 module _ (text t : List ℕ) (n p : ℕ) (b : Bool) (k m : ℕ) (ks : Spots) (h : Fits text t n (spot p b k m ks)) where
-  in-block : (i : ℕ) → in_block p i n t ≡ true → word t p first_word + i ≡ find_in text p (code_of (S.Position i)) no_name t
+  in_block_lem : (i : ℕ) → in_block p i n t ≡ true → word t p first_word + i ≡ find_in text p (code_of (S.Position i)) no_name t
   unfolding in_block
-  in-block i e =
+  in_block_lem i e =
       let f : word t p first_word ≡ first_of ks = h.rep.0 3 (omega arith) in
       both (ltb i (word t p block_word)) _ e λ a _.
       ap (λ (x : ℕ). x + i) f ∙ go (h.rep.2 i (ltb-true i (word t p block_word) a)) (sought text t (S.Position i) (position i) (position_stands text i) n p b k m ks h)
@@ -98,7 +98,7 @@ module _ (text t : List ℕ) (n p : ℕ) (b : Bool) (k m : ℕ) (ks : Spots) (h 
   child_sought (S.Position i) s st =
       let c : 4 + 2 * i ≡ step_code_of s = st.code in
       cases (in_block p i n t)
-      (λ e. rw (e, in-block i e) (sought text t (S.Position i) s st n p b k m ks h))
+      (λ e. rw (e, in_block_lem i e) (sought text t (S.Position i) s st n p b k m ks h))
       (λ e. let l : word t p block_word ≤ i = past_block i e in rw e (numbered_sought text t (S.Position i) s st n p b k m ks h (rw (← c) (omega arith), λ _. rw (← c) (omega arith))))
   child_sought (S.Variant number name) s st =
       let c : 5 + 2 * number ≡ step_code_of s = st.code in
@@ -203,17 +203,17 @@ module _ (s : Step) (N : ℕ) (v : Spot) where
         let cell' : (x : ℕ) (r : Step) (h m : ℕ) → Cell text t (num (spot_at s ks)) x p r h m → Cell text t' (num (spot_at s ks)) x p r (if eqb m N then h else onward h) N = rw d at cell in
         let o' : (a f : ℕ) → f < place_words → within a u || within_in a ks ≡ true → within a (spot_at s ks) ≡ false → word t' a f ≡ word t a f = rw d at o in
         let off : (a : ℕ) → within a u ≡ true → within a (spot_at s ks) ≡ false = λ a j. un_true (within a (spot_at s ks)) (λ i. not_both (within_in a ks) (found a s ks e' i) (g.2 a j)) in
-        let in-u : (a f : ℕ) → f < place_words → within a u ≡ true → word t' a f ≡ word t a f = λ a f l j. o' a f l (or_left (within a u) (within_in a ks) j) (off a j) in
+        let in_u : (a f : ℕ) → f < place_words → within a u ≡ true → word t' a f ≡ word t a f = λ a f l j. o' a f l (or_left (within a u) (within_in a ks) j) (off a j) in
         rw d (
-          subst (λ (y : ℕ). Cell text t' (num u) y p q h m) (sym (put_first ks e' w')) (same_cell r.0 (λ f l. in-u (num u) f l.0 (self u))),
-          frame text t t' u r.1 (λ f l. in-u (num u) f (omega arith) (self u)) (λ a f l i. in-u a f l.0 (has_below a u i)),
+          subst (λ (y : ℕ). Cell text t' (num u) y p q h m) (sym (put_first ks e' w')) (same_cell r.0 (λ f l. in_u (num u) f l.0 (self u))),
+          frame text t t' u r.1 (λ f l. in_u (num u) f (omega arith) (self u)) (λ a f l i. in_u a f l.0 (has_below a u i)),
           put_rep (num u) ks g.3 r.2 e' w' cell' (λ a f l i j. o' a f l (or_right (within a u) (within_in a ks) i) j),
         ))
 
 -- ---- the child's walk, and what it makes of the parent
 module _ (text t : List ℕ) (n p : ℕ) (s : Step) (b : Bool) (k m : ℕ) (ks : Spots) (h : Fits text t n (spot p b k m ks)) (e : has s (steps_s ks) ≡ true) where
-  in-child : (q : ℕ) → within_in q ks ≡ false → within q (spot_at s ks) ≡ false
-  in-child q d = un_true (within q (spot_at s ks)) (λ i. not_both (within_in q ks) (found q s ks e i) d)
+  in_child : (q : ℕ) → within_in q ks ≡ false → within q (spot_at s ks) ≡ false
+  in_child q d = un_true (within q (spot_at s ks)) (λ i. not_both (within_in q ks) (found q s ks e i) d)
 
   child_below : num (spot_at s ks) < n
   child_below = bounded n (num (spot_at s ks)) (spot_at s ks) (child_good n p s ks h.good.2 e).0 (self (spot_at s ks))
@@ -252,7 +252,7 @@ module _ (text t : List ℕ) (n p : ℕ) (s : Step) (b : Bool) (k m : ℕ) (ks :
       let off_num : (q : ℕ) → within q u ≡ false → q ≡ num u → ⊥ = λ q d x. eqb-false q (num u) (both_false (eqb q (num u)) (within_in q (below_s u)) (sym (has_is q u) ∙ d)).0 x in
       let out : (q f : ℕ) → q < n → f < place_words → within q u ≡ false → word t' q f ≡ word t q f
       = λ q f l i d. a.keeps q f l i (off_below q d) (λ x. absurd (off_num q d x)) ∙ touch_other t (num u) m q f i (λ x. absurd (off_num q d x)) in
-      let p_out : within p u ≡ false = in-child p h.good.1 in
+      let p_out : within p u ≡ false = in_child p h.good.1 in
       let links : (q f : ℕ) → num_in q ks ≡ true → left_word ≤ f → f < place_words → (f ≡ held_word → ⊥) × (f ≡ mark_word → ⊥) → word t' q f ≡ word t q f
       = λ q f i l j d. a.keeps q f (bounded_in n p q ks h.good.2 (in_tree q ks i)) j (child_apart n p q s ks h.good.2 e i) (λ _. l) ∙ touch_other t (num u) m q f j (λ _. d) in
       record {
@@ -291,7 +291,7 @@ module _ (text t : List ℕ) (n p : ℕ) (s : Step) (b : Bool) (k m : ℕ) (ks :
         };
         grown = wider;
         same = refl;
-        keeps = λ q f l i d y. out q f l i (in-child q d);
+        keeps = λ q f l i d y. out q f l i (in_child q d);
         kept = λ q l. put_has n n' s m v wider gv q ks e (same_has q l);
       }
     where

@@ -244,9 +244,9 @@ module _ (s : Step) (N : ℕ) (v : Spot) where
       let e' : has s (steps_s ks) ≡ true = rw d at e in
       let w' : (q f : ℕ) → f < place_words → within q u || within_in q ks ≡ true → within q (spot_at s ks) ≡ false → word t' q f ≡ word t q f = rw d at w in
       let off : (q : ℕ) → within q u ≡ true → within q (spot_at s ks) ≡ false = λ q b. un_true (within q (spot_at s ks)) (λ i. not_both (within_in q ks) (found q s ks e' i) (g.2 q b)) in
-      let in-u : (q f : ℕ) → f < place_words → within q u ≡ true → word t' q f ≡ word t q f = λ q f l b. w' q f l (or_left (within q u) (within_in q ks) b) (off q b) in
+      let in_u : (q f : ℕ) → f < place_words → within q u ≡ true → word t' q f ≡ word t q f = λ q f l b. w' q f l (or_left (within q u) (within_in q ks) b) (off q b) in
       rw d (
-        indexes_frame n t t' u g.1 (λ f l. in-u (num u) f (omega arith) (self u)) (λ q f l a. in-u q f l (has_below q u a)) x.0,
+        indexes_frame n t t' u g.1 (λ f l. in_u (num u) f (omega arith) (self u)) (λ q f l a. in_u q f l (has_below q u a)) x.0,
         indexes_put n (num u) t t' ks g.3 e' y (λ q f l a b. w' q f l (or_right (within q u) (within_in q ks) a) b) x.1,
       ))
 

@@ -204,13 +204,13 @@ module _ (options : ℕ) (commands text : List ℕ) (bytes : Bytes commands) (de
       read_cases (read_command commands text at D.Value)
       (λ c m e.
       let on : at < m = reads_on commands text at D.Value c m e in
-      let in-it : m ≤ length commands = reads_inside commands text at D.Value c m e in
+      let in_it : m ≤ length commands = reads_inside commands text at D.Value c m e in
       let b : byte_of c ≡ get_or commands at 0 = byte_is commands text at D.Value c m e in
       let z = free (starts commands text at D.Value c m e) in
       rw (value_command options commands text f at c m e, e)
       (agrees_after (stays text t n u h) (omega arith)
       (shape_sim f at m n t u (shape_says options text c (command_name commands text bytes at D.Value c m e) (λ q. z.0 (sym b ∙ q))
-      (λ q. z.1 (sym b ∙ q))) in-it (omega arith) h)))
+      (λ q. z.1 (sym b ∙ q))) in_it (omega arith) h)))
       (λ x p e. rw (value_refused options commands text f at x p e, e) balked)
 
   chain_sim : (g f at n : ℕ) (t : List ℕ) (u : Spot) → at ≤ length commands → length commands < at + g → 4 * length commands + 1 ≤ 4 * at + f → Fits text t n u

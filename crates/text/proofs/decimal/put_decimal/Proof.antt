@@ -33,8 +33,8 @@ module _ (out : List ℕ) (at i left : ℕ) (whole : List ℕ) (e : i ≡ at + l
       let k : at < length out = omega arith in
       written_one out at (zero_digit + left) k ∙ ap (written out at) (sym (decimal_small left g)) ∙ inv
 
-loop-again : tie.Need-loop-preserved invariant-loop decreases-loop
-loop-again c =
+loop_again : tie.Need-loop-preserved invariant-loop decreases-loop
+loop_again c =
     let left : ℕ = c.before.loop.left in
     let l : length (decimal left) ≡ length (decimal (left / 10)) + 1 = length_step left c.loop-test.true in
     (omega arith, simp length-set (omega arith), simp length-set (omega arith), search (again, rules))
@@ -53,7 +53,7 @@ put_decimal_spec =
     (λ c. search rules)
     (λ c. omega (arith, length_positive c.before.loop.left))
     (λ c. search rules)
-    loop-again
+    loop_again
     (λ c. search rules)
     (λ c. search rules)
     (λ c. omega (arith, length_positive c.before.loop.left))

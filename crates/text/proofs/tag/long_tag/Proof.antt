@@ -38,8 +38,8 @@ over bytes n i one two last next Mixed-one Mixed-two mixed h z g p q r s t u v =
     let k : i / 8 ≡ n / 8 = omega arith in
     v ∙ rw (t, u, r, s, p, q, k)
 
-loop-again : tie.Need-loop-preserved invariant-loop decreases-loop
-loop-again c =
+loop_again : tie.Need-loop-preserved invariant-loop decreases-loop
+loop_again c =
     let four = c.before.before.before in
     let loop = four.before.before.loop in (
       search rules,
@@ -65,7 +65,7 @@ long_tag_spec =
     (λ c κs. search rules)
     (λ c. search rules)
     (λ c. search rules)
-    loop-again
+    loop_again
     (λ c. search rules)
     (λ c κs. search rules)
     (λ c κs. search rules)

@@ -1,0 +1,301 @@
+#!/usr/bin/env python3
+"""Turns proofs that walk the code by position (Proof.antt) into invariants and answers by name.
+
+    python3 tools/answers.py CRATE NAMES [FUNCTION ..]
+
+NAMES is what `rt check --generated NAMES --old-names` writes in the crate's folder. A proof that does not fit is left and named."""
+import json
+import re
+import sys
+from pathlib import Path
+
+STD = {
+    "mathlib.Core.Path", "mathlib.Core.Bool", "mathlib.Core.List", "Prim.Native.Nat", "lib.ListN", "native.Mathlib.Omega",
+    "native.Mathlib.Numerals", "lib.Dec", "borrow.Author.Rules", "borrow.Author.Tests",
+}
+
+
+class Unfit(Exception):
+    pass
+
+
+def blocks(text):
+    """The declarations of a file: each with the comments that stand above it."""
+    out, here = [], []
+    lines = text.split("\n")
+    i = 0
+    comments = []
+    while i < len(lines):
+        line = lines[i]
+        if not line.strip():
+            if comments and not here:
+                comments.append(line)
+            i += 1
+            continue
+        if line.startswith("--"):
+            comments.append(line)
+            i += 1
+            continue
+        j = i + 1
+        while j < len(lines) and (not lines[j].strip() or lines[j].startswith(" ")):
+            j += 1
+        body = lines[i:j]
+        while body and not body[-1].strip():
+            body.pop()
+        if out and not comments and (line.startswith("unfolding ") or re.match(r"(?:pub |abbrev |unfoldable )*(\S+)", out[-1][1][0]).group(1) == line.split(" ")[0]):
+            out[-1][1].extend(body)
+        else:
+            out.append((comments, body))
+        comments = []
+        i = j
+    return out
+
+
+def close(text, at):
+    """The index behind the parenthesis that closes the one at `at`."""
+    depth = 0
+    for i in range(at, len(text)):
+        if text[i] == "(":
+            depth += 1
+        elif text[i] == ")":
+            depth -= 1
+            if depth == 0:
+                return i + 1
+    raise Unfit("parenthesis")
+
+
+def arguments(text):
+    """The arguments of a call, from behind its name."""
+    out, i = [], 0
+    while i < len(text):
+        if text[i].isspace():
+            i += 1
+        elif text[i] == "(":
+            j = close(text, i)
+            out.append(text[i:j])
+            i = j
+        elif text[i] == ")":
+            break
+        else:
+            j = i
+            while j < len(text) and not text[j].isspace() and text[j] not in "()":
+                j += 1
+            out.append(text[i:j])
+            i = j
+    return out
+
+
+class Walk:
+    def __init__(self, of):
+        self.parent, self.step, self.rows = {}, {}, {}
+        for row in of["places"]:
+            self.rows[row[0]] = row
+        self.new = dict(zip([r[0] for r in of["places"]], of["places_by_name"]))
+
+    def path(self, place, segments):
+        """The new path of the segments behind a variable at a place, or the place where they end."""
+        i = 0
+        while i < len(segments) and segments[i] == "before":
+            place = self.rows[place][1]
+            if place is None:
+                raise Unfit("before the start")
+            i += 1
+        if i == len(segments):
+            return place, None
+        here = place
+        name = segments[i]
+        row = self.rows[here]
+        old, new = row[2]
+        alike = lambda it: re.sub("[-_]", "", it).lower()
+        if alike(name) == alike(old) and name:
+            rest = segments[i + 1:]
+            if rest:
+                for was, now in row[4]:
+                    if rest[0] == was:
+                        rest = [now] + rest[1:]
+                        break
+            return None, [new] + rest
+        return None, segments[i:]
+
+
+VARIABLE = r"[A-Za-zκ][\w₀-₉']*"
+
+
+def translate(body, env, walk, lost):
+    """The body with its paths as the flat record has them."""
+    # let x = path in
+    def let(m):
+        var, path = m.group(1), m.group(2)
+        parts = path.split(".")
+        if parts[0] in env and len(parts) > 1:
+            try:
+                place, flat = walk.path(env[parts[0]], parts[1:])
+            except KeyError:
+                return m.group(0)
+            if place:
+                env[var] = place
+                return ""
+        return m.group(0)
+
+    parts_of_body = re.split(r"(\blet " + VARIABLE + r" = [^\s()]+ in\s*)", body)
+    out = []
+    for piece in parts_of_body:
+        m = re.fullmatch(r"let (" + VARIABLE + r") = ([^\s()]+) in\s*", piece)
+        if m:
+            turned = let(m)
+            if turned == "":
+                continue
+        def path(m):
+            before, var, rest = m.group(1), m.group(2), m.group(3)
+            if var not in env:
+                return m.group(0)
+            place, flat = walk.path(env[var], rest[1:].split("."))
+            if place:
+                lost.append(m.group(0))
+                return before + "c"
+            return before + ".".join(["c"] + flat)
+        piece = re.sub(r"(^|[\s(,])(" + VARIABLE + r")((?:\.[^\s().,;]+)+)", path, piece)
+        for var in list(env):
+            if var != "c":
+                piece = re.sub(r"(^|[\s(,])" + re.escape(var) + r"(?=[\s),]|$)", lambda m: m.group(1) + "c", piece)
+        out.append(piece)
+    return "".join(out)
+
+
+def convert(crate, folder, names):
+    proof = folder / "Proof.antt"
+    text = proof.read_text()
+    path = ".".join(folder.relative_to(Path("crates") / crate / "proofs").parts)
+    of = names.get(f"Rattle-{crate}-proofs.{path}.Lts")
+    if of is None:
+        raise Unfit("no names")
+    if "tie.spec" not in text:
+        raise Unfit("no tie")
+    walk = Walk(of)
+    uses, rest, head = [], [], []
+    for comments, body in blocks(text):
+        if body[0].startswith("use "):
+            if comments and not uses and not rest:
+                head = [c for c in comments if c.strip()]
+            uses.append("\n".join(body))
+        else:
+            rest.append((comments, body))
+    spec, invariants, needs, helpers = None, {}, {}, []
+    for comments, body in rest:
+        joined = "\n".join(body)
+        m = re.match(r"abbrev (\S+) : tie\.((?:invariant|decreases)-\S+)", body[0])
+        if m:
+            invariants[m.group(1)] = (m.group(2), comments, body)
+        elif "tie.spec" in joined and re.match(r"pub \S+_spec\b", body[0]):
+            spec = joined
+        elif re.match(r"(\S+) : tie\.Need-", body[0]):
+            needs[body[0].split(" ")[0]] = (comments, body)
+        elif "tie." in joined:
+            raise Unfit("speaks of the tie: " + body[0][:80])
+        else:
+            helpers.append((comments, body))
+    if spec is None:
+        raise Unfit("no spec")
+    at = spec.index("tie.spec") + len("tie.spec")
+    args = arguments(spec[at:])
+    loops = [a for a in args if a in invariants]
+    args = [a for a in args if a not in invariants]
+    goals = of["needs"]
+    if len(args) != len(goals):
+        raise Unfit(f"{len(args)} answers for {len(goals)} goals {[g[0] for g in goals]}")
+    lost = []
+    answers = []
+    for arg, goal, asked in zip(args, goals, of["asked_at"]):
+        name = goal[1]
+        comments, openings = [], []
+        if arg in needs:
+            comments, body = needs[arg]
+            k = 1
+            while k < len(body) and body[k].startswith("unfolding"):
+                openings.append(body[k])
+                k += 1
+            joined = "\n".join(body[k:])
+            m = re.match(re.escape(arg) + r"((?: \S+)*?) =\s", joined)
+            if not m:
+                raise Unfit("form of " + arg)
+            variables = m.group(1).split()
+            expr = joined[m.end():].strip("\n")
+        else:
+            m = re.match(r"\(λ ([^.]*)\.\s?", arg)
+            if not m:
+                if arg.startswith("("):
+                    raise Unfit("form of an answer: " + arg[:60])
+                variables, expr = ["c"], arg + " c"
+            else:
+                variables, expr = m.group(1).split(), arg[m.end():-1].strip()
+        plain = re.sub(r"\s+", " ", expr).strip()
+        if plain in ("search rules", "(search rules, search rules)", "(search rules, search rules, search rules)"):
+            continue
+        env = {variables[0]: asked[0]} if variables and variables[0] != "_" else {}
+        turned = translate(expr, env, walk, lost)
+        if variables and variables[0] not in ("_", "c"):
+            turned = re.sub(r"(?<![\w.])" + re.escape(variables[0]) + r"(?=[\s.),]|$)", "c", turned)
+        answers.append((name, [c for c in comments if c.strip()], openings, turned))
+    lines = []
+    used = lambda t: True
+    imports = [u for u in uses if ".Statement." not in u and " as tie" not in u]
+    module = f"Rattle.{crate}.proofs.{path}"
+    loop_of = {old: (new, live, changed) for ((old, new), live), changed in zip(of["loops"], of["changed"])}
+    if invariants:
+        out = list(head) + imports + [f"use {module}.Given as goal", ""]
+        for own, (made, comments, body) in invariants.items():
+            kind, _, loop = made.partition("-")
+            if loop not in loop_of:
+                raise Unfit(f"loop {loop} of {list(loop_of)}")
+            new, live, changed = loop_of[loop]
+            joined = "\n".join(body[1:])
+            k = [b for b in body[1:] if b.startswith("unfolding")]
+            joined = "\n".join(b for b in body[1:] if not b.startswith("unfolding"))
+            m = re.match(re.escape(own) + r"((?: \S+)*?) =\s", joined)
+            if not m:
+                raise Unfit("form of " + own)
+            params = m.group(1).split()
+            expr = joined[m.end():]
+            if len(params) != len(live) + sum(changed):
+                raise Unfit(f"{own}: parameters {params} for {live} {changed}")
+            table = {}
+            for p, v, ch in zip(params, live, changed):
+                table[p] = f"l.initial.{v}" if ch else f"l.{v}"
+            for p, v in zip(params[len(live):], [v for v, ch in zip(live, changed) if ch]):
+                table[p] = f"l.{v}"
+            expr = re.sub(r"(^|[\s(,])([^\s().,]+)(?=[\s).,]|$)", lambda m: m.group(1) + table.get(m.group(2), m.group(2)) if m.group(2) != "_" else m.group(0), expr)
+            name = f"{kind}-{new}"
+            out += [c for c in comments if c.strip()]
+            out += [f"abbrev pub {name} : goal.{name}"] + k + [f"{name} l = {expr.strip()}" if "\n" not in expr.strip() else f"{name} l =\n    {expr.strip()}", ""]
+        (folder / "Invariants.antt").write_text("\n".join(out).rstrip("\n") + "\n")
+    if answers or helpers:
+        out = list(head) + imports
+        if answers:
+            out += [f"use {module}.Goals as goal"]
+        out.append("")
+        for comments, body in helpers:
+            out += [c for c in comments if c.strip()] + body + [""]
+        for name, comments, openings, expr in answers:
+            out += comments + [f"pub {name} : goal.{name}"] + openings
+            expr = expr.strip()
+            out += [f"{name} c = {expr}" if "\n" not in expr else f"{name} c =\n    {expr}", ""]
+        (folder / "Answers.antt").write_text("\n".join(out).rstrip("\n") + "\n")
+    proof.unlink()
+    return lost
+
+
+def main():
+    crate, where, only = sys.argv[1], sys.argv[2], sys.argv[3:]
+    names = json.loads(Path(where, "names.json").read_text())
+    for proof in sorted(Path("crates", crate, "proofs").rglob("Proof.antt")):
+        folder = proof.parent
+        if only and folder.name not in only:
+            continue
+        try:
+            lost = convert(crate, folder, names)
+            print("turned:", folder, "; whole records: " + " ".join(lost) if lost else "")
+        except (Unfit, KeyError, ValueError) as e:
+            print("left:", folder, type(e).__name__, e)
+
+
+main()
