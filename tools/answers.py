@@ -42,7 +42,7 @@ def blocks(text):
         body = lines[i:j]
         while body and not body[-1].strip():
             body.pop()
-        if out and not comments and (line.startswith("unfolding ") or re.match(r"(?:pub |abbrev |unfoldable )*(\S+)", out[-1][1][0]).group(1) == line.split(" ")[0]):
+        if out and not comments and not line.startswith("use ") and (line.startswith("unfolding ") or re.match(r"(?:pub |abbrev |unfoldable )*(\S+)", out[-1][1][0]).group(1) == line.split(" ")[0]):
             out[-1][1].extend(body)
         else:
             out.append((comments, body))
@@ -91,6 +91,7 @@ class Walk:
         for row in of["places"]:
             self.rows[row[0]] = row
         self.new = dict(zip([r[0] for r in of["places"]], of["places_by_name"]))
+        self.arms = dict(zip([r[0] for r in of["places"]], of["arms"]))
 
     def path(self, place, segments):
         """The new path of the segments behind a variable at a place, or the place where they end."""
@@ -107,6 +108,11 @@ class Walk:
         row = self.rows[here]
         old, new = row[2]
         alike = lambda it: re.sub("[-_]", "", it).lower()
+        if self.arms.get(here):
+            arm, _, fields = self.arms[here]
+            for field, was, way in fields:
+                if alike(was) == alike(name) and segments[i + 1:i + 1 + len(way)] == way and way:
+                    return None, [arm, field] + segments[i + 1 + len(way):]
         if alike(name) == alike(old) and name:
             rest = segments[i + 1:]
             if rest:
@@ -190,7 +196,7 @@ def convert(crate, folder, names):
             spec = joined
         elif re.match(r"(\S+) : tie\.Need-", body[0]):
             needs[body[0].split(" ")[0]] = (comments, body)
-        elif "tie." in joined:
+        elif "tie." in joined and "tie.Need" in joined:
             raise Unfit("speaks of the tie: " + body[0][:80])
         else:
             helpers.append((comments, body))
@@ -204,7 +210,26 @@ def convert(crate, folder, names):
     if len(args) != len(goals):
         raise Unfit(f"{len(args)} answers for {len(goals)} goals {[g[0] for g in goals]}")
     lost = []
+    def with_places(comments, body):
+        """A lemma over what is known at a place."""
+        joined = "\n".join(body)
+        env = {}
+
+        def place(m):
+            old = next((r for r in walk.rows if re.sub("[-_]", "", r).lower() == re.sub("[-_]", "", m.group(2)).lower()), None)
+            if old is None:
+                raise Unfit("speaks of the tie: " + m.group(0))
+            env[m.group(1)] = old
+            return f"({m.group(1)} : goal.{walk.new[old]})"
+
+        joined = re.sub(r"\((\S+) : tie\.([^\s()]+)((?: (?:invariant|decreases)-[^\s()]+)*)\)", place, joined)
+        if "tie." in joined or list(env) not in (["c"], []):
+            raise Unfit("speaks of the tie: " + body[0][:80])
+        return comments, translate(joined, env, walk, lost).split("\n")
+
+    raw = lambda it: re.sub(r"\((?:ltb|leb|eqb|not|le_ltb|lt_ltb)-(?:true|false)(?: _)+ (c\.[^\s()]*)-raw\)", r"\1", it)
     answers = []
+    helpers = [with_places(*h) if any("tie." in b for b in h[1]) else h for h in helpers]
     for arg, goal, asked in zip(args, goals, of["asked_at"]):
         name = goal[1]
         comments, openings = [], []
@@ -229,13 +254,13 @@ def convert(crate, folder, names):
             else:
                 variables, expr = m.group(1).split(), arg[m.end():-1].strip()
         plain = re.sub(r"\s+", " ", expr).strip()
-        if plain in ("search rules", "(search rules, search rules)", "(search rules, search rules, search rules)"):
+        if not openings and plain in ("search rules", "(search rules, search rules)", "(search rules, search rules, search rules)"):
             continue
         env = {variables[0]: asked[0]} if variables and variables[0] != "_" else {}
         turned = translate(expr, env, walk, lost)
         if variables and variables[0] not in ("_", "c"):
             turned = re.sub(r"(?<![\w.])" + re.escape(variables[0]) + r"(?=[\s.),]|$)", "c", turned)
-        answers.append((name, [c for c in comments if c.strip()], openings, turned))
+        answers.append((name, [c for c in comments if c.strip()], openings, raw(turned)))
     lines = []
     used = lambda t: True
     imports = [u for u in uses if ".Statement." not in u and " as tie" not in u]
@@ -270,7 +295,7 @@ def convert(crate, folder, names):
         (folder / "Invariants.antt").write_text("\n".join(out).rstrip("\n") + "\n")
     if answers or helpers:
         out = list(head) + imports
-        if answers:
+        if answers or any("goal." in b for h in helpers for b in h[1]):
             out += [f"use {module}.Goals as goal"]
         out.append("")
         for comments, body in helpers:

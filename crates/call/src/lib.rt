@@ -16,7 +16,7 @@ use refusal::Refusal;
 use schema::Emitted;
 
 // What the call answers.
-#[derive(Drop)]
+#[derive(Clone, Copy)]
 pub enum Outcome {
     // How many field records, name bytes and columns there are.
     Schema(u32, u32, u32),

@@ -17,7 +17,7 @@ use datatype::{DataType, Zone};
 use options::TracingOptions;
 
 // What a match at an offset of the text answers: the offset where the rest begins, or that there is none.
-#[derive(Drop)]
+#[derive(Clone, Copy)]
 enum Matched {
     Rest(usize),
     No,

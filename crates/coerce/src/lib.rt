@@ -11,7 +11,7 @@ use datatype::{DataType, Zone};
 use options::TracingOptions;
 
 // The joint of two types, or that they have none (refusal 10).
-#[derive(Drop)]
+#[derive(Clone, Copy)]
 pub enum Coerced {
     Type(DataType),
     Nothing,

@@ -12,7 +12,7 @@ use refusal::Refusal;
 use text::Name;
 
 // The commands, named by Serde's data model. A number is a variant's, or how many values a tuple has.
-#[derive(Drop)]
+#[derive(Clone, Copy)]
 pub enum Command {
     Unit,
     Bool,
@@ -45,7 +45,7 @@ pub enum Command {
 }
 
 // What may stand at an offset. A key is one under map_as_struct.
-#[derive(Drop)]
+#[derive(Clone, Copy)]
 pub enum Due {
     Value,
     ValueOrEnd,
@@ -54,7 +54,7 @@ pub enum Due {
 }
 
 // What reading gives: a command and the offset behind it, or a refusal and its place.
-#[derive(Drop)]
+#[derive(Clone, Copy)]
 pub enum Read {
     Command(Command, usize),
     Refused(Refusal, usize),
@@ -111,7 +111,7 @@ fn operand_at(commands: &[u8], at: usize) -> u16
 }
 
 // The command reader: the commands, and the offset of what is read next. Reading moves it behind what was read.
-#[derive(Drop)]
+#[derive(Clone, Copy)]
 struct Reader<'a> {
     commands: &'a [u8],
     at: usize,

@@ -7,7 +7,7 @@ ghost use Rattle.std.specs.Prelude.{◌≡◌};
 ghost use Rattle.datatype.specs.Codes.{code_of, decoded, strategy_code};
 
 // Whether a timestamp has a zone: none, or UTC.
-#[derive(Drop)]
+#[derive(Clone, Copy)]
 pub enum Zone {
     Naive,
     Utc,
@@ -15,7 +15,7 @@ pub enum Zone {
 
 // The type of a column. A timestamp is in milliseconds, a time in nanoseconds, a dictionary has UInt32 keys,
 // and a union is dense.
-#[derive(Drop)]
+#[derive(Clone, Copy)]
 pub enum DataType {
     Null,
     Boolean,
@@ -46,7 +46,7 @@ pub enum DataType {
 }
 
 // How a field without a direct match in Arrow is to be read (strategy.rs). Tracing samples gives no other.
-#[derive(Drop)]
+#[derive(Clone, Copy)]
 pub enum Strategy {
     None,
     TupleAsStruct,
@@ -55,7 +55,7 @@ pub enum Strategy {
 }
 
 // What stands for a code: a type, or nothing.
-#[derive(Drop)]
+#[derive(Clone, Copy)]
 pub enum Decoded {
     Type(DataType),
     Unknown,

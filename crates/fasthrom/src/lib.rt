@@ -10,7 +10,7 @@ use call::Outcome;
 
 // What the call answers, by number: on success refusal and place are 0, on a refusal every count is.
 #[repr(C)]
-#[derive(Drop)]
+#[derive(Clone, Copy)]
 pub struct Answer {
     pub refusal: u32,
     pub place: u32,

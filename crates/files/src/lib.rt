@@ -8,7 +8,7 @@ ghost use Rattle.files.specs.Bytes.{two_bytes, three_bytes};
 
 // What came of reading: how many bytes are at the start of the buffer. Where the file cannot be read, a line on
 // standard error has said why.
-#[derive(Drop)]
+#[derive(Clone, Copy)]
 pub struct Loaded {
     pub readable: bool,
     pub bytes: usize,

@@ -66,7 +66,7 @@ fn append(place: usize, code: u32, name: Name, child: usize, table: &mut [u32])
 }
 
 // A child at a step, and how many places there are; or a refusal (9 or 11).
-#[derive(Drop)]
+#[derive(Clone, Copy)]
 pub enum Ensured {
     Child(usize, usize),
     Refused(Refusal),
@@ -168,7 +168,7 @@ pub fn sample(place: usize, kind: u32, table: &mut [u32])
 }
 
 // How many places there are, or a refusal (11).
-#[derive(Drop)]
+#[derive(Clone, Copy)]
 pub enum Made {
     Places(usize),
     Refused(Refusal),

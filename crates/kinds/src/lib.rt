@@ -14,7 +14,7 @@ use options::TracingOptions;
 use refusal::Refusal;
 
 // What kinds that meet give: a kind, or a refusal (7, 8 or 10).
-#[derive(Drop)]
+#[derive(Clone, Copy)]
 pub enum Met {
     Kind(u32),
     Refused(Refusal),

@@ -15,7 +15,7 @@ use refusal::Refusal;
 use shapes::Leaf;
 
 // Where in the table a value is traced: its place, how many places there are, and how many levels are left for containers.
-#[derive(Drop)]
+#[derive(Clone, Copy)]
 pub struct Site {
     pub place: usize,
     pub count: usize,
@@ -23,7 +23,7 @@ pub struct Site {
 }
 
 // The offset behind what was read and the count of places, or a refusal and its place.
-#[derive(Drop)]
+#[derive(Clone, Copy)]
 pub enum Traced {
     Next(usize, usize),
     Refused(Refusal, usize),

@@ -84,7 +84,7 @@ pub fn open_variant(
 
 // What comes of reading where a field or the end is due: the field's place and how many places there are; the end; or a
 // refusal at that command.
-#[derive(Drop)]
+#[derive(Clone, Copy)]
 pub enum Opened {
     Child(usize, usize),
     Ended,

@@ -9,7 +9,7 @@ ghost use Rattle.options.specs.Word.{unknown_bit, allow_null_fields, map_as_stru
 
 use datatype::DataType;
 
-#[derive(Drop)]
+#[derive(Clone, Copy)]
 pub struct TracingOptions {
     pub word: u16,
     // Whether the text is known to have no byte above 7F. Then no name in it need be tested for UTF-8.

@@ -18,7 +18,7 @@ use shapes::Step;
 const ENTRIES_FIELDS: u32 = 2;
 
 // Where the next record and the next name go.
-#[derive(Drop)]
+#[derive(Clone, Copy)]
 pub struct Ends {
     pub records: usize,
     pub names: usize,

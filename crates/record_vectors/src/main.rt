@@ -21,7 +21,7 @@ use replay::Tally;
 use text::Name;
 
 // What the records of a file are.
-#[derive(Drop)]
+#[derive(Clone, Copy)]
 pub enum Kind {
     Text,
     Name,

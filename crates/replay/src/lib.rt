@@ -10,7 +10,7 @@ ghost use Rattle.replay.specs.Records.{record_end};
 use libc::STDOUT_FILENO;
 
 // How many records there are, and how many of them differ from what is stored.
-#[derive(Drop)]
+#[derive(Clone, Copy)]
 pub struct Tally {
     pub records: usize,
     pub differ: usize,

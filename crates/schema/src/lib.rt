@@ -18,7 +18,7 @@ use refusal::Refusal;
 use walk::Walked;
 
 // What emission answers: counts of field records, name bytes and columns, or a refusal (12 to 18).
-#[derive(Drop)]
+#[derive(Clone, Copy)]
 pub enum Emitted {
     Schema(u32, u32, u32),
     Refused(Refusal),

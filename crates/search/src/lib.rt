@@ -253,7 +253,7 @@ fn side(bits: u32) -> usize
 }
 
 // A link of the search tree, as the place that has it and its number there, and the child that it leads to or 0.
-#[derive(Drop)]
+#[derive(Clone, Copy)]
 pub struct Slot {
     pub child: usize,
     pub place: usize,

@@ -40,7 +40,7 @@ pub const TUPLE: u32 = 27;
 pub const MAP_MODE: u32 = 28;
 
 // A step down from a place.
-#[derive(Drop)]
+#[derive(Clone, Copy)]
 pub enum Step {
     Element,
     Key,
@@ -111,7 +111,7 @@ pub fn unpacked(word: u32) -> Name
 }
 
 // What a variant holds: nothing, a value, the positions of a tuple, the fields of a struct.
-#[derive(Drop)]
+#[derive(Clone, Copy)]
 pub enum Contents {
     Unit,
     Value,
@@ -121,7 +121,7 @@ pub enum Contents {
 
 // What a command begins: a primitive and whether it is null, the parts of a container, a variant. 10 and 11 are passed
 // before, and 16 and 17 begin no value.
-#[derive(Drop)]
+#[derive(Clone, Copy)]
 pub enum Shape {
     Leaf(bool, u32),
     Parts(u32, u16),
@@ -131,7 +131,7 @@ pub enum Shape {
 
 // What stands before a part of a container: its end and the offset behind it, the step to the part and the offset of its
 // value, or a refusal and its place.
-#[derive(Drop)]
+#[derive(Clone, Copy)]
 pub enum Part {
     Ended(usize),
     Step(Step, usize),
@@ -140,7 +140,7 @@ pub enum Part {
 
 // A value that is a primitive: whether it is null, its type and the offset behind it; or another command, or none that
 // can stand there.
-#[derive(Drop)]
+#[derive(Clone, Copy)]
 pub enum Leaf {
     Value(bool, u32, usize),
     Other,
@@ -148,7 +148,7 @@ pub enum Leaf {
 
 // What stands where a field or the end is due: a name inside the text, which may still not be UTF-8; the end; or a
 // refusal.
-#[derive(Drop)]
+#[derive(Clone, Copy)]
 pub enum Field {
     Named(Name),
     Ended,

@@ -6,7 +6,7 @@ ghost use Rattle.text.specs.Due.{due_of, trailing, begins};
 
 // What is due after a first byte: a byte in a range, which is given by its ends, and then so many from 80 to BF;
 // or no row of the table begins with that byte.
-#[derive(Drop)]
+#[derive(Clone, Copy)]
 enum Due {
     Bytes(u8, u8, usize),
     Nothing,

@@ -1,0 +1,18 @@
+-- `put_decimal` writes digits from the last to the first: the buffer with what is left written is the buffer with all written.
+use borrow.Author.Rules.{rules}
+use mathlib.Core.Path.{◌≡◌, sym, ap, ◌∙◌}
+use Prim.Native.Nat.{ℕ, ◌+◌, ◌-◌, ◌/◌, ◌%◌, ◌≤◌, ◌<◌}
+use native.Mathlib.Omega.{arith}
+use mathlib.Core.List.{List}
+use lib.ListN.{length, set, length-set}
+use Rattle.logic.specs.Buffer.{written}
+use Rattle.logic.specs.laws.Buffer.{written_one, written_last}
+use Rattle.text.specs.Decimal.{decimal, zero_digit}
+use Rattle.text.specs.laws.Decimal.{decimal_small, decimal_step, length_step, length_positive}
+use Rattle.text.proofs.decimal.put_decimal.Given as goal
+
+abbrev pub invariant-loop-left : goal.invariant-loop-left
+invariant-loop-left l = (l.i ≡ l.at + length (decimal l.left)) × (l.i ≤ length l.out) × (length l.out ≡ length l.initial.out) × (written l.out l.at (decimal l.left) ≡ written l.initial.out l.at (decimal l.n))
+
+abbrev pub decreases-loop-left : goal.decreases-loop-left
+decreases-loop-left l = l.left

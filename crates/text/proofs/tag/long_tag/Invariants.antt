@@ -1,0 +1,14 @@
+-- `tag::long_tag` mixes eight bytes a turn: each lane is as after so many steps as turns were made.
+use borrow.Author.Rules.{rules}
+use mathlib.Core.Path.{◌≡◌, refl, ◌∙◌}
+use Prim.Native.Nat.{ℕ, suc, ◌+◌, ◌*◌, ◌-◌, ◌/◌, ◌%◌, ◌≤◌, ◌<◌}
+use native.Mathlib.Omega.{arith}
+use mathlib.Core.List.{List}
+use Rattle.text.specs.Tag.{tag_limit, four_of, mixed_of, lane_of, long_tag}
+use Rattle.text.proofs.tag.long_tag.Given as goal
+
+abbrev pub invariant-loop-i : goal.invariant-loop-i
+invariant-loop-i l = (l.i ≤ l.n) × (l.i % 8 ≡ 0) × (l.one < tag_limit) × (l.two < tag_limit) × (l.one ≡ lane_of l.bytes 0 l.n (l.i / 8)) × (l.two ≡ lane_of l.bytes 4 0 (l.i / 8))
+
+abbrev pub decreases-loop-i : goal.decreases-loop-i
+decreases-loop-i l = l.n - l.i
