@@ -1,8 +1,0 @@
--- `TracingOptions::string_type` goes by its switch.
-use borrow.Author.Rules.{rules}
-use Rattle.logic.specs.laws.Test.{chosen, other}
-use Rattle.options.proofs.TracingOptions.string_type.Statement.{statement}
-use Rattle.options.proofs.TracingOptions.string_type.Tie as tie
-
-pub string_type_spec : {M : Type 1} → statement M
-string_type_spec = tie.close (tie.spec (λ c κs. search rules) (λ c. search (chosen, rules)) (λ c. search (other, rules)))
