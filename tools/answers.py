@@ -42,7 +42,7 @@ def blocks(text):
         body = lines[i:j]
         while body and not body[-1].strip():
             body.pop()
-        if out and not comments and not line.startswith("use ") and (line.startswith("unfolding ") or re.match(r"(?:pub |abbrev |unfoldable )*(\S+)", out[-1][1][0]).group(1) == line.split(" ")[0]):
+        if out and not comments and not re.match(r"(use|module|open) ", line) and (line.startswith("unfolding ") or re.match(r"(?:pub |abbrev |unfoldable )*(\S+)", out[-1][1][0]).group(1) == line.split(" ")[0]):
             out[-1][1].extend(body)
         else:
             out.append((comments, body))

@@ -15,8 +15,7 @@ use Rattle.commands.specs.declared.Read.TheVariants as R
 use Rattle.commands.specs.Commands.{form_of, operands, width, made, name_in, stands, bad_command, bad_name, bad_key, read_command}
 use Rattle.commands.specs.Counted.{name_among}
 use Rattle.commands.specs.laws.Counted.{among_is}
-use Rattle.commands.proofs.read_command.Statement.{statement}
-use Rattle.commands.proofs.read_command.Tie as tie
+use Rattle.commands.proofs.read_command.Goals as goal
 
 none_left : (commands text : List ℕ) (at : ℕ) (due : Due) → length commands ≤ at → R.Refused F.BadCommand at ≡ read_command commands text at due
 unfolding read_command bad_command if◌then◌else◌
@@ -26,7 +25,6 @@ module _ (commands text : List ℕ) (at : ℕ) (due : Due) (byte : ℕ) (is : by
   unknown : 28 ≤ byte → R.Refused F.BadCommand at ≡ read_command commands text at due
   unfolding read_command bad_command if◌then◌else◌
   unknown h = rw (← is, lt-leb _ _ left, le-leb _ _ h)
-
 module _ (commands text : List ℕ) (at : ℕ) (due : Due) (byte : ℕ) (is : byte ≡ get_or commands at 0) (count : ℕ) (left : at < length commands)
     (known : byte < 28) (counts : count ≡ operands (form_of byte)) where
   cut_off : length commands - at < 1 + 2 * count → R.Refused F.BadCommand at ≡ read_command commands text at due
@@ -34,7 +32,6 @@ module _ (commands text : List ℕ) (at : ℕ) (due : Due) (byte : ℕ) (is : by
   cut_off h =
       let short : length commands < at + width (form_of byte) = omega arith in
       rw (← is, lt-leb _ _ left, lt-leb _ _ known, lt-ltb _ _ short)
-
 module _ (commands text : List ℕ) (at : ℕ) (due : Due) (byte : ℕ) (is : byte ≡ get_or commands at 0) (count : ℕ) (admitted : Bool)
     (left : at < length commands) (known : byte < 28) (counts : count ≡ operands (form_of byte)) (whole : 1 + 2 * count ≤ length commands - at)
     (stood : admitted ≡ stands due byte) where
@@ -50,7 +47,6 @@ module _ (commands text : List ℕ) (at : ℕ) (due : Due) (byte : ℕ) (is : by
 
   placed : not admitted ≡ false → bad_command commands at due ≡ false
   placed h = by_standing ∙ h
-
 module _ (commands text : List ℕ) (at : ℕ) (due : Due) {byte : ℕ} (is : byte ≡ get_or commands at 0) {count : ℕ} {bad : Bool}
     (stands_there : bad_command commands at due ≡ false) (counts : count ≡ operands (form_of byte))
     (named : bad ≡ bad_name text (name_among count commands (at + 1))) where
@@ -70,39 +66,31 @@ module _ (commands text : List ℕ) (at : ℕ) (due : Due) {byte : ℕ} (is : by
     unfolding read_command if◌then◌else◌
     read h e = rw (stands_there, by_name_lem, well-named, ← is, ← keyed, h, e, counts)
 
--- past the tests of refusal 4
-abbrev start : tie.Else4 → tie.Start
-start c = c.before.before.before.before.before.before.before.before.before
+pub returns-then-commands-at : goal.returns-then-commands-at
+returns-then-commands-at c = search (none_left, rules)
 
-standing : (c : tie.Else4) → bad_command (start c).args.commands.now (start c).args.at (start c).args.due ≡ false
-standing c = search (placed, rules)
+pub returns-then-byte-ge-COMMANDS : goal.returns-then-byte-ge-COMMANDS
+returns-then-byte-ge-COMMANDS c = search (unknown, rules)
 
-pub read_command_spec : {M : Type 1} → statement M
-read_command_spec =
-    tie.close
-    (tie.spec
-    (λ c. search (none_left, rules))
-    (λ c. search rules)
-    (λ c. search (unknown, rules))
-    (λ c κs. search rules)
-    (λ c. search rules)
-    (λ c. search rules)
-    (λ c. search rules)
-    (λ c. search rules)
-    (λ c. search (cut_off, rules))
-    (λ c κs. search rules)
-    (λ c. search (misplaced, rules))
-    (λ c. search rules)
-    (λ c κs. search rules)
-    (λ c. let d = c.before.before in misnamed _ _ _ _ d.before.before.before.before.before.read_byte.ensures (standing d)
-    d.before.before.before.operand-count.ensures c.before.has-bad-name.ensures c.if5.true)
-    (λ c κs. search rules)
-    (λ c. let d = c.before.before.before.before in no_key _ _ _ _ d.before.before.before.before.before.read_byte.ensures (standing d)
-    d.before.before.before.operand-count.ensures c.before.before.before.has-bad-name.ensures c.before.before.if5.false
-    c.before.is-bad-key.ensures c.if6.true)
-    (λ c. search rules)
-    (λ c κs. search rules)
-    (λ c. search rules)
-    (λ c. let d = c.before.before.before.before.before in read _ _ _ _ d.before.before.before.before.before.read_byte.ensures
-    (standing d) d.before.before.before.operand-count.ensures c.before.before.before.before.has-bad-name.ensures
-    c.before.before.before.if5.false c.before.before.is-bad-key.ensures c.before.if6.false c.command-of.ensures))
+pub returns-then-commands-at-2 : goal.returns-then-commands-at-2
+returns-then-commands-at-2 c = search (cut_off, rules)
+
+pub returns-then-not-admits : goal.returns-then-not-admits
+returns-then-not-admits c = search (misplaced, rules)
+
+pub returns-then-has_bad_name : goal.returns-then-has_bad_name
+returns-then-has_bad_name c =
+    let st : bad_command c.args.commands.now c.args.at c.args.due ≡ false = search (placed, rules) in misnamed _ _ _ _ c.read_byte-byte.ensures st
+    c.operand_count-operands.ensures c.has_bad_name.ensures c.if-has_bad_name.true
+
+pub returns-then-is_bad_key : goal.returns-then-is_bad_key
+returns-then-is_bad_key c =
+    let st : bad_command c.args.commands.now c.args.at c.args.due ≡ false = search (placed, rules) in no_key _ _ _ _ c.read_byte-byte.ensures st
+    c.operand_count-operands.ensures c.has_bad_name.ensures c.if-has_bad_name.false
+    c.is_bad_key.ensures c.if-is_bad_key.true
+
+pub returns : goal.returns
+returns c =
+    let st : bad_command c.args.commands.now c.args.at c.args.due ≡ false = search (placed, rules) in read _ _ _ _ c.read_byte-byte.ensures
+    st c.operand_count-operands.ensures c.has_bad_name.ensures
+    c.if-has_bad_name.false c.is_bad_key.ensures c.if-is_bad_key.false c.command_of.ensures
