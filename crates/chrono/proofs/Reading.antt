@@ -95,15 +95,15 @@ first s string a b c d e f g h = rw (e, f, g, h)
 module _ (s : List ℕ) (m : Matched) (dated : m ≡ scan naive_date s 0) where
   naive_of : fits naive_datetime s ≡ of_rest (λ u. leads (byte T' then naive_time) u is_empty) s m
   unfolding fits leads
-  naive_of = date_naive s 0 ∙ ap (of_rest _ s) (sym dated)
+  naive_of = date_naive s 0 ∙ ap (of_rest (λ x'. leads (◌then◌ (byte T') naive_time) x' is_empty) s) (sym dated)
 
   utc_of : fits utc_datetime s ≡ of_rest (λ u. leads (separator then naive_time then utc_zone) u is_empty) s m
   unfolding fits leads
-  utc_of = date_utc s 0 ∙ ap (of_rest _ s) (sym dated)
+  utc_of = date_utc s 0 ∙ ap (of_rest (λ x'. leads (◌then◌ separator (◌then◌ naive_time utc_zone)) x' is_empty) s) (sym dated)
 
   date_of : fits naive_date s ≡ of_rest is_empty s m
   unfolding fits
-  date_of = date_last s 0 ∙ ap (of_rest _ s) (sym dated)
+  date_of = date_last s 0 ∙ ap (of_rest is_empty s) (sym dated)
 
 -- a text without a date is a time or a string
 module _ {r : Matched} (s : List ℕ) (string : ℕ) (flag : Bool) (sought : r ≡ scan naive_date s 0) (given : r ≡ No) (timed : flag ≡ fits naive_time s) where
@@ -144,8 +144,8 @@ module _ (s : List ℕ) (string at : ℕ) (dated : Rest at ≡ scan naive_date s
     no_separator p q =
         let e : No ≡ scan separator s at = sym q ∙ p in
         first s string false false false false
-        (naive_of s (Rest at) dated ∙ one_exact _ _ s at ∙ ap (of_rest _ s) (no_first (byte T') (byte blank) s at e))
-        (utc_of s (Rest at) dated ∙ separator_exact _ s at ∙ ap (of_rest _ s) (sym e))
+        (naive_of s (Rest at) dated ∙ one_exact _ _ s at ∙ ap (of_rest (λ x'. leads naive_time x' is_empty) s) (no_first (byte T') (byte blank) s at e))
+        (utc_of s (Rest at) dated ∙ separator_exact _ s at ∙ ap (of_rest (λ x'. leads naive_time x' (λ u. leads utc_zone u is_empty)) s) (sym e))
         (no_time s at dated)
         no_date
 
@@ -162,7 +162,7 @@ module _ (s : List ℕ) (string at : ℕ) (dated : Rest at ≡ scan naive_date s
 
       utc_time : fits utc_datetime s ≡ of_rest (λ u. leads utc_zone u is_empty) s (scan naive_time s next)
       unfolding leads
-      utc_time = utc_of s (Rest at) dated ∙ separator_exact _ s at ∙ ap (of_rest _ s) (sym separated) ∙ time_zone s next
+      utc_time = utc_of s (Rest at) dated ∙ separator_exact _ s at ∙ ap (of_rest (λ x'. leads naive_time x' (λ u. leads utc_zone u is_empty)) s) (sym separated) ∙ time_zone s next
 
       pub no_time_next : {q : Matched} → q ≡ scan naive_time s next → q ≡ No → string ≡ first_fit date_texts s string
       unfolding if◌then◌else◌
