@@ -24,8 +24,7 @@ use Rattle.shapes.specs.Shapes.{shape_at, plain_byte}
 use Rattle.shapes.specs.Leaf.{plain_kind, leaf_by, leaf_read, leaf_at}
 use Rattle.shapes.specs.laws.Leaf.{past_none, plain_leaf}
 use Rattle.shapes.specs.laws.Bytes.{bare_read}
-use Rattle.shapes.proofs.leaf_at.Statement.{statement}
-use Rattle.shapes.proofs.leaf_at.Tie as tie
+use Rattle.shapes.proofs.leaf_at.Goals as goal
 
 ended : (options : ℕ) (commands text : List ℕ) (at : ℕ) → length commands ≤ at → O.Other ≡ leaf_at options commands text at
 unfolding leaf_at read_command bad_command if◌then◌else◌
@@ -56,22 +55,17 @@ module _ (options : ℕ) (commands text : List ℕ) (at byte : ℕ) (there : at 
   unfolding shape_at form_of plain_byte
   none_there b = alone 0x0F C.None (O.Value true null (at + 1)) b refl refl refl
 
-pub leaf_at_spec : {M : Type 1} → statement M
-leaf_at_spec =
-    tie.close
-    (tie.spec
-    (λ c. search (ended, rules))
-    (λ c κs. search rules)
-    (λ c κs. search rules)
-    (λ c. search rules)
-    (λ c. search (plain_leaf, rules))
-    (λ c κs. search rules)
-    (λ c. search rules)
-    (λ c κs. search rules)
-    (λ c κs. search rules)
-    (λ c. search rules)
-    (λ c. search rules)
-    (λ c. search (bytes_there, rules))
-    (λ c. search rules)
-    (λ c. search (none_there, rules))
-    (λ c. search (none_follows, rules)))
+pub returns-then-commands-at : goal.returns-then-commands-at
+returns-then-commands-at c = search (ended, rules)
+
+pub returns-then-byte-lt-TEXT : goal.returns-then-byte-lt-TEXT
+returns-then-byte-lt-TEXT c = search (plain_leaf, rules)
+
+pub returns-then-byte-eq-BYTES : goal.returns-then-byte-eq-BYTES
+returns-then-byte-eq-BYTES c = search (bytes_there, rules)
+
+pub returns-then-byte-eq-NONE : goal.returns-then-byte-eq-NONE
+returns-then-byte-eq-NONE c = search (none_there, rules)
+
+pub returns : goal.returns
+returns c = search (none_follows, rules)

@@ -11,8 +11,7 @@ use Rattle.text.specs.declared.Name.{Name}
 use Rattle.text.specs.Name.{inside}
 use Rattle.commands.specs.Commands.{name_at}
 use Rattle.shapes.specs.Shapes.{named_at}
-use Rattle.shapes.proofs.is_named.Statement.{statement}
-use Rattle.shapes.proofs.is_named.Tie as tie
+use Rattle.shapes.proofs.is_named.Goals as goal
 
 module _ (commands text : List ℕ) (byte at : ℕ) where
   ended : length commands ≤ at → false ≡ named_at commands text byte at
@@ -32,16 +31,14 @@ module _ (commands text : List ℕ) (byte at : ℕ) where
     unfolding named_at
     by_name_lem name flag b n i = rw (le-leb (at + 5) (length commands) (omega arith), ← is, eq-eqb first byte b) (rw n at i)
 
-pub is_named_spec : {M : Type 1} → statement M
-is_named_spec =
-    tie.close
-    (tie.spec
-    (λ c. search (ended, rules))
-    (λ c. search rules)
-    (λ c. search (cut_off, rules))
-    (λ c κs. search rules)
-    (λ c. search (other_byte, c.if3.true, rules))
-    (λ c. search rules)
-    (λ c κs. search rules)
-    (λ c κs. search rules)
-    (λ c. search (by_name_lem, rules)))
+pub returns-then-commands-at : goal.returns-then-commands-at
+returns-then-commands-at c = search (ended, rules)
+
+pub returns-then-commands-at-lt5 : goal.returns-then-commands-at-lt5
+returns-then-commands-at-lt5 c = search (cut_off, rules)
+
+pub returns-then-read_byte-byte : goal.returns-then-read_byte-byte
+returns-then-read_byte-byte c = search (other_byte, c.if-read_byte-byte.true, rules)
+
+pub returns : goal.returns
+returns c = search (by_name_lem, rules)

@@ -11,11 +11,10 @@ use Rattle.text.specs.Utf8.{is_utf8}
 use Rattle.text.specs.laws.Ascii.{ascii_name}
 use Rattle.shapes.specs.Steps.{Inside}
 use Rattle.shapes.specs.Leaf.{Told}
-use Rattle.shapes.proofs.is_good.Statement.{statement}
-use Rattle.shapes.proofs.is_good.Tie as tie
+use Rattle.shapes.proofs.is_good.Goals as goal
 
 told_good : (text : List ℕ) (name : Name) (options : TracingOptions) → Inside text name → Told options text → options.ascii ≡ true → true ≡ is_utf8 (bytes_of text name)
 told_good text name options inside told e = sym (ascii_name text name (told e) inside)
 
-pub is_good_spec : {M : Type 1} → statement M
-is_good_spec = tie.close (tie.spec (λ c. search (told_good, rules)) (λ c κs. search rules) (λ c. search rules))
+pub returns-then-options : goal.returns-then-options
+returns-then-options c = search (told_good, rules)

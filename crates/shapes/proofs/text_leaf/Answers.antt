@@ -20,8 +20,7 @@ use Rattle.shapes.specs.Steps.{Inside}
 use Rattle.shapes.specs.Shapes.{shape_at, named_at}
 use Rattle.shapes.specs.laws.Bytes.{named_fits, named_inside, named_read, named_refused, read_named}
 use Rattle.shapes.specs.Leaf.{leaf_read, leaf_at}
-use Rattle.shapes.proofs.text_leaf.Statement.{statement}
-use Rattle.shapes.proofs.text_leaf.Tie as tie
+use Rattle.shapes.proofs.text_leaf.Goals as goal
 
 module _ (options : ℕ) (commands text : List ℕ) (at : ℕ) (flag : Bool) (f : flag ≡ named_at commands text text_byte at) where
   by_read : (answer : Read) → read_command commands text at D.Value ≡ answer → get_or commands at 0 ≡ text_byte → flag ≡ false → O.Other ≡ leaf_read options text answer
@@ -45,16 +44,26 @@ module _ (options : ℕ) (commands text : List ℕ) (at : ℕ) (flag : Bool) (f 
     unfolding leaf_at form_of shape_at
     a_text kind g holds k = rw (named_read commands text text_byte at flag f is D.Value C.Text refl (omega arith) refl (sym (rw n at g) ∙ holds) refl, k, n)
 
-pub text_leaf_spec : {M : Type 1} → statement M
-text_leaf_spec =
-    tie.close
-    (tie.spec
-    (λ c κs. search rules)
-    (λ c. record { fits = omega (arith, named_fits _ _ _ _ _ c.before.is-named.ensures c.if1.true) })
-    (λ c κs. omega (arith, named_fits _ _ _ _ _ c.before.is-named.ensures c.if1.true))
-    (λ c κs. search (inside, rules))
-    (λ c κs. search (inside, rules))
-    (λ c. record { fits = omega (arith, named_fits _ _ _ _ _ c.before.before.before.before.before.is-named.ensures c.before.before.before.before.if1.true) })
-    (λ c. search (a_text, rules))
-    (λ c. search (misnamed, rules))
-    (λ c. search (unnamed, rules)))
+pub overflow_add-at : goal.overflow_add-at
+overflow_add-at c = record { fits = omega (arith, named_fits _ _ _ _ _ c.is_named.ensures c.if-is_named.true) }
+
+pub read_name-name-requires : goal.read_name-name-requires
+read_name-name-requires c = omega (arith, named_fits _ _ _ _ _ c.is_named.ensures c.if-is_named.true)
+
+pub is_good-requires : goal.is_good-requires
+is_good-requires c = search (inside, rules)
+
+pub text_kind-requires : goal.text_kind-requires
+text_kind-requires c = search (inside, rules)
+
+pub overflow_add-result : goal.overflow_add-result
+overflow_add-result c = record { fits = omega (arith, named_fits _ _ _ _ _ c.is_named.ensures c.if-is_named.true) }
+
+pub returns-then-is_good : goal.returns-then-is_good
+returns-then-is_good c = search (a_text, rules)
+
+pub returns-else-is_good : goal.returns-else-is_good
+returns-else-is_good c = search (misnamed, rules)
+
+pub returns-else-is_named : goal.returns-else-is_named
+returns-else-is_named c = search (unnamed, rules)

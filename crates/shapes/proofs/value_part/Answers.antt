@@ -17,8 +17,7 @@ use Rattle.shapes.specs.declared.Step.{Step}
 use Rattle.shapes.specs.declared.Part.TheVariants as P
 use Rattle.shapes.specs.Shapes.{value_part, plain_byte, plain_at, takes_value}
 use Rattle.shapes.specs.laws.Bytes.{bare_read, bare_no_end}
-use Rattle.shapes.proofs.value_part.Statement.{statement}
-use Rattle.shapes.proofs.value_part.Tie as tie
+use Rattle.shapes.proofs.value_part.Goals as goal
 
 value_at_once : (commands text : List ℕ) (at : ℕ) (due : Due) (step : Step) (flag : Bool) → takes_value due ≡ true → flag ≡ plain_at commands at → flag ≡ true →
     P.Step step at ≡ value_part commands step at (read_command commands text at due)
@@ -28,35 +27,22 @@ value_at_once commands text at due step flag t f e =
     both (ltb at (length commands)) (plain_byte byte) (sym f ∙ e) λ p q.
     rw (bare_read commands text at byte due refl (ltb-true at (length commands) p) q t, bare_no_end byte q)
 
-returns-2 : tie.Need-returns-2
-returns-2 c = rw (c.place.ensures, c.before.refusal.ensures, ← c.before.before.before.before.read-command.ensures, c.before.before.enum_told.given.1)
+pub returns-then-is_plain : goal.returns-then-is_plain
+returns-then-is_plain c = search (value_at_once, rules)
 
-there : tie.Need-read-byte-requires
-there c κs =
-    let e = c.before.before.before.read-command.ensures in
-    let h = c.before.read.given.1 in
+pub returns-in_default : goal.returns-in_default
+returns-in_default c = rw (c.place.ensures, c.refusal.ensures, ← c.read_command-read.ensures, c.in_default.is)
+
+pub read_byte-requires : goal.read_byte-requires
+read_byte-requires c =
+    let e = c.read_command-read.ensures in
+    let h = c.in-Command.is in
     omega (arith, next_above _ _ _ _ _ _ _ e h, next_within _ _ _ _ _ _ _ e h)
 
-returns-3 : tie.Need-returns-3
+pub returns-then-read_byte-eq-END : goal.returns-then-read_byte-eq-END
 unfolding if◌then◌else◌
-returns-3 c = rw (← c.before.before.before.before.before.read-command.ensures, c.before.before.before.read.given.1, ← c.before.read_byte.ensures, eq-eqb _ _ c.if2.true)
+returns-then-read_byte-eq-END c = rw (← c.read_command-read.ensures, c.in-Command.is, ← c.read_byte.ensures, eq-eqb _ _ c.if-read_byte-eq-END.true)
 
-returns-4 : tie.Need-returns-4
+pub returns-else-read_byte-eq-END : goal.returns-else-read_byte-eq-END
 unfolding if◌then◌else◌
-returns-4 c = rw (← c.before.before.before.before.before.read-command.ensures, c.before.before.before.read.given.1, ← c.before.read_byte.ensures, ne_eqb _ _ c.if2.false)
-
-pub value_part_spec : {M : Type 1} → statement M
-value_part_spec =
-    tie.close
-    (tie.spec
-    (λ c κs. search rules)
-    (λ c. search (value_at_once, rules))
-    (λ c κs. search rules)
-    (λ c. search rules)
-    (λ c. search rules)
-    (λ c κs. search rules)
-    (λ c κs. search rules)
-    returns-2
-    there
-    returns-3
-    returns-4)
+returns-else-read_byte-eq-END c = rw (← c.read_command-read.ensures, c.in-Command.is, ← c.read_byte.ensures, ne_eqb _ _ c.if-read_byte-eq-END.false)

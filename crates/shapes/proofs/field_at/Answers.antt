@@ -21,8 +21,7 @@ use Rattle.shapes.specs.declared.Field.TheVariants as O
 use Rattle.shapes.specs.Shapes.{begins_at, named_at}
 use Rattle.shapes.specs.laws.Bytes.{named_fits, end_read}
 use Rattle.shapes.specs.Field.{opener_of, due_of, end_or, field_at}
-use Rattle.shapes.proofs.field_at.Statement.{statement}
-use Rattle.shapes.proofs.field_at.Tie as tie
+use Rattle.shapes.proofs.field_at.Goals as goal
 
 due_has : (P : Due → Type 0) (kind : ℕ) → P D.FieldOrEnd → P D.KeyOrEnd → P (due_of kind)
 due_has P kind p q = if_either P (eqb kind struct_kind) p q
@@ -54,21 +53,20 @@ module _ (commands text : List ℕ) (kind at byte : ℕ) (flag : Bool) (b : byte
     a_refusal : (which refusal : Refusal) (place : ℕ) → which ≡ refusal_of answer → answer ≡ R.Refused refusal place → O.Refused which ≡ field_at commands text kind at
     a_refusal which refusal place w h = rw (w, h) (rw h at read_on)
 
-pub field_at_spec : {M : Type 1} → statement M
-field_at_spec =
-    tie.close
-    (tie.spec
-    (λ c κs. search rules)
-    (λ c κs. search rules)
-    (λ c. record { fits = omega (arith, named_fits _ _ _ _ _ c.before.is-named.ensures c.if1.true) })
-    (λ c κs. omega (arith, named_fits _ _ _ _ _ c.before.is-named.ensures c.if1.true))
-    (λ c. search (a_name, rules))
-    (λ c κs. search rules)
-    (λ c. search (at_once, rules))
-    (λ c κs. search rules)
-    (λ c κs. search rules)
-    (λ c. search rules)
-    (λ c. search rules)
-    (λ c κs. search rules)
-    (λ c. search (a_refusal, rules))
-    (λ c. search (an_end, rules)))
+pub overflow_add-at : goal.overflow_add-at
+overflow_add-at c = record { fits = omega (arith, named_fits _ _ _ _ _ c.is_named.ensures c.if-is_named.true) }
+
+pub read_name-requires : goal.read_name-requires
+read_name-requires c = omega (arith, named_fits _ _ _ _ _ c.is_named.ensures c.if-is_named.true)
+
+pub returns-then-is_named : goal.returns-then-is_named
+returns-then-is_named c = search (a_name, rules)
+
+pub returns-then-begins_at : goal.returns-then-begins_at
+returns-then-begins_at c = search (at_once, rules)
+
+pub returns-in_default : goal.returns-in_default
+returns-in_default c = search (a_refusal, rules)
+
+pub returns : goal.returns
+returns c = search (an_end, rules)

@@ -7,21 +7,11 @@ use Prim.Native.Nat.{ℕ}
 use Rattle.logic.specs.Test.{if◌then◌else◌}
 use Rattle.options.specs.Word.{guess_dates, string_type}
 use Rattle.chrono.specs.Text.{text_type}
-use Rattle.shapes.proofs.text_kind.Statement.{statement}
-use Rattle.shapes.proofs.text_kind.Tie as tie
+use Rattle.shapes.proofs.text_kind.Goals as goal
 
 no_date : (word : ℕ) (s : List ℕ) (guess : Bool) (kind code : ℕ) → guess ≡ guess_dates word → guess ≡ false → kind ≡ code → code ≡ string_type word → kind ≡ text_type word s
 unfolding text_type if◌then◌else◌
 no_date word s guess kind code g e k c = rw (← g, e) (k ∙ c)
 
-pub text_kind_spec : {M : Type 1} → statement M
-text_kind_spec =
-    tie.close
-    (tie.spec
-    (λ c κs. search rules)
-    (λ c κs. search rules)
-    (λ c. search rules)
-    (λ c κs. search rules)
-    (λ c κs. search rules)
-    (λ c. search rules)
-    (λ c. search (no_date, rules)))
+pub returns : goal.returns
+returns c = search (no_date, rules)
