@@ -113,6 +113,9 @@ class Walk:
             for field, was, way in fields:
                 if alike(was) == alike(name) and segments[i + 1:i + 1 + len(way)] == way and way:
                     return None, [arm, field] + segments[i + 1 + len(way):]
+            for field, was, way in fields:
+                if alike(was) == alike(name) and not way and segments[i + 1:]:
+                    return None, [arm, field] + segments[i + 1:]
         if alike(name) == alike(old) and name:
             rest = segments[i + 1:]
             if rest:

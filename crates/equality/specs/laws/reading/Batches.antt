@@ -122,6 +122,8 @@ values_record options r cs text v e w = values_append options r cs text (record_
 pub records_values : (options : ℕ) (text : List ℕ) (rs : List (List ℕ)) (vs : List Value) → Records options text rs vs → forget_all (values options (flatten rs) text) ≡ forget_all vs
 unfolding flatten values records_from forget_all
 records_values options text [] [] no_records = refl
+records_values options text [] (v ∷ vs) h = elim h [ ]
+records_values options text (r ∷ rs) [] h = elim h [ ]
 records_values options text (r ∷ rs) (v ∷ vs) (one_more e w h) =
     values_append_forget options r (flatten rs) text (record_whole options r text v e w) ∙ (rw (e, records_values options text rs vs h))
 
@@ -233,6 +235,7 @@ split b w =
 -- ---- records in another order
 uncons : (options : ℕ) (text : List ℕ) (P : List Value → Type 0) (r : List ℕ) (rs : List (List ℕ)) (vs : List Value) → Records options text (r ∷ rs) vs →
     ((v : Value) (ws : List Value) → values options r text ≡ v ∷ [] → is_whole v ≡ true → Records options text rs ws → P (v ∷ ws)) → P vs
+uncons options text P r rs [] h k = elim h [ ]
 uncons options text P r rs (v ∷ vs) (one_more e w h) k = k v vs e w h
 
 -- have their values in that order
