@@ -1,0 +1,22 @@
+-- `past_quick`: a law for each of its answers.
+use borrow.Author.Rules.{rules}
+use Rattle.leaves.specs.laws.Quick.{same_fits, quick_same, quick_other, quick_null, quick_known, quick_changes}
+use Rattle.leaves.proofs.past_quick.Goals as goal
+
+pub overflow_add-result : goal.overflow_add-result
+overflow_add-result c = record { fits = search (same_fits, rules) }
+
+pub returns-then-is_same : goal.returns-then-is_same
+returns-then-is_same c = search (quick_same, rules)
+
+pub returns-in_default : goal.returns-in_default
+returns-in_default c = search (quick_other, rules)
+
+pub returns-then-null : goal.returns-then-null
+returns-then-null c = search (quick_null, rules)
+
+pub returns-then-get-kind : goal.returns-then-get-kind
+returns-then-get-kind c = quick_known _ _ _ _ _ _ _ c.leaf-at.ensures _ _ _ c.null.given.1 _ c.get.ensures c.if2.false c.if-get-kind.true
+
+pub returns : goal.returns
+returns c = quick_changes _ _ _ _ _ _ _ c.leaf-at.ensures _ _ _ c.null.given.1 _ c.get.ensures c.if2.false c.if-get-kind.false
