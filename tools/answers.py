@@ -37,7 +37,7 @@ def blocks(text):
             i += 1
             continue
         j = i + 1
-        while j < len(lines) and (not lines[j].strip() or lines[j].startswith(" ")):
+        while j < len(lines) and (not lines[j].strip() or lines[j][0] in " )]}"):
             j += 1
         body = lines[i:j]
         while body and not body[-1].strip():
@@ -49,6 +49,10 @@ def blocks(text):
         comments = []
         i = j
     return out
+
+
+def name_of(line):
+    return re.match(r"(?:pub |abbrev |unfoldable |data |record )*(\S+)", line).group(1)
 
 
 def close(text, at):
@@ -85,6 +89,27 @@ def arguments(text):
     return out
 
 
+def components(text):
+    """The parts of a tuple."""
+    text = text.strip()
+    if not text.startswith("(") or close(text, 0) != len(text):
+        return None
+    out, depth, here = [], 0, ""
+    for ch in text[1:-1]:
+        if ch in "([{":
+            depth += 1
+        elif ch in ")]}":
+            depth -= 1
+        if ch == "," and depth == 0:
+            out.append(here.strip())
+            here = ""
+        else:
+            here += ch
+    if here.strip():
+        out.append(here.strip())
+    return out
+
+
 class Walk:
     def __init__(self, of):
         self.parent, self.step, self.rows = {}, {}, {}
@@ -92,6 +117,8 @@ class Walk:
             self.rows[row[0]] = row
         self.new = dict(zip([r[0] for r in of["places"]], of["places_by_name"]))
         self.arms = dict(zip([r[0] for r in of["places"]], of["arms"]))
+        self.clauses = dict(zip([r[0] for r in of["places"]], of["clauses"]))
+        self.pre = (of["pre"] or {}).get("fields")
 
     def path(self, place, segments):
         """The new path of the segments behind a variable at a place, or the place where they end."""
@@ -105,26 +132,58 @@ class Walk:
             return place, None
         here = place
         name = segments[i]
-        row = self.rows[here]
-        old, new = row[2]
         alike = lambda it: re.sub("[-_]", "", it).lower()
-        if self.arms.get(here):
-            arm, _, fields = self.arms[here]
-            for field, was, way in fields:
-                if alike(was) == alike(name) and segments[i + 1:i + 1 + len(way)] == way and way:
-                    return None, [arm, field] + segments[i + 1 + len(way):]
-            for field, was, way in fields:
-                if alike(was) == alike(name) and not way and segments[i + 1:]:
-                    return None, [arm, field] + segments[i + 1:]
-        if alike(name) == alike(old) and name:
+        arm = self.arm_of(here, name, segments[i + 1:], alike)
+        if arm:
+            return None, arm
+        row = self.nearest(here, name, alike)
+        if row and name:
+            old, new = row[2]
             rest = segments[i + 1:]
             if rest:
                 for was, now in row[4]:
                     if rest[0] == was:
                         rest = [now] + rest[1:]
                         break
+                names = self.clauses.get(row[0])
+                if rest[0] == "ensures" and names and rest[1:] and rest[1].isdigit():
+                    rest = ["ensures", names[int(rest[1])]] + rest[2:]
             return None, [new] + rest
-        return None, segments[i:]
+        rest = segments[i:]
+        if rest[0] == "requires" and self.pre and rest[1:] and rest[1].isdigit():
+            rest = ["requires", self.pre[int(rest[1])]] + rest[2:]
+        return None, rest
+
+    def arm_of(self, place, name, rest, alike):
+        """What an arm of a match has under an old name: at the place, or in the only arm that has it."""
+        def at(p):
+            if not self.arms.get(p):
+                return None
+            arm, _, fields = self.arms[p]
+            for field, was, way in fields:
+                if alike(was) == alike(name) and way and rest[:len(way)] == way:
+                    return [arm, field] + rest[len(way):]
+            for field, was, way in fields:
+                if alike(was) == alike(name) and not way and rest:
+                    return [arm, field] + rest
+            return None
+
+        while place is not None:
+            if at(place):
+                return at(place)
+            place = self.rows[place][1]
+        found = {tuple(at(p)) for p in self.rows if at(p)}
+        return list(found.pop()) if len(found) == 1 else None
+
+    def nearest(self, place, name, alike):
+        """The row of the step of that name: at the place, else the next above it."""
+        while place is not None:
+            row = self.rows[place]
+            if alike(row[2][0]) == alike(name):
+                return row
+            place = row[1]
+        found = [r for r in self.rows.values() if alike(r[2][0]) == alike(name)]
+        return found[0] if len({r[2][1] for r in found}) == 1 else None
 
 
 VARIABLE = r"[A-Za-zκ][\w₀-₉']*"
@@ -259,6 +318,11 @@ def convert(crate, folder, names):
         plain = re.sub(r"\s+", " ", expr).strip()
         if not openings and plain in ("search rules", "(search rules, search rules)", "(search rules, search rules, search rules)"):
             continue
+        clauses = of["asked"].get(goal[1]) or of["asked"].get(goal[0])
+        if clauses:
+            parts = components(expr)
+            if parts and len(parts) == len(clauses):
+                expr = "record { " + "; ".join(f"{n} = {p}" for n, p in zip(clauses, parts)) + " }"
         env = {variables[0]: asked[0]} if variables and variables[0] != "_" else {}
         turned = translate(expr, env, walk, lost)
         if variables and variables[0] not in ("_", "c"):
@@ -269,8 +333,24 @@ def convert(crate, folder, names):
     imports = [u for u in uses if ".Statement." not in u and " as tie" not in u]
     module = f"Rattle.{crate}.proofs.{path}"
     loop_of = {old: (new, live, changed) for ((old, new), live), changed in zip(of["loops"], of["changed"])}
+    shared = []
     if invariants:
+        said = " ".join("\n".join(body) for _, _, body in invariants.values())
+        moved = []
+        while True:
+            more = [h for h in helpers if h not in moved and not h[1][0].startswith("module") and re.search(r"(^|[\s(,])" + re.escape(name_of(h[1][0])) + r"(?=[\s).,]|$)", said)]
+            if not more:
+                break
+            moved += more
+            said += " ".join("\n".join(h[1]) for h in more)
+        helpers = [h for h in helpers if h not in moved]
+        shared = [name_of(h[1][0]) for h in moved]
         out = list(head) + imports + [f"use {module}.Given as goal", ""]
+        for comments, body in moved:
+            first = body[0]
+            if "pub " not in first.split(":")[0]:
+                first = re.sub(r"^((?:abbrev |unfoldable )?)", r"\1pub ", first, count=1)
+            out += [c for c in comments if c.strip()] + [first] + body[1:] + [""]
         for own, (made, comments, body) in invariants.items():
             kind, _, loop = made.partition("-")
             if loop not in loop_of:
@@ -300,6 +380,8 @@ def convert(crate, folder, names):
         out = list(head) + imports
         if answers or any("goal." in b for h in helpers for b in h[1]):
             out += [f"use {module}.Goals as goal"]
+        if shared:
+            out += [f"use {module}.Invariants.{{{', '.join(shared)}}}"]
         out.append("")
         for comments, body in helpers:
             out += [c for c in comments if c.strip()] + body + [""]

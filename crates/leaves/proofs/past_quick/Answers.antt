@@ -16,7 +16,7 @@ pub returns-then-null : goal.returns-then-null
 returns-then-null c = search (quick_null, rules)
 
 pub returns-then-get-kind : goal.returns-then-get-kind
-returns-then-get-kind c = quick_known _ _ _ _ _ _ _ c.leaf-at.ensures _ _ _ c.null.given.1 _ c.get.ensures c.if2.false c.if-get-kind.true
+returns-then-get-kind c = quick_known _ _ _ _ _ _ _ c.leaf_at.ensures _ _ _ c.in-Value.is _ c.get.ensures c.if-null.false c.if-get-kind.true
 
 pub returns : goal.returns
-returns c = quick_changes _ _ _ _ _ _ _ c.leaf-at.ensures _ _ _ c.null.given.1 _ c.get.ensures c.if2.false c.if-get-kind.false
+returns c = quick_changes _ _ _ _ _ _ _ c.leaf_at.ensures _ _ _ c.in-Value.is _ c.get.ensures c.if-null.false c.if-get-kind.false

@@ -55,7 +55,7 @@ pub loop-child-init : goal.loop-child-init
 loop-child-init c = (search (starts, rules), search rules)
 
 pub is_field-requires : goal.is_field-requires
-is_field-requires c = ((search rules, search rules, search rules, search (name_in_lem, rules)), (search rules, search (all_tagged, rules)))
+is_field-requires c = record { comparable = (search rules, search rules, search rules, search (name_in_lem, rules)); tag_value = (search rules, search (all_tagged, rules)) }
 
 pub returns-then-is_field : goal.returns-then-is_field
 returns-then-is_field c = search (found, rules)

@@ -14,10 +14,7 @@ use Rattle.places.specs.laws.Layout.{first_below, next_below, name_ends}
 use Rattle.search.specs.laws.Search.{children_left, left_falls, find_first, find_none, find_found, find_next}
 use Rattle.search.specs.laws.Scan.{child_field, all_tagged}
 use Rattle.search.proofs.find_linked.Goals as goal
-
--- a child has the place as its parent
-abbrev Child : List ℕ → ℕ → ℕ → Type 0
-Child t place child = (child ≡ 0 → ⊥) → word t child parent_word ≡ place
+use Rattle.search.proofs.find_linked.Invariants.{Child}
 
 module _ (text t : List ℕ) (n place : ℕ) (ready : Ready text t n place) where
   first_child : (x : ℕ) → x ≡ word t place first_word → Child t place x
@@ -38,7 +35,7 @@ pub loop-child-init : goal.loop-child-init
 loop-child-init c = (search (find_first, rules), search (first_below, rules), search (first_child, rules))
 
 pub is_long_field-requires : goal.is_long_field-requires
-is_long_field-requires c = ((search rules, search rules, search rules, search (name_ends, rules)), (search rules, search (all_tagged, rules)))
+is_long_field-requires c = record { comparable = (search rules, search rules, search rules, search (name_ends, rules)); tag_value = (search rules, search (all_tagged, rules)) }
 
 pub returns-then-is_long_field : goal.returns-then-is_long_field
 returns-then-is_long_field c = (search (here, rules), search rules)

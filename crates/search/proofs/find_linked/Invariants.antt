@@ -15,6 +15,10 @@ use Rattle.search.specs.laws.Search.{children_left, left_falls, find_first, find
 use Rattle.search.specs.laws.Scan.{child_field, all_tagged}
 use Rattle.search.proofs.find_linked.Given as goal
 
+-- a child has the place as its parent
+abbrev pub Child : List ℕ → ℕ → ℕ → Type 0
+Child t place child = (child ≡ 0 → ⊥) → word t child parent_word ≡ place
+
 abbrev pub invariant-loop-child : goal.invariant-loop-child
 invariant-loop-child l = (find_from l.text field_code l.name l.table l.child ≡ find_in l.text l.place field_code l.name l.table) × (l.child < l.count) × Child l.table l.place l.child
 
