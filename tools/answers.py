@@ -2,6 +2,7 @@
 """Turns proofs that walk the code by position (Proof.antt) into invariants and answers by name.
 
     python3 tools/answers.py CRATE NAMES [FUNCTION ..]
+    python3 tools/answers.py CRATE NAMES --cycle OLD_PROOF FOLDER
 
 NAMES is what `rt check --generated NAMES --old-names` writes in the crate's folder. A proof that does not fit is left and named."""
 import json
@@ -230,6 +231,78 @@ def translate(body, env, walk, lost):
     return "".join(out)
 
 
+def answer(arg, needs, goal, asked, of, walk, lost, before=1):
+    """A goal's answer by name, or nothing where it is left to the tactics: what stands above it, its unfolding, and its term."""
+    comments, openings = [], []
+    bare = arg.strip("()").split(" ")[0] if before > 1 else arg
+    if bare in needs:
+        comments, body = needs[bare]
+        k = 1
+        while k < len(body) and not body[k].startswith(bare):
+            openings.append(body[k])
+            k += 1
+        openings = [o for o in openings if o.startswith("unfolding")]
+        joined = "\n".join(body[k:])
+        m = re.match(re.escape(bare) + r"((?: \S+)*?) =\s", joined)
+        if not m:
+            raise Unfit("form of " + arg)
+        variables = m.group(1).split()[before - 1:]
+        expr = joined[m.end():].strip("\n")
+    else:
+        m = re.match(r"\(λ ([^.]*)\.\s?", arg)
+        if not m:
+            if arg.startswith("("):
+                raise Unfit("form of an answer: " + arg[:60])
+            variables, expr = ["c"], arg + " c"
+        else:
+            variables, expr = m.group(1).split(), arg[m.end():-1].strip()
+    plain = re.sub(r"[\s()]+", " ", expr).strip()
+    if not openings and re.fullmatch(r"(search rules,? ?)+", plain):
+        return None
+    if before > 1 and re.fullmatch(r"omega arith, (search rules,? ?)+", plain):
+        return None
+    clauses = of["asked"].get(goal[1]) or of["asked"].get(goal[0])
+    if clauses:
+        parts = components(expr)
+        if parts and len(parts) == len(clauses):
+            expr = "record { " + "; ".join(f"{n} = {p}" for n, p in zip(clauses, parts)) + " }"
+    env = {variables[0]: asked[0]} if variables and variables[0] != "_" else {}
+    turned = translate(expr, env, walk, lost)
+    if variables and variables[0] not in ("_", "c"):
+        turned = re.sub(r"(?<![\w.])" + re.escape(variables[0]) + r"(?=[\s.),]|$)", "c", turned)
+    turned = re.sub(r"\((?:ltb|leb|eqb|not|le_ltb|lt_ltb)-(?:true|false)(?: _)+ (c\.[^\s()]*)-raw\)", r"\1", turned)
+    return [c for c in comments if c.strip()], openings, turned
+
+
+def invariant(own, made, comments, body, of, stem=""):
+    """An invariant or a measure of a loop, over the record of its variables."""
+    loop_of = {old: (new, live, changed) for ((old, new), live), changed in zip(of["loops"], of["changed"])}
+    kind, _, loop = made.partition("-")
+    if loop not in loop_of:
+        raise Unfit(f"loop {loop} of {list(loop_of)}")
+    new, live, changed = loop_of[loop]
+    k = [b for b in body[1:] if b.startswith("unfolding")]
+    joined = "\n".join(b for b in body[1:] if not b.startswith("unfolding"))
+    m = re.match(re.escape(own) + r"((?: \S+)*?) =\s", joined)
+    if not m:
+        raise Unfit("form of " + own)
+    params = m.group(1).split()
+    expr = joined[m.end():]
+    if len(params) != len(live) + sum(changed):
+        raise Unfit(f"{own}: parameters {params} for {live} {changed}")
+    table = {}
+    for p, v, ch in zip(params, live, changed):
+        table[p] = f"l.initial.{v}" if ch else f"l.{v}"
+    for p, v in zip(params[len(live):], [v for v, ch in zip(live, changed) if ch]):
+        table[p] = f"l.{v}"
+    def turned(m):
+        return m.group(1) + table.get(m.group(2), m.group(2)) if m.group(2) != "_" else m.group(0)
+    expr = re.sub(r"(^|[\s(,])([^\s().,]+)(?=[\s).,]|$)", turned, expr).strip()
+    name = f"{kind}-{stem}{new}"
+    line = f"{name} l = {expr}" if "\n" not in expr else f"{name} l =\n    {expr}"
+    return [c for c in comments if c.strip()] + [f"abbrev pub {name} : goal.{name}"] + k + [line, ""]
+
+
 def convert(crate, folder, names):
     proof = folder / "Proof.antt"
     text = proof.read_text()
@@ -266,12 +339,12 @@ def convert(crate, folder, names):
         raise Unfit("no spec")
     at = spec.index("tie.spec") + len("tie.spec")
     args = arguments(spec[at:])
-    loops = [a for a in args if a in invariants]
     args = [a for a in args if a not in invariants]
     goals = of["needs"]
     if len(args) != len(goals):
         raise Unfit(f"{len(args)} answers for {len(goals)} goals {[g[0] for g in goals]}")
     lost = []
+
     def with_places(comments, body):
         """A lemma over what is known at a place."""
         joined = "\n".join(body)
@@ -289,60 +362,31 @@ def convert(crate, folder, names):
             raise Unfit("speaks of the tie: " + body[0][:80])
         return comments, translate(joined, env, walk, lost).split("\n")
 
-    raw = lambda it: re.sub(r"\((?:ltb|leb|eqb|not|le_ltb|lt_ltb)-(?:true|false)(?: _)+ (c\.[^\s()]*)-raw\)", r"\1", it)
-    answers = []
     helpers = [with_places(*h) if any("tie." in b for b in h[1]) else h for h in helpers]
+    answers = []
     for arg, goal, asked in zip(args, goals, of["asked_at"]):
-        name = goal[1]
-        comments, openings = [], []
-        if arg in needs:
-            comments, body = needs[arg]
-            k = 1
-            while k < len(body) and body[k].startswith("unfolding"):
-                openings.append(body[k])
-                k += 1
-            joined = "\n".join(body[k:])
-            m = re.match(re.escape(arg) + r"((?: \S+)*?) =\s", joined)
-            if not m:
-                raise Unfit("form of " + arg)
-            variables = m.group(1).split()
-            expr = joined[m.end():].strip("\n")
-        else:
-            m = re.match(r"\(λ ([^.]*)\.\s?", arg)
-            if not m:
-                if arg.startswith("("):
-                    raise Unfit("form of an answer: " + arg[:60])
-                variables, expr = ["c"], arg + " c"
-            else:
-                variables, expr = m.group(1).split(), arg[m.end():-1].strip()
-        plain = re.sub(r"\s+", " ", expr).strip()
-        if not openings and plain in ("search rules", "(search rules, search rules)", "(search rules, search rules, search rules)"):
-            continue
-        clauses = of["asked"].get(goal[1]) or of["asked"].get(goal[0])
-        if clauses:
-            parts = components(expr)
-            if parts and len(parts) == len(clauses):
-                expr = "record { " + "; ".join(f"{n} = {p}" for n, p in zip(clauses, parts)) + " }"
-        env = {variables[0]: asked[0]} if variables and variables[0] != "_" else {}
-        turned = translate(expr, env, walk, lost)
-        if variables and variables[0] not in ("_", "c"):
-            turned = re.sub(r"(?<![\w.])" + re.escape(variables[0]) + r"(?=[\s.),]|$)", "c", turned)
-        answers.append((name, [c for c in comments if c.strip()], openings, raw(turned)))
-    lines = []
-    used = lambda t: True
+        one = answer(arg, needs, goal, asked, of, walk, lost)
+        if one:
+            answers.append((goal[1], *one))
     imports = [u for u in uses if ".Statement." not in u and " as tie" not in u]
     module = f"Rattle.{crate}.proofs.{path}"
-    loop_of = {old: (new, live, changed) for ((old, new), live), changed in zip(of["loops"], of["changed"])}
+    said = [line for own, (made, comments, body) in invariants.items() for line in invariant(own, made, comments, body, of)]
+    write(folder, module, head, imports, said, helpers, answers, "c")
+    proof.unlink()
+    return lost
+
+
+def write(folder, module, head, imports, said, helpers, answers, variables):
     shared = []
-    if invariants:
-        said = " ".join("\n".join(body) for _, _, body in invariants.values())
+    if said:
+        told = " ".join(said)
         moved = []
         while True:
-            more = [h for h in helpers if h not in moved and not h[1][0].startswith("module") and re.search(r"(^|[\s(,])" + re.escape(name_of(h[1][0])) + r"(?=[\s).,]|$)", said)]
+            more = [h for h in helpers if h not in moved and not h[1][0].startswith("module") and re.search(r"(^|[\s(,])" + re.escape(name_of(h[1][0])) + r"(?=[\s).,]|$)", told)]
             if not more:
                 break
             moved += more
-            said += " ".join("\n".join(h[1]) for h in more)
+            told += " ".join("\n".join(h[1]) for h in more)
         helpers = [h for h in helpers if h not in moved]
         shared = [name_of(h[1][0]) for h in moved]
         out = list(head) + imports + [f"use {module}.Given as goal", ""]
@@ -351,30 +395,7 @@ def convert(crate, folder, names):
             if "pub " not in first.split(":")[0]:
                 first = re.sub(r"^((?:abbrev |unfoldable )?)", r"\1pub ", first, count=1)
             out += [c for c in comments if c.strip()] + [first] + body[1:] + [""]
-        for own, (made, comments, body) in invariants.items():
-            kind, _, loop = made.partition("-")
-            if loop not in loop_of:
-                raise Unfit(f"loop {loop} of {list(loop_of)}")
-            new, live, changed = loop_of[loop]
-            joined = "\n".join(body[1:])
-            k = [b for b in body[1:] if b.startswith("unfolding")]
-            joined = "\n".join(b for b in body[1:] if not b.startswith("unfolding"))
-            m = re.match(re.escape(own) + r"((?: \S+)*?) =\s", joined)
-            if not m:
-                raise Unfit("form of " + own)
-            params = m.group(1).split()
-            expr = joined[m.end():]
-            if len(params) != len(live) + sum(changed):
-                raise Unfit(f"{own}: parameters {params} for {live} {changed}")
-            table = {}
-            for p, v, ch in zip(params, live, changed):
-                table[p] = f"l.initial.{v}" if ch else f"l.{v}"
-            for p, v in zip(params[len(live):], [v for v, ch in zip(live, changed) if ch]):
-                table[p] = f"l.{v}"
-            expr = re.sub(r"(^|[\s(,])([^\s().,]+)(?=[\s).,]|$)", lambda m: m.group(1) + table.get(m.group(2), m.group(2)) if m.group(2) != "_" else m.group(0), expr)
-            name = f"{kind}-{new}"
-            out += [c for c in comments if c.strip()]
-            out += [f"abbrev pub {name} : goal.{name}"] + k + [f"{name} l = {expr.strip()}" if "\n" not in expr.strip() else f"{name} l =\n    {expr.strip()}", ""]
+        out += said
         (folder / "Invariants.antt").write_text("\n".join(out).rstrip("\n") + "\n")
     if answers or helpers:
         out = list(head) + imports
@@ -386,17 +407,87 @@ def convert(crate, folder, names):
         for comments, body in helpers:
             out += [c for c in comments if c.strip()] + body + [""]
         for name, comments, openings, expr in answers:
-            out += comments + [f"pub {name} : goal.{name}"] + openings
             expr = expr.strip()
-            out += [f"{name} c = {expr}" if "\n" not in expr else f"{name} c =\n    {expr}", ""]
+            out += comments + [f"pub {name} : goal.{name}"] + openings
+            out += [f"{name} {variables} = {expr}" if "\n" not in expr else f"{name} {variables} =\n    {expr}", ""]
         (folder / "Answers.antt").write_text("\n".join(out).rstrip("\n") + "\n")
-    proof.unlink()
+
+
+def convert_cycle(crate, proof, folder, names):
+    """A cycle's proof: of each member what its own call of spec answers."""
+    text = proof.read_text()
+    path = ".".join(folder.relative_to(Path("crates") / crate / "proofs").parts)
+    uses, rest, head, members = [], [], [], {}
+    for comments, body in blocks(text):
+        joined = "\n".join(body)
+        if body[0].startswith("use "):
+            if comments and not uses and not rest:
+                head = [c for c in comments if c.strip()]
+            m = re.search(r"\.Lts-(\S+) as (\S+)$", joined)
+            if m:
+                members[m.group(2)] = m.group(1)
+            if not re.search(r"(\.Lts-|\.Reads as|\.Kinds as|\.\{\s*statement|\.Tie\.|borrow\.Fn\.)", joined):
+                uses.append(joined)
+        else:
+            rest.append((comments, body))
+    of = {alias: names[f"Rattle-{crate}-proofs.{path}.Lts-{member}"] for alias, member in members.items()}
+    params = {}
+    for one in of.values():
+        params.update(one["params"])
+    spec, invariants, needs, helpers, said = None, {}, {}, [], []
+    for comments, body in rest:
+        joined = "\n".join(body)
+        m = re.match(r"abbrev (\S+) : ([^\s.]+-lts)\.((?:invariant|decreases)-\S+)", body[0])
+        measure = re.match(r"abbrev μ[-_](\S+) :", body[0])
+        if m:
+            invariants[m.group(1)] = (m.group(2), m.group(3), comments, body)
+        elif measure:
+            member = measure.group(1).replace("-", "_")
+            listed = next(v for k, v in params.items() if k.endswith("::" + member))
+            term = joined.split(" = ", 1)[1]
+
+            def field(m):
+                return "l." + listed[m.group(1).count(".1")] + (m.group(2) or "")
+            term = re.sub(r"\ba((?:\.1)*)\.0((?:\.[a-z_]+)*)", field, term)
+            said += [f"abbrev pub decreases-{member} : goal.decreases-{member}", f"decreases-{member} l = {term}", ""]
+        elif re.search(r"(?:^|\n)\S*spec =", joined) and "-lts.spec" in joined:
+            spec = joined
+        elif re.match(r"(\S+) : \(t : ℕ\) → [^\s.]+-lts\.Need-", body[0]):
+            needs[body[0].split(" ")[0]] = (comments, body)
+        elif re.match(r"abbrev \S+(_at|_below|_claims|-at|-below|-claims) :|abbrev (level|lower) :", body[0]):
+            continue
+        else:
+            helpers.append((comments, body))
+    if spec is None:
+        raise Unfit("no spec")
+    lost, answers = [], []
+    for piece in re.split(r"(?=\bλ t\. )", spec[spec.index("="):])[1:]:
+        m = re.match(r"λ t\. (\S+)\.spec", piece)
+        alias = m.group(1)
+        one = of[alias]
+        walk = Walk(one)
+        args = arguments(piece[m.end():])[3:]
+        args = [a for a in args if a not in invariants]
+        goals = one["needs"]
+        if len(args) != len(goals):
+            raise Unfit(f"{alias}: {len(args)} answers for {len(goals)} goals {[g[0] for g in goals]}")
+        for arg, goal, asked in zip(args, goals, one["asked_at"]):
+            done = answer(arg, needs, goal, asked, one, walk, lost, before=2)
+            if done:
+                answers.append((one["stem"] + goal[1], *done))
+    for own, (alias, made, comments, body) in invariants.items():
+        said += invariant(own, made, comments, body, of[alias], of[alias]["stem"])
+    folder.mkdir(parents=True, exist_ok=True)
+    write(folder, f"Rattle.{crate}.proofs.{path}", head, uses, said, helpers, answers, "t c")
     return lost
 
 
 def main():
     crate, where, only = sys.argv[1], sys.argv[2], sys.argv[3:]
     names = json.loads(Path(where, "names.json").read_text())
+    if only and only[0] == "--cycle":
+        print(convert_cycle(crate, Path(only[1]), Path(only[2]), names))
+        return
     for proof in sorted(Path("crates", crate, "proofs").rglob("Proof.antt")):
         folder = proof.parent
         if only and folder.name not in only:

@@ -1,7 +1,7 @@
 -- When a stored question and the call agree: the model's answer, which the call gives, is the one that is stored, and what is left in the
 -- table and the buffers, in the parts that were lent and in the others, is what must be.
 use Rattle.std.specs.Prelude.{◌≡◌, Bool, ◌&&◌, List, ◌++◌, ℕ, min, eqb, leb, length, take, drop, replicate}
-use Rattle.logic.specs.Slices.{Slice, at_entry}
+use Rattle.logic.specs.Slices.{Slice, MutSlice, now_of}
 use Rattle.text.specs.Name.{eq_name}
 use Rattle.files.specs.Bytes.{two_bytes, between}
 use Rattle.questions.specs.Question.{number_at, names_from, commands_in, text_in, records_in, names_in, question_end}
@@ -97,10 +97,10 @@ question_tally vectors = tally (length vectors) (question_end vectors) (λ at. a
 
 -- ---- the same of slices, as contracts have them
 -- the call, lent as much of the table and the buffers as a question says
-abbrev pub CalledOver : (question commands text table fields names : Slice) → R.Answer → Type 0
+abbrev pub CalledOver : (question commands text : Slice) (table fields names : MutSlice) → R.Answer → Type 0
 CalledOver question commands text table fields names r =
     said r (left_in table fields names)
-    ≡ answer_over (at_entry question) (handed (at_entry question) (at_entry commands) (at_entry text)) (lent_in table fields names)
+    ≡ answer_over (now_of question) (handed (now_of question) (now_of commands) (now_of text)) (lent_in table fields names)
 
 abbrev pub Met : (question commands text records names : Slice) → Type 0
-Met question commands text records names = Gives (at_entry question) (at_entry commands) (at_entry text) (at_entry records) (at_entry names)
+Met question commands text records names = Gives (now_of question) (now_of commands) (now_of text) (now_of records) (now_of names)

@@ -1,6 +1,6 @@
 -- What the call promises: its answer, and what it leaves in what was lent, are the model's `answer` of what was handed in.
 use Rattle.std.specs.Prelude.{◌≡◌, List, ℕ, length}
-use Rattle.logic.specs.Slices.{Slice, at_entry, at_exit}
+use Rattle.logic.specs.Slices.{Slice, MutSlice, now_of, at_entry, at_exit}
 use Rattle.refusal.specs.Number.{number_of}
 use Rattle.model.specs.Answer as M
 use Rattle.model.specs.Answer.{Batch, Buffers, schema_of, turned_down, answer_of, answer}
@@ -20,12 +20,12 @@ lent table fields names = record { table = table; fields = fields; names = names
 
 -- what is handed in, and what is lent, by the slices of a call; and what it leaves in them
 abbrev pub handed_in : ℕ → Slice → Slice → Batch
-handed_in options commands text = batch options (at_entry commands) (at_entry text)
+handed_in options commands text = batch options (now_of commands) (now_of text)
 
-abbrev pub lent_in : Slice → Slice → Slice → Buffers
+abbrev pub lent_in : MutSlice → MutSlice → MutSlice → Buffers
 lent_in table fields names = lent (at_entry table) (at_entry fields) (at_entry names)
 
-abbrev pub left_in : Slice → Slice → Slice → Buffers
+abbrev pub left_in : MutSlice → MutSlice → MutSlice → Buffers
 left_in table fields names = lent (at_exit table) (at_exit fields) (at_exit names)
 
 -- document 01's numbers for each case of an outcome
@@ -62,8 +62,8 @@ emitted_from options commands text fields names (out (T.Next behind n) t) =
     as_given (length commands) (to_schema_at options text (sorted_places text t n) fields names)
 
 -- Tracer::from_samples and then Tracer::to_schema, on the words of a table that is lent and ends as zeros
-abbrev pub TracesAndEmits : ℕ → Slice → Slice → Slice → Slice → Slice → Outcome → Type 0
+abbrev pub TracesAndEmits : ℕ → Slice → Slice → MutSlice → MutSlice → MutSlice → Outcome → Type 0
 TracesAndEmits options commands text table fields names r =
     (given r (at_exit fields) (at_exit names)
-    ≡ emitted_from options (at_entry commands) (at_entry text) (at_entry fields) (at_entry names)
-    (from_samples (at_entry commands) (at_entry text) options (at_entry table))) × (at_exit table ≡ zeros)
+    ≡ emitted_from options (now_of commands) (now_of text) (at_entry fields) (at_entry names)
+    (from_samples (now_of commands) (now_of text) options (at_entry table))) × (at_exit table ≡ zeros)

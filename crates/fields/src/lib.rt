@@ -3,7 +3,6 @@
 #![tactic(auto)]
 
 ghost use Rattle.std.specs.Prelude.{◌≡◌, ◌&&◌, ◌||◌, ◌%◌, eqb};
-ghost use Rattle.logic.specs.Slices.{at_entry};
 ghost use Rattle.datatype.specs.Codes.{utf8, large_utf8, strategy_code};
 ghost use Rattle.options.specs.Word.{string_dictionary_encoding};
 ghost use Rattle.words.specs.Word.{word, IsTable, IsRow};
@@ -17,7 +16,7 @@ use options::TracingOptions;
 // The count of fields after a child: the slots of a union up to its own.
 fn count_with(kind: u32, table: &[u32], child: usize, count: u32) -> u32
     requires { IsRow child × IsTable table.now }
-    ensures { result ≡ count_with kind (at_entry table) child count }
+    ensures { result ≡ count_with kind table.now child count }
 {
     if kind == shapes::UNION {
         return walk::sum(places::variant(table, child), 1);
@@ -28,7 +27,7 @@ fn count_with(kind: u32, table: &[u32], child: usize, count: u32) -> u32
 // How many fields stand below a place.
 fn count_children(table: &[u32], kind: u32, place: usize) -> u32
     requires { IsRow place × IsTable table.now }
-    ensures { result ≡ count_below (at_entry table) kind place }
+    ensures { result ≡ count_below table.now kind place }
 {
     let mut count: u32 = 0;
     let mut child = places::next_child(table, false, kind, place, 0);
@@ -48,7 +47,7 @@ fn count_children(table: &[u32], kind: u32, place: usize) -> u32
 // children.
 pub fn field_count(table: &[u32], kind: u32, place: usize) -> u32
     requires { IsRow place × IsTable table.now }
-    ensures { result ≡ field_count (at_entry table) kind place }
+    ensures { result ≡ field_count table.now kind place }
 {
     if kind == shapes::MAP {
         return 1;
@@ -108,7 +107,7 @@ pub fn strategy_of(kind: u32) -> Strategy
 // Whether null is admitted: it was seen, or a sample lacks the field.
 pub fn is_nullable(table: &[u32], place: usize, lacking: bool) -> bool
     requires { IsRow place × IsTable table.now }
-    ensures { result ≡ (lacking || eqb (word (at_entry table) place null_word) 1) }
+    ensures { result ≡ (lacking || eqb (word table.now place null_word) 1) }
 {
     if lacking {
         return true;
@@ -119,7 +118,7 @@ pub fn is_nullable(table: &[u32], place: usize, lacking: bool) -> bool
 // A struct field that some sample lacks.
 pub fn is_lacking(table: &[u32], kind: u32, place: usize, child: usize) -> bool
     requires { IsRow place × IsRow child × IsTable table.now }
-    ensures { result ≡ lacking_at (at_entry table) kind place child }
+    ensures { result ≡ lacking_at table.now kind place child }
 {
     if !kinds::is_struct(kind) {
         return false;
@@ -130,7 +129,7 @@ pub fn is_lacking(table: &[u32], kind: u32, place: usize, child: usize) -> bool
 // A union that is emitted as a dictionary.
 pub fn is_dictionary(options: TracingOptions, table: &[u32], place: usize) -> bool
     requires { IsRow place × IsTable table.now }
-    ensures { result ≡ is_dictionary options.word (at_entry table) place }
+    ensures { result ≡ is_dictionary options.word table.now place }
 {
     if words::get(table, place, places::KIND) != shapes::UNION {
         return false;
@@ -144,7 +143,7 @@ pub fn is_dictionary(options: TracingOptions, table: &[u32], place: usize) -> bo
 // Whether nothing is emitted below a place.
 pub fn is_leaf(options: TracingOptions, levels: usize, table: &[u32], place: usize) -> bool
     requires { IsRow place × IsTable table.now }
-    ensures { result ≡ is_leaf options.word (at_entry table) (eqb levels 0) place }
+    ensures { result ≡ is_leaf options.word table.now (eqb levels 0) place }
 {
     if words::get(table, place, places::KIND) < shapes::SEQUENCE {
         return true;

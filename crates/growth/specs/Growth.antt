@@ -1,7 +1,7 @@
 -- How places come to the table: a new last child, the child at a step found or made, samples counted, and the children of a container.
 use Rattle.std.specs.Prelude.{◌≡◌, ℕ, zero, suc, ◌+◌, ◌%◌, ◌^◌, ◌<◌, not, ◌&&◌, List, [], ◌∷◌, ◌==◌, nat_le}
 use Rattle.logic.specs.Test.{if◌then◌else◌}
-use Rattle.logic.specs.Slices.{Slice, at_entry, at_exit}
+use Rattle.logic.specs.Slices.{Slice, MutSlice, now_of, at_exit}
 use Rattle.refusal.specs.declared.Refusal.TheVariants as F
 use Rattle.text.specs.declared.Name.{Name}
 use Rattle.text.specs.Name.{bytes_of, eq_name}
@@ -138,8 +138,8 @@ SoundMade text t (D.Refused refusal) = Unit {0}
 
 -- ---- what is promised of a function that ensures a child, or makes children: its answer and the table then are what the definition gives
 -- of the table before, and the table is sound
-abbrev pub EnsuredAs : Slice → Slice → Ensured → Ensuring → Type 0
-EnsuredAs text table r wanted = (ensuring r (at_exit table) ≡ wanted) × SoundEnsured (at_entry text) (at_exit table) r
+abbrev pub EnsuredAs : Slice → MutSlice → Ensured → Ensuring → Type 0
+EnsuredAs text table r wanted = (ensuring r (at_exit table) ≡ wanted) × SoundEnsured (now_of text) (at_exit table) r
 
-abbrev pub MadeAs : Slice → Slice → Made → Making → Type 0
-MadeAs text table r wanted = (making r (at_exit table) ≡ wanted) × SoundMade (at_entry text) (at_exit table) r
+abbrev pub MadeAs : Slice → MutSlice → Made → Making → Type 0
+MadeAs text table r wanted = (making r (at_exit table) ≡ wanted) × SoundMade (now_of text) (at_exit table) r

@@ -1,7 +1,7 @@
 -- A primitive at a place: what is answered, and the table then.
 use Rattle.std.specs.Prelude.{◌≡◌, Bool, not, ◌&&◌, List, ℕ, ◌≤◌, eqb, ltb}
 use Rattle.logic.specs.Test.{if◌then◌else◌}
-use Rattle.logic.specs.Slices.{Slice, at_entry, at_exit}
+use Rattle.logic.specs.Slices.{Slice, MutSlice, now_of, at_exit}
 use Rattle.datatype.specs.Codes.{null}
 use Rattle.words.specs.Word.{word, with_word}
 use Rattle.kinds.specs.declared.Met.{Met}
@@ -40,8 +40,8 @@ SoundTraced text t n (T.Refused refusal offset) = Unit {0}
 
 -- what is promised of a function that traces: its answer and the table then are what the definition gives of the table before, the table
 -- is sound, and no place is lost of those that there were
-abbrev pub TracedAs : Slice → Slice → ℕ → Traced → Out → Type 0
-TracedAs text table n r wanted = (out r (at_exit table) ≡ wanted) × SoundTraced (at_entry text) (at_exit table) n r
+abbrev pub TracedAs : Slice → MutSlice → ℕ → Traced → Out → Type 0
+TracedAs text table n r wanted = (out r (at_exit table) ≡ wanted) × SoundTraced (now_of text) (at_exit table) n r
 
 -- a value that is no null, of the type that is there
 unfoldable pub is_known : Bool → ℕ → ℕ → Bool

@@ -1,7 +1,7 @@
 -- What is opened before anything below it is read: containers, variants, fields.
 use Rattle.std.specs.Prelude.{◌≡◌, List, ℕ, ◌≤◌}
 use Rattle.logic.specs.Test.{if◌then◌else◌}
-use Rattle.logic.specs.Slices.{Slice, at_entry, at_exit}
+use Rattle.logic.specs.Slices.{Slice, MutSlice, now_of, at_exit}
 use Rattle.refusal.specs.declared.Refusal.TheVariants as F
 use Rattle.text.specs.declared.Name.{Name}
 use Rattle.text.specs.Name.{bytes_of}
@@ -85,5 +85,5 @@ SoundOpened text t n (O.Refused refusal) = Unit {0}
 
 -- what is promised of a function that opens a field: its answer and the table then are what the definition gives of the table before, and
 -- the table is sound
-abbrev pub OpenedAs : Slice → Slice → ℕ → Opened → Opening → Type 0
-OpenedAs text table n r wanted = (opening r (at_exit table) ≡ wanted) × SoundOpened (at_entry text) (at_exit table) n r
+abbrev pub OpenedAs : Slice → MutSlice → ℕ → Opened → Opening → Type 0
+OpenedAs text table n r wanted = (opening r (at_exit table) ≡ wanted) × SoundOpened (now_of text) (at_exit table) n r

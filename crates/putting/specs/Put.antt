@@ -1,7 +1,7 @@
 -- Field records and names in the output buffers, each written where there is room.
 use Rattle.std.specs.Prelude.{◌≡◌, Bool, true, false, List, [], ◌∷◌, ◌-◌, ℕ, zero, suc, ◌+◌, ◌/◌, ◌%◌, ◌≤◌, eqb, ltb, length}
 use Rattle.logic.specs.Test.{if◌then◌else◌}
-use Rattle.logic.specs.Slices.{Slice, at_entry, at_exit}
+use Rattle.logic.specs.Slices.{MutSlice, at_entry, at_exit}
 use Rattle.logic.specs.Buffer.{written}
 use Rattle.datatype.specs.Codes.{null, struct, no_strategy, unknown_variant}
 use Rattle.model.specs.Kinds.{map_kind}
@@ -20,7 +20,7 @@ put_bytes bytes buffer at =
     else put (at + length bytes) (written buffer at bytes)
 
 -- these bytes are put into a buffer, and the end behind them answered
-abbrev pub Puts : List ℕ → Slice → ℕ → ℕ → Type 0
+abbrev pub Puts : List ℕ → MutSlice → ℕ → ℕ → Type 0
 Puts bytes buffer at r = (put r (at_exit buffer) ≡ put_bytes bytes (at_entry buffer) at) × (r ≤ length (at_exit buffer))
 
 -- type; nullable; strategy; variant number; name length; child count
@@ -34,7 +34,7 @@ put_gaps slot i zero (put at buffer) = put at buffer
 put_gaps slot i (suc count) (put at buffer) =
     put_gaps slot (suc i) count (put_bytes (record_of null true unknown_variant (sum_of slot i % 256) 0 0) buffer at)
 
-abbrev pub PutsGaps : ℕ → ℕ → Slice → ℕ → ℕ → Type 0
+abbrev pub PutsGaps : ℕ → ℕ → MutSlice → ℕ → ℕ → Type 0
 PutsGaps slot count fields at r =
     (put r (at_exit fields) ≡ put_gaps slot 0 count (put at (at_entry fields))) × (r ≤ length (at_exit fields))
 
@@ -64,7 +64,7 @@ abbrev pub Within : Ends → List ℕ → List ℕ → Type 0
 Within ends fields names = (ends.records ≤ length fields) × (ends.names ≤ length names)
 
 -- what a part of the second walk answers for: it writes so from these ends on, and answers the ends behind
-abbrev pub Writes : (Writing → Writing) → Ends → Slice → Slice → Ends → Type 0
+abbrev pub Writes : (Writing → Writing) → Ends → MutSlice → MutSlice → Ends → Type 0
 Writes write ends fields names r =
     (writing r.records r.names (at_exit fields) (at_exit names)
     ≡ write (writing ends.records ends.names (at_entry fields) (at_entry names)))

@@ -3,7 +3,6 @@
 #![tactic(auto)]
 
 ghost use Rattle.std.specs.Prelude.{◌≡◌, ◌≤◌, length};
-ghost use Rattle.logic.specs.Slices.{at_entry};
 ghost use Rattle.text.specs.Decimal.{decimal};
 ghost use Rattle.words.specs.Word.{IsRow};
 ghost use Rattle.model.specs.Tracing.{one};
@@ -33,7 +32,7 @@ fn bit(on: bool) -> u8
 // Bytes, where there is room for them; the first walk has seen that there is.
 fn put_bytes(bytes: &[u8], names: &mut [u8], at: usize) -> usize
     requires { at ≤ length names.old }
-    ensures { Puts (at_entry bytes) names at result }
+    ensures { Puts bytes.now names at result }
 {
     if names.len() - at < bytes.len() {
         return at;
@@ -87,7 +86,7 @@ fn put_position(i: u16, names: &mut [u8], at: usize) -> usize
 // The name of a child.
 pub fn put_name(text: &[u8], table: &[u32], child: usize, names: &mut [u8], at: usize) -> usize
     requires { Settled text.now table.now × IsRow child × (at ≤ length names.old) }
-    ensures { Puts (child_name (at_entry text) (at_entry table) child) names at result }
+    ensures { Puts (child_name text.now table.now child) names at result }
 {
     match places::step_at(table, child) {
         Step::Element => put_bytes(&places::ELEMENT_NAME, names, at),

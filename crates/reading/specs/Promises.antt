@@ -1,6 +1,6 @@
 -- What each of the readers promises: its answer, and the table then, are what one of these readings gives.
 use Rattle.std.specs.Prelude.{List, ℕ, ◌-◌}
-use Rattle.logic.specs.Slices.{Slice, at_entry}
+use Rattle.logic.specs.Slices.{Slice, MutSlice, now_of, at_entry}
 use Rattle.options.specs.declared.TracingOptions.{TracingOptions}
 use Rattle.text.specs.declared.Name.{Name}
 use Rattle.shapes.specs.declared.Step.{Step}
@@ -39,7 +39,7 @@ abbrev pub part : Step → ℕ → Reading
 part step here commands text options levels = part_read text (readers commands text options levels) step here
 
 -- what is promised of a function that reads from an offset on, at a site: that it traces as the reading says
-abbrev pub Reads : Slice → Slice → TracingOptions → ℕ → Site → Slice → Reading → Traced → Type 0
+abbrev pub Reads : Slice → Slice → TracingOptions → ℕ → Site → MutSlice → Reading → Traced → Type 0
 Reads commands text options at site table reading r =
     TracedAs text table site.count r
-    (reading (at_entry commands) (at_entry text) options.word site.levels at site.place site.count (at_entry table))
+    (reading (now_of commands) (now_of text) options.word site.levels at site.place site.count (at_entry table))

@@ -31,7 +31,7 @@ fn lower(levels: usize, name: Name, text: &[u8]) -> usize
 }
 
 // One value at a place, with so many levels left for containers.
-#[cycle(read_container_read_contents_read_elements_read_entries_read_fields_read_named_read_part_read_parted_read_parts_read_positions_read_value_read_variant)]
+#[cycle(readers)]
 pub fn read_value(
     commands: &[u8],
     text: &[u8],
@@ -54,7 +54,7 @@ pub fn read_value(
 
 // The value of a field with that name. Only below a container do the dots of the name count. It is `read_value` but for
 // them, and stands apart because there it is read in the loop over the fields, with no call for a primitive.
-#[cycle(read_container_read_contents_read_elements_read_entries_read_fields_read_named_read_part_read_parted_read_parts_read_positions_read_value_read_variant)]
+#[cycle(readers)]
 fn read_named(
     commands: &[u8],
     text: &[u8],
@@ -87,7 +87,7 @@ fn read_named(
 
 // A value past its marks: a container or a variant, or what cannot stand there. Whoever calls this has seen that it is no
 // primitive, but the contract does not ask it.
-#[cycle(read_container_read_contents_read_elements_read_entries_read_fields_read_named_read_part_read_parted_read_parts_read_positions_read_value_read_variant)]
+#[cycle(readers)]
 fn read_parted(
     commands: &[u8],
     text: &[u8],
@@ -126,7 +126,7 @@ fn read_parted(
 }
 
 // A container whose command stands at `here` and whose parts start at `at`.
-#[cycle(read_container_read_contents_read_elements_read_entries_read_fields_read_named_read_part_read_parted_read_parts_read_positions_read_value_read_variant)]
+#[cycle(readers)]
 fn read_container(
     commands: &[u8],
     text: &[u8],
@@ -166,7 +166,7 @@ fn read_container(
 }
 
 // The parts of a container by its kind. The levels are those left below it.
-#[cycle(read_container_read_contents_read_elements_read_entries_read_fields_read_named_read_part_read_parted_read_parts_read_positions_read_value_read_variant)]
+#[cycle(readers)]
 fn read_parts(
     commands: &[u8],
     text: &[u8],
@@ -195,7 +195,7 @@ fn read_parts(
 
 // The fields of a struct, or of a map in map mode, up to the end. The site grows by the places that they add, here and in
 // the loops below.
-#[cycle(read_container_read_contents_read_elements_read_entries_read_fields_read_named_read_part_read_parted_read_parts_read_positions_read_value_read_variant)]
+#[cycle(readers)]
 fn read_fields(
     commands: &[u8],
     text: &[u8],
@@ -243,7 +243,7 @@ fn read_fields(
 }
 
 // The elements of a sequence, up to the end.
-#[cycle(read_container_read_contents_read_elements_read_entries_read_fields_read_named_read_part_read_parted_read_parts_read_positions_read_value_read_variant)]
+#[cycle(readers)]
 fn read_elements(
     commands: &[u8],
     text: &[u8],
@@ -275,7 +275,7 @@ fn read_elements(
 }
 
 // The keys and values of a map, by turns, up to the end.
-#[cycle(read_container_read_contents_read_elements_read_entries_read_fields_read_named_read_part_read_parted_read_parts_read_positions_read_value_read_variant)]
+#[cycle(readers)]
 fn read_entries(
     commands: &[u8],
     text: &[u8],
@@ -309,7 +309,7 @@ fn read_entries(
 }
 
 // The values of a tuple, so many.
-#[cycle(read_container_read_contents_read_elements_read_entries_read_fields_read_named_read_part_read_parted_read_parts_read_positions_read_value_read_variant)]
+#[cycle(readers)]
 fn read_positions(
     commands: &[u8],
     text: &[u8],
@@ -345,7 +345,7 @@ fn read_positions(
 }
 
 // The value of a part that is no field, at the child that its step leads to.
-#[cycle(read_container_read_contents_read_elements_read_entries_read_fields_read_named_read_part_read_parted_read_parts_read_positions_read_value_read_variant)]
+#[cycle(readers)]
 fn read_part(
     commands: &[u8],
     text: &[u8],
@@ -374,7 +374,7 @@ fn read_part(
 }
 
 // A variant, whose command stands at `here` and whose contents start at `at`.
-#[cycle(read_container_read_contents_read_elements_read_entries_read_fields_read_named_read_part_read_parted_read_parts_read_positions_read_value_read_variant)]
+#[cycle(readers)]
 fn read_variant(
     commands: &[u8],
     text: &[u8],
@@ -415,7 +415,7 @@ fn read_variant(
 }
 
 // A variant's contents are as for the plain form, their command being the variant's.
-#[cycle(read_container_read_contents_read_elements_read_entries_read_fields_read_named_read_part_read_parted_read_parts_read_positions_read_value_read_variant)]
+#[cycle(readers)]
 fn read_contents(
     commands: &[u8],
     text: &[u8],

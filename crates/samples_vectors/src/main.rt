@@ -4,7 +4,6 @@
 #![tactic(auto)]
 
 ghost use Rattle.std.specs.Prelude.{◌≡◌, true, false, ◌<◌, ◌≤◌};
-ghost use Rattle.logic.specs.Slices.{at_entry};
 ghost use Rattle.words.specs.Word.{place_words, IsTable, IsRow, is_link};
 ghost use Rattle.model.specs.Tracing.{place_limit};
 ghost use Rattle.samples_vectors.specs.Made.{made_in};
@@ -90,7 +89,7 @@ fn print_refusal(number: u8, place: usize) {
 // and has the next number, so that the highest number of a last child is that of the newest place.
 fn made(table: &[u32]) -> usize
     requires { IsTable table.now }
-    ensures { (result ≡ made_in (at_entry table)) × (result ≤ place_limit) }
+    ensures { (result ≡ made_in table.now) × (result ≤ place_limit) }
 {
     let mut newest = 0;
     let mut place = 0;

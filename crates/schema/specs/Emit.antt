@@ -1,7 +1,7 @@
 -- The second walk: what it writes; and the schema, with refusals 15 to 18.
 use Rattle.std.specs.Prelude.{◌≡◌, Bool, true, false, not, ◌||◌, List, ℕ, zero, suc, ◌*◌, ◌%◌, eqb, ltb, length}
 use Rattle.logic.specs.Test.{if◌then◌else◌}
-use Rattle.logic.specs.Slices.{Slice, at_entry, at_exit}
+use Rattle.logic.specs.Slices.{Slice, MutSlice, now_of, at_entry, at_exit}
 use Rattle.datatype.specs.Codes.{null, no_strategy}
 use Rattle.options.specs.Word.{dictionary_type}
 use Rattle.refusal.specs.declared.Refusal.TheVariants as F
@@ -97,14 +97,14 @@ to_schema_at options text t fields names =
     on_walked (finished options text t fields names) fields names (walked options text t level_limit root_place)
 
 -- ---- what `finish` and `to_schema` answer for
-abbrev pub Finishes : ℕ → (text table fields names : Slice) → (records bytes below : ℕ) → Emitted → Type 0
+abbrev pub Finishes : ℕ → (text table : Slice) (fields names : MutSlice) → (records bytes below : ℕ) → Emitted → Type 0
 Finishes options text table fields names records bytes below r =
     answered r (at_exit fields) (at_exit names)
-    ≡ finished options (at_entry text) (at_entry table) (at_entry fields) (at_entry names) records bytes below
+    ≡ finished options (now_of text) (now_of table) (at_entry fields) (at_entry names) records bytes below
 
 -- the children of the first so many places are put in order first
-abbrev pub Emits : (options count : ℕ) → (text table fields names : Slice) → Emitted → Type 0
+abbrev pub Emits : (options count : ℕ) → (text : Slice) (table fields names : MutSlice) → Emitted → Type 0
 Emits options count text table fields names r =
-    let ordered = sorted_places (at_entry text) (at_entry table) count in
-    (answered r (at_exit fields) (at_exit names) ≡ to_schema_at options (at_entry text) ordered (at_entry fields) (at_entry names))
+    let ordered = sorted_places (now_of text) (at_entry table) count in
+    (answered r (at_exit fields) (at_exit names) ≡ to_schema_at options (now_of text) ordered (at_entry fields) (at_entry names))
     × (at_exit table ≡ ordered)

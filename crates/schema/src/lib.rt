@@ -4,7 +4,6 @@
 #![tactic(auto)]
 
 ghost use Rattle.std.specs.Prelude.{◌≡◌, ◌≤◌};
-ghost use Rattle.logic.specs.Slices.{at_entry};
 ghost use Rattle.words.specs.Word.{IsRow};
 ghost use Rattle.model.specs.Tracing.{place_limit};
 ghost use Rattle.places.specs.Layout.{Settled};
@@ -44,7 +43,7 @@ fn put_field(
 ) -> Ends
     requires settled { Settled text.now table.now × IsRow place }
     requires within { Within ends fields.old names.old }
-    ensures { Writes (field_at options.word (at_entry text) (at_entry table) place nullable number) ends fields names result }
+    ensures { Writes (field_at options.word text.now table.now place nullable number) ends fields names result }
 {
     let kind = words::get(table, place, places::KIND);
     let at = ends.records;
@@ -85,7 +84,7 @@ fn put_field(
 }
 
 // The field of a place, and all below it.
-#[cycle(emit_emit_child_emit_children)]
+#[cycle(emitting)]
 fn emit(
     options: TracingOptions,
     text: &[u8],
@@ -100,7 +99,7 @@ fn emit(
 ) -> Ends
     requires settled { Settled text.now table.now × IsRow place }
     requires within { Within ends fields.old names.old }
-    ensures { Writes (emitted_at options.word (at_entry text) (at_entry table) levels place lacking number) ends fields names result }
+    ensures { Writes (emitted_at options.word text.now table.now levels place lacking number) ends fields names result }
 {
     let nullable = fields::is_nullable(table, place, lacking);
     let own = put_field(
@@ -124,7 +123,7 @@ fn emit(
 }
 
 // The fields below a place.
-#[cycle(emit_emit_child_emit_children)]
+#[cycle(emitting)]
 fn emit_children(
     options: TracingOptions,
     text: &[u8],
@@ -138,7 +137,7 @@ fn emit_children(
 ) -> Ends
     requires settled { Settled text.now table.now × IsRow place }
     requires within { Within ends fields.old names.old }
-    ensures { Writes (emitted_below options.word (at_entry text) (at_entry table) levels kind place) ends fields names result }
+    ensures { Writes (emitted_below options.word text.now table.now levels kind place) ends fields names result }
 {
     let mut so_far = putting::put_entries(kind, ends, fields, names);
     let mut slot: u32 = 0;
@@ -159,7 +158,7 @@ fn emit_children(
 }
 
 // A child, after the slots of a union that were never seen.
-#[cycle(emit_emit_child_emit_children)]
+#[cycle(emitting)]
 fn emit_child(
     options: TracingOptions,
     text: &[u8],
@@ -176,7 +175,7 @@ fn emit_child(
     requires settled { Settled text.now table.now × IsRow place }
     requires row { IsRow child }
     requires within { Within ends fields.old names.old }
-    ensures { Writes (child_at options.word (at_entry text) (at_entry table) levels kind place slot child) ends fields names result }
+    ensures { Writes (child_at options.word text.now table.now levels kind place slot child) ends fields names result }
 {
     let at = ends.records;
     let start = ends.names;

@@ -1,0 +1,62 @@
+-- The walk of a place, of its children and over them, as one cycle: the levels fall. Over the children, those that are left give what all give.
+use Rattle.std.proofs.Common.{◌≡◌, ℕ, ◌+◌, ◌*◌, ◌<◌, false, ⊎_elim, arith, rules}
+use Rattle.words.specs.Word.{IsRow}
+use Rattle.model.specs.Tracing.{place_limit}
+use Rattle.places.specs.Layout.{Linked}
+use Rattle.places.specs.Reading.{next_child, child_limit}
+use Rattle.walk.specs.Walk.{children_from, walked}
+use Rattle.walk.proofs.Walks.{spent, ended, beyond, refused, next, of_map, of_other, unknown, null_field_lem, primitive, no_level, as_strings, dataless_union_lem, Opens, no_union, with_data, null_children, opened}
+use Rattle.walk.proofs.+walking.Goals as goal
+
+opens : (t : ℕ) (c : walk-place-lts.Joined5-2 (walk_place_claims t) (walk_place_at t) walk-place.Post) →
+    (let s = c.before.before.before.before.before.before.before in Opens s.args.options.word s.args.table.now c.before.before.before.before.get.result s.args.place)
+opens t c =
+    ⊎_elim
+    (λ w. search (null_children, rules))
+    (λ v. ⊎_elim (λ w. search (with_data, rules)) (λ w. search (no_union, rules)) v.came)
+    c.if5.branch
+
+pub walk_children-returns-then-kind-eq-MAP : goal.walk_children-returns-then-kind-eq-MAP
+walk_children-returns-then-kind-eq-MAP t c = search (of_map, rules)
+
+pub walk_children-returns-else-kind-eq-MAP : goal.walk_children-returns-else-kind-eq-MAP
+walk_children-returns-else-kind-eq-MAP t c = search (of_other, rules)
+
+pub walk_from-loop-left-init : goal.walk_from-loop-left-init
+walk_from-loop-left-init t c = (rw c.next_child-child.ensures.0, (search rules, (search rules, search rules)))
+
+pub walk_from-returns-then-child-eq0 : goal.walk_from-returns-then-child-eq0
+walk_from-returns-then-child-eq0 t c = search (ended, rules)
+
+pub walk_from-returns-then-is_beyond : goal.walk_from-returns-then-is_beyond
+walk_from-returns-then-is_beyond t c = search (beyond, rules)
+
+pub walk_from-returns-in-Refused : goal.walk_from-returns-in-Refused
+walk_from-returns-in-Refused t c = search (refused, rules)
+
+pub walk_from-loop-left-preserved : goal.walk_from-loop-left-preserved
+walk_from-loop-left-preserved t c = (search (next, rules), (search rules, c.loop-left.invariant.1.1))
+
+pub walk_from-returns : goal.walk_from-returns
+walk_from-returns t c = search (spent, rules)
+
+pub walk_place-returns-then-allow_null_fields : goal.walk_place-returns-then-allow_null_fields
+walk_place-returns-then-allow_null_fields t c = search (unknown, rules)
+
+pub walk_place-returns-then-kind-eq-UNKNOWN : goal.walk_place-returns-then-kind-eq-UNKNOWN
+walk_place-returns-then-kind-eq-UNKNOWN t c = search (null_field_lem, rules)
+
+pub walk_place-returns-then-kind-lt-SEQUENCE : goal.walk_place-returns-then-kind-lt-SEQUENCE
+walk_place-returns-then-kind-lt-SEQUENCE t c = search (primitive, rules)
+
+pub walk_place-returns-then-levels-eq0 : goal.walk_place-returns-then-levels-eq0
+walk_place-returns-then-levels-eq0 t c = search (no_level, rules)
+
+pub walk_place-returns-then-enums_without_data_as_strings : goal.walk_place-returns-then-enums_without_data_as_strings
+walk_place-returns-then-enums_without_data_as_strings t c = search (as_strings, rules)
+
+pub walk_place-returns-then-not-allow_null_fields : goal.walk_place-returns-then-not-allow_null_fields
+walk_place-returns-then-not-allow_null_fields t c = search (dataless_union_lem, rules)
+
+pub walk_place-returns : goal.walk_place-returns
+walk_place-returns t c = let o = opens t c in search (opened, rules)
