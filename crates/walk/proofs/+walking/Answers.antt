@@ -6,15 +6,8 @@ use Rattle.places.specs.Layout.{Linked}
 use Rattle.places.specs.Reading.{next_child, child_limit}
 use Rattle.walk.specs.Walk.{children_from, walked}
 use Rattle.walk.proofs.Walks.{spent, ended, beyond, refused, next, of_map, of_other, unknown, null_field_lem, primitive, no_level, as_strings, dataless_union_lem, Opens, no_union, with_data, null_children, opened}
+use Rattle.walk.proofs.+walking.Goals.{walk_place-then-kind-eq-UNION+then-is_dataless+else-enums_without_data_as_strings+else-not-allow_null_fields, walk_place-else-kind-eq-UNION, walk_place-else-kind-eq-UNION-via-then-kind-eq-UNION+else-is_dataless, walk_place-else-kind-eq-UNION-via-else-kind-eq-UNION}
 use Rattle.walk.proofs.+walking.Goals as goal
-
-opens : (t : ℕ) (c : walk-place-lts.Joined5-2 (walk_place_claims t) (walk_place_at t) walk-place.Post) →
-    (let s = c.before.before.before.before.before.before.before in Opens s.args.options.word s.args.table.now c.before.before.before.before.get.result s.args.place)
-opens t c =
-    ⊎_elim
-    (λ w. search (null_children, rules))
-    (λ v. ⊎_elim (λ w. search (with_data, rules)) (λ w. search (no_union, rules)) v.came)
-    c.if5.branch
 
 pub walk_children-returns-then-kind-eq-MAP : goal.walk_children-returns-then-kind-eq-MAP
 walk_children-returns-then-kind-eq-MAP t c = search (of_map, rules)
@@ -59,4 +52,11 @@ pub walk_place-returns-then-not-allow_null_fields : goal.walk_place-returns-then
 walk_place-returns-then-not-allow_null_fields t c = search (dataless_union_lem, rules)
 
 pub walk_place-returns : goal.walk_place-returns
-walk_place-returns t c = let o = opens t c in search (opened, rules)
+walk_place-returns t c =
+    let o : Opens c.args.options.word c.args.table.now c.get-kind.result c.args.place =
+        elim c.if-kind-eq-UNION.branch [
+          walk_place-then-kind-eq-UNION+then-is_dataless+else-enums_without_data_as_strings+else-not-allow_null_fields w ↦ search (null_children, rules)
+        | walk_place-else-kind-eq-UNION w ↦ elim w.else-kind-eq-UNION.branch [
+              walk_place-else-kind-eq-UNION-via-then-kind-eq-UNION+else-is_dataless v ↦ search (with_data, rules)
+            | walk_place-else-kind-eq-UNION-via-else-kind-eq-UNION v ↦ search (no_union, rules) ] ] in
+    search (opened, rules)

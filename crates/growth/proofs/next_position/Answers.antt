@@ -4,8 +4,7 @@ use Rattle.logic.specs.Test.{if◌then◌else◌}
 use Rattle.words.specs.Word.{word}
 use Rattle.places.specs.Layout.{first_word, last_word, position_word}
 use Rattle.growth.specs.Growth.{onward, position_in}
-use Rattle.growth.proofs.next_position.Statement.{statement}
-use Rattle.growth.proofs.next_position.Tie as tie
+use Rattle.growth.proofs.next_position.Goals as goal
 
 module _ (place first : ℕ) (t : List ℕ) (f : first ≡ word t place first_word) where
   alone : first ≡ 0 → 0 ≡ position_in place t
@@ -16,13 +15,8 @@ module _ (place first : ℕ) (t : List ℕ) (f : first ≡ word t place first_wo
   unfolding position_in if◌then◌else◌
   behind last before r n l b e = rw (← f, ne_eqb first 0 n, e, b, l)
 
-pub next_position_spec : {M : Type 1} → statement M
-next_position_spec =
-    tie.close
-    (tie.spec
-    (λ c κs. search rules)
-    (λ c. search (alone, rules))
-    (λ c κs. search rules)
-    (λ c κs. search rules)
-    (λ c κs. search rules)
-    (λ c. search (behind, rules)))
+pub returns-then-link-eq0 : goal.returns-then-link-eq0
+returns-then-link-eq0 c = search (alone, rules)
+
+pub returns : goal.returns
+returns c = search (behind, rules)
