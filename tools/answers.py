@@ -126,8 +126,7 @@ class Walk:
         i = 0
         while i < len(segments) and segments[i] == "before":
             place = self.rows[place][1]
-            if place is None:
-                raise Unfit("before the start")
+            place = place or "Start"  # a walk that went through a step that is no more
             i += 1
         if i == len(segments):
             return place, None

@@ -11,8 +11,7 @@ use Rattle.model.specs.Kinds.{union_kind}
 use Rattle.places.specs.Layout.{kind_word}
 use Rattle.walk.specs.Walk.{dataless_at}
 use Rattle.fields.specs.Fields.{is_dictionary}
-use Rattle.fields.proofs.is_dictionary.Statement.{statement}
-use Rattle.fields.proofs.is_dictionary.Tie as tie
+use Rattle.fields.proofs.is_dictionary.Goals as goal
 
 module _ (options : ℕ) (t : List ℕ) (place kind : ℕ) (k : kind ≡ word t place kind_word) where
   no_union : (kind ≡ union_kind → ⊥) → false ≡ is_dictionary options t place
@@ -25,13 +24,11 @@ module _ (options : ℕ) (t : List ℕ) (place kind : ℕ) (k : kind ≡ word t 
     by_data : (is : Bool) → not strings ≡ false → is ≡ dataless_at t place → is ≡ is_dictionary options t place
     by_data is p d = rw (← k, eq-eqb kind union_kind u, sym s ∙ not-false strings p) d
 
-pub is_dictionary_spec : {M : Type 1} → statement M
-is_dictionary_spec =
-    tie.close
-    (tie.spec
-    (λ c κs. search rules)
-    (λ c. search (no_union, rules))
-    (λ c κs. search rules)
-    (λ c. search (no_strings, rules))
-    (λ c κs. search rules)
-    (λ c. search (by_data, rules)))
+pub returns-then-get-ne-UNION : goal.returns-then-get-ne-UNION
+returns-then-get-ne-UNION c = search (no_union, rules)
+
+pub returns-then-not-enums_without_data_as_strings : goal.returns-then-not-enums_without_data_as_strings
+returns-then-not-enums_without_data_as_strings c = search (no_strings, rules)
+
+pub returns : goal.returns
+returns c = search (by_data, rules)

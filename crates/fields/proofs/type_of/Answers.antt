@@ -12,8 +12,7 @@ use Rattle.datatype.specs.Codes.{code_of, utf8, large_utf8, struct}
 use Rattle.options.specs.Word.{list_type, dictionary_type, string_dictionary_encoding, sequence_as_large_list, string_as_large_utf8}
 use Rattle.model.specs.Kinds.{sequence_kind}
 use Rattle.model.specs.Emission.{emits_struct, type_of}
-use Rattle.fields.proofs.type_of.Statement.{statement}
-use Rattle.fields.proofs.type_of.Tie as tie
+use Rattle.fields.proofs.type_of.Goals as goal
 
 -- these codes are of a byte
 list_byte : (options : ℕ) → list_type options % 256 ≡ list_type options
@@ -43,19 +42,14 @@ module _ (options kind r : ℕ) where
       unfolding type_of if◌then◌else◌
       of_other p = rw (ne_eqb kind sequence_kind n, sym s ∙ f, sym t ∙ p)
 
-pub type_of_spec : {M : Type 1} → statement M
-type_of_spec =
-    tie.close
-    (tie.spec
-    (λ c κs. search rules)
-    (λ c κs. search rules)
-    (λ c. search (of_list, rules))
-    (λ c κs. search rules)
-    (λ c κs. search rules)
-    (λ c. search (of_struct, rules))
-    (λ c κs. search rules)
-    (λ c κs. search rules)
-    (λ c κs. search rules)
-    (λ c. search (of_text, rules))
-    (λ c. search rules)
-    (λ c. search (of_other, rules)))
+pub returns-then-kind-eq-SEQUENCE : goal.returns-then-kind-eq-SEQUENCE
+returns-then-kind-eq-SEQUENCE c = search (of_list, rules)
+
+pub returns-then-emits_struct : goal.returns-then-emits_struct
+returns-then-emits_struct c = search (of_struct, rules)
+
+pub returns-then-is_encoded : goal.returns-then-is_encoded
+returns-then-is_encoded c = search (of_text, rules)
+
+pub returns : goal.returns
+returns c = search (of_other, rules)

@@ -10,8 +10,7 @@ use Rattle.words.specs.Word.{word}
 use Rattle.model.specs.Kinds.{sequence_kind}
 use Rattle.places.specs.Layout.{kind_word}
 use Rattle.fields.specs.Fields.{is_dictionary, is_leaf}
-use Rattle.fields.proofs.is_leaf.Statement.{statement}
-use Rattle.fields.proofs.is_leaf.Tie as tie
+use Rattle.fields.proofs.is_leaf.Goals as goal
 
 module _ (options : ℕ) (t : List ℕ) (levels place kind : ℕ) (k : kind ≡ word t place kind_word) where
   primitive : kind < sequence_kind → true ≡ is_leaf options t (eqb levels 0) place
@@ -26,12 +25,11 @@ module _ (options : ℕ) (t : List ℕ) (levels place kind : ℕ) (k : kind ≡ 
   unfolding is_leaf
   by_dictionary is h n d = rw (← k, le-leb sequence_kind kind h, ne_eqb levels 0 n) (rw (← k) at d)
 
-pub is_leaf_spec : {M : Type 1} → statement M
-is_leaf_spec =
-    tie.close
-    (tie.spec
-    (λ c κs. search rules)
-    (λ c. search (primitive, rules))
-    (λ c. search (no_level, rules))
-    (λ c κs. search rules)
-    (λ c. search (by_dictionary, rules)))
+pub returns-then-get-lt-SEQUENCE : goal.returns-then-get-lt-SEQUENCE
+returns-then-get-lt-SEQUENCE c = search (primitive, rules)
+
+pub returns-then-levels-eq0 : goal.returns-then-levels-eq0
+returns-then-levels-eq0 c = search (no_level, rules)
+
+pub returns : goal.returns
+returns c = search (by_dictionary, rules)

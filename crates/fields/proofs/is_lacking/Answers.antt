@@ -10,8 +10,7 @@ use Rattle.words.specs.Word.{word}
 use Rattle.model.specs.Kinds.{is_struct}
 use Rattle.places.specs.Layout.{samples_word, held_word}
 use Rattle.fields.specs.Fields.{lacking_at}
-use Rattle.fields.proofs.is_lacking.Statement.{statement}
-use Rattle.fields.proofs.is_lacking.Tie as tie
+use Rattle.fields.proofs.is_lacking.Goals as goal
 
 module _ (t : List ℕ) (kind place child : ℕ) (is : Bool) (e : is ≡ is_struct kind) where
   no_struct : not is ≡ true → false ≡ lacking_at t kind place child
@@ -20,12 +19,8 @@ module _ (t : List ℕ) (kind place child : ℕ) (is : Bool) (e : is ≡ is_stru
   by_samples : (held samples : ℕ) → not is ≡ false → held ≡ word t child held_word → samples ≡ word t place samples_word → ltb held samples ≡ lacking_at t kind place child
   by_samples held samples p h s = rw (sym e ∙ not-false is p, h, s)
 
-pub is_lacking_spec : {M : Type 1} → statement M
-is_lacking_spec =
-    tie.close
-    (tie.spec
-    (λ c κs. search rules)
-    (λ c. search (no_struct, rules))
-    (λ c κs. search rules)
-    (λ c κs. search rules)
-    (λ c. search (by_samples, rules)))
+pub returns-then-not-is_struct : goal.returns-then-not-is_struct
+returns-then-not-is_struct c = search (no_struct, rules)
+
+pub returns : goal.returns
+returns c = search (by_samples, rules)

@@ -6,8 +6,7 @@ use mathlib.Core.Bool.{true, ◌||◌}
 use Prim.Native.Nat.{ℕ}
 use lib.Dec.{eqb}
 use Rattle.datatype.specs.Codes.{utf8, large_utf8}
-use Rattle.fields.proofs.is_text.Statement.{statement}
-use Rattle.fields.proofs.is_text.Tie as tie
+use Rattle.fields.proofs.is_text.Goals as goal
 
 first : (kind code : ℕ) → code ≡ utf8 → kind ≡ code → true ≡ (eqb kind utf8 || eqb kind large_utf8)
 first kind code e k = rw (eq-eqb kind utf8 (k ∙ e))
@@ -15,13 +14,8 @@ first kind code e k = rw (eq-eqb kind utf8 (k ∙ e))
 second : (kind code other : ℕ) → code ≡ utf8 → (kind ≡ code → ⊥) → other ≡ large_utf8 → eqb kind other ≡ (eqb kind utf8 || eqb kind large_utf8)
 second kind code other e n o = rw (← e, ne_eqb kind code n, o)
 
-pub is_text_spec : {M : Type 1} → statement M
-is_text_spec =
-    tie.close
-    (tie.spec
-    (λ c κs. search rules)
-    (λ c. search rules)
-    (λ c. search (first, rules))
-    (λ c κs. search rules)
-    (λ c. search rules)
-    (λ c. search (second, rules)))
+pub returns-then-kind-code : goal.returns-then-kind-code
+returns-then-kind-code c = search (first, rules)
+
+pub returns : goal.returns
+returns c = search (second, rules)

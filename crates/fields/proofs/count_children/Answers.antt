@@ -9,8 +9,7 @@ use native.Mathlib.Omega.{arith}
 use Rattle.words.specs.Word.{IsRow}
 use Rattle.places.specs.Reading.{next_child, child_limit}
 use Rattle.fields.specs.Fields.{count_with, count_from}
-use Rattle.fields.proofs.count_children.Statement.{statement}
-use Rattle.fields.proofs.count_children.Tie as tie
+use Rattle.fields.proofs.count_children.Goals as goal
 
 module _ (t : List ℕ) (kind place count child whole : ℕ) where
   spent : (left : ℕ) → count_from t kind place left count child ≡ whole → left ≤ 0 → count ≡ whole
@@ -29,25 +28,14 @@ module _ (t : List ℕ) (kind place count child whole : ℕ) where
   next zero further following w h n f g = absurd (omega arith)
   next (suc m) further following w h n f g = let l : suc m - 1 ≡ m = omega arith in rw (l, f, g) (rw (ne_eqb child 0 n, count_from) at w)
 
-abbrev invariant-loop : tie.invariant-loop
-invariant-loop table kind place count₀ child₀ left₀ count child left =
-    (count_from table kind place left count child ≡ count_from table kind place child_limit 0 (next_child table false kind place 0)) × IsRow child
+pub loop-left-init : goal.loop-left-init
+loop-left-init c = (rw c.next_child-child.ensures.0, search rules)
 
-abbrev decreases-loop : tie.decreases-loop
-decreases-loop table kind place count₀ child₀ left₀ count child left = left
+pub returns-then-child-eq0 : goal.returns-then-child-eq0
+returns-then-child-eq0 c = search (ended, rules)
 
-pub count_children_spec : {M : Type 1} → statement M
-count_children_spec =
-    tie.close
-    (tie.spec
-    invariant-loop
-    decreases-loop
-    (λ c κs. search rules)
-    (λ c. (rw c.next-child.ensures.0, search rules))
-    (λ c. search (ended, rules))
-    (λ c κs. search rules)
-    (λ c κs. search rules)
-    (λ c. search rules)
-    (λ c. search rules)
-    (λ c. (search (next, rules), search rules))
-    (λ c. search (spent, rules)))
+pub loop-left-preserved : goal.loop-left-preserved
+loop-left-preserved c = (search (next, rules), search rules)
+
+pub returns : goal.returns
+returns c = search (spent, rules)

@@ -9,8 +9,7 @@ use Rattle.model.specs.Kinds.{union_kind}
 use Rattle.places.specs.Reading.{variant_at}
 use Rattle.walk.specs.Walk.{sum_of}
 use Rattle.fields.specs.Fields.{count_with}
-use Rattle.fields.proofs.count_with.Statement.{statement}
-use Rattle.fields.proofs.count_with.Tie as tie
+use Rattle.fields.proofs.count_with.Goals as goal
 
 module _ (t : List ℕ) (kind child count r : ℕ) where
   slots : (number : ℕ) → kind ≡ union_kind → number ≡ variant_at t child → r ≡ sum_of number 1 → r ≡ count_with kind t child count
@@ -21,12 +20,8 @@ module _ (t : List ℕ) (kind child count r : ℕ) where
   unfolding if◌then◌else◌
   one_more n s = rw (ne_eqb kind union_kind n) s
 
-pub count_with_spec : {M : Type 1} → statement M
-count_with_spec =
-    tie.close
-    (tie.spec
-    (λ c κs. search rules)
-    (λ c κs. search rules)
-    (λ c. search (slots, rules))
-    (λ c κs. search rules)
-    (λ c. search (one_more, rules)))
+pub returns-then-kind-eq-UNION : goal.returns-then-kind-eq-UNION
+returns-then-kind-eq-UNION c = search (slots, rules)
+
+pub returns : goal.returns
+returns c = search (one_more, rules)

@@ -10,14 +10,7 @@ use lib.Seq.{paste, paste-zero, paste-suc, take-length}
 use Rattle.logic.specs.Buffer.{written}
 use Rattle.putting.specs.Put.{put, put_bytes}
 use Rattle.putting.proofs.Puts.{no_room, with_room}
-use Rattle.putting.proofs.put_bytes.Statement.{statement}
-use Rattle.putting.proofs.put_bytes.Tie as tie
-
-abbrev invariant-loop : tie.invariant-loop
-invariant-loop bytes names₀ at i₀ names i = (i ≤ length bytes) × ((length names ≡ length names₀) × (names ≡ paste names₀ at bytes i))
-
-abbrev decreases-loop : tie.decreases-loop
-decreases-loop bytes names₀ at i₀ names i = length bytes - i
+use Rattle.putting.proofs.put_bytes.Goals as goal
 
 start : (bytes names : List ℕ) (at : ℕ) → names ≡ paste names at bytes 0
 start bytes names at = paste-zero names at bytes
@@ -32,27 +25,26 @@ module _ (bytes names₀ names : List ℕ) (at i : ℕ) (p : names ≡ paste nam
       let q : names ≡ written names₀ at bytes = rw (p, e, take-length bytes) (append_assoc (take at names₀) bytes (drop (at + length bytes) names₀)) in
       with_room bytes names₀ at (length bytes) refl h (at + length bytes) names l refl q
 
-returns-2 : tie.Need-returns-2 invariant-loop decreases-loop
-returns-2 c =
-    let a = c.before.before.before.args in
-    let l = c.before.loop in
-    ended a.bytes.now a.names.now l.names a.at l.i l.invariant.1.1 (omega arith) (omega arith) l.invariant.0 c.loop-test.false
+pub returns-then-names-at : goal.returns-then-names-at
+returns-then-names-at c = no_room _ _ _ _ refl (search rules) (search rules)
 
-pub put_bytes_spec : {M : Type 1} → statement M
-put_bytes_spec =
-    tie.close
-    (tie.spec
-    invariant-loop
-    decreases-loop
-    (λ c. search rules)
-    (λ c. no_room _ _ _ _ refl (search rules) (search rules))
-    (λ c. (omega arith, (search rules, search (start, rules))))
-    (λ c. search rules)
-    (λ c. omega arith)
-    (λ c. omega arith)
-    (λ c. search rules)
-    (λ c. search rules)
-    (λ c. (omega arith, (simp length-set (omega arith), copied _ _ _ _ _ c.before.before.loop.invariant.1.1 (search rules) (omega arith))))
-    (λ c. omega arith)
-    (λ c. search rules)
-    returns-2)
+pub loop-i-init : goal.loop-i-init
+loop-i-init c = (omega arith, (search rules, search (start, rules)))
+
+pub overflow_add-names : goal.overflow_add-names
+overflow_add-names c = omega arith
+
+pub bounds-names-at : goal.bounds-names-at
+bounds-names-at c = omega arith
+
+pub loop-i-preserved : goal.loop-i-preserved
+loop-i-preserved c = (omega arith, (simp length-set (omega arith), copied _ _ _ _ _ c.loop-i.invariant.1.1 (search rules) (omega arith)))
+
+pub overflow_add-result : goal.overflow_add-result
+overflow_add-result c = omega arith
+
+pub returns : goal.returns
+returns c =
+    let a = c.args in
+    let l = c.loop-i in
+    ended a.bytes.now a.names.now l.names a.at l.i l.invariant.1.1 (omega arith) (omega arith) l.invariant.0 c.loop-i-test.false

@@ -14,8 +14,7 @@ use Rattle.places.specs.Layout.{tag_word, position_word, Sound, Ready}
 use Rattle.growth.specs.Growth.{appended, position_in, tagged, ensuring, ensured_by, entered}
 use Rattle.growth.specs.laws.Growth.{sound_tagged, sound_entered}
 use Rattle.growth.specs.laws.Growth.{last_small}
-use Rattle.growth.proofs.add.Statement.{statement}
-use Rattle.growth.proofs.add.Tie as tie
+use Rattle.growth.proofs.add.Goals as goal
 
 module _ (text t : List ℕ) (n place code : ℕ) (name : Name) where
   full : place_limit ≤ n → ensuring (E.Refused F.TooManyPlaces) t ≡ ensured_by text place code name n t 0
@@ -33,27 +32,23 @@ module _ (text t : List ℕ) (n place code : ℕ) (name : Name) where
     sound ready good h =
         sound_entered text x w n place code f ready.here room (sound_tagged text t n place ready room code name good h x position (rw (g, d, b, a)))
 
-pub add_spec : {M : Type 1} → statement M
-add_spec =
-    tie.close
-    (tie.spec
-    (λ c. (search (full, rules), tt))
-    (λ c κs. (search rules, search rules, search (last_small, rules)))
-    (λ c κs. (search rules, search rules, search rules, search (last_small, rules)))
-    (λ c κs. search rules)
-    (λ c κs. search rules)
-    (λ c κs. search rules)
-    (λ c κs. search rules)
-    (λ c. search rules)
-    (λ c. search rules)
-    (λ c.
-    let at = c.before.before.before.before.before.before.before.before.before.before.before.before.before.before.before.before.before.before.before.before.before.before in
-    let room : at.args.count < place_limit = search rules in
-    let short : at.args.name.length < 65536 = search rules in
-    let i = c.before.before.before.before.before.before.before.before.before.before.before.before.before.before.before.before.before.next-position.ensures in
-    let a = c.before.before.before.before.before.before.before.before.before.before.before.before.before.before.before.append.ensures in
-    let b = c.before.before.before.before.before.before.before.before.before.before.before.tag.ensures in
-    let d = c.before.before.before.before.before.before.before.before.before.before.set.ensures in
-    let g = c.before.before.before.before.before.before.set2.ensures in
-    let f = c.before.before.enter.ensures in
-    (new _ _ _ _ _ _ _ _ _ _ _ _ room i a b d g f, (sound _ _ _ _ _ _ _ _ _ _ _ _ room i a b d g f (search rules) (search rules) short, search rules))))
+pub returns-then-count-ge-PLACES : goal.returns-then-count-ge-PLACES
+returns-then-count-ge-PLACES c = (search (full, rules), tt)
+
+pub next_position-position-requires : goal.next_position-position-requires
+next_position-position-requires c = (search rules, search rules, search (last_small, rules))
+
+pub append-requires : goal.append-requires
+append-requires c = (search rules, search rules, search rules, search (last_small, rules))
+
+pub returns : goal.returns
+returns c =
+    let room : c.args.count < place_limit = search rules in
+    let short : c.args.name.length < 65536 = search rules in
+    let i = c.next_position-position.ensures in
+    let a = c.append.ensures in
+    let b = c.tag.ensures in
+    let d = c.set.ensures in
+    let g = c.set-2.ensures in
+    let f = c.enter.ensures in
+    (new _ _ _ _ _ _ _ _ _ _ _ _ room i a b d g f, (sound _ _ _ _ _ _ _ _ _ _ _ _ room i a b d g f (search rules) (search rules) short, search rules))

@@ -10,8 +10,7 @@ use lib.ListN.{length}
 use Rattle.datatype.specs.Codes.{null, unknown_variant}
 use Rattle.walk.specs.Walk.{sum_of}
 use Rattle.putting.specs.Put.{Put, put, put_bytes, record_of, put_gaps}
-use Rattle.putting.proofs.put_gaps.Statement.{statement}
-use Rattle.putting.proofs.put_gaps.Tie as tie
+use Rattle.putting.proofs.put_gaps.Goals as goal
 
 started : (slot count : ℕ) (p : Put) → put_gaps slot 0 (count - 0) p ≡ put_gaps slot 0 count p
 started slot count p = let l : count - 0 ≡ count = omega arith in rw l
@@ -28,27 +27,11 @@ module _ (slot i count at : ℕ) (buffer : List ℕ) (whole : Put) (w : put_gaps
       let l : count - i ≡ suc (count - (i + 1)) = omega arith in
       rw (e, t, s, n, add-one i) (rw (l, put_gaps, add-one i) at w)
 
-abbrev invariant-loop : tie.invariant-loop
-invariant-loop fields₀ at slot count next₀ i₀ fields next i =
-    (put_gaps slot i (count - i) (put next fields) ≡ put_gaps slot 0 count (put at fields₀)) × ((i ≤ count) × ((next ≤ length fields) × (length fields ≡ length fields₀)))
+pub loop-i-init : goal.loop-i-init
+loop-i-init c = (search (started, rules), (omega arith, (search rules, search rules)))
 
-abbrev decreases-loop : tie.decreases-loop
-decreases-loop fields₀ at slot count next₀ i₀ fields next i = count - i
+pub loop-i-preserved : goal.loop-i-preserved
+loop-i-preserved c = (search (again, rules), (search rules, (search rules, search rules)))
 
-pub put_gaps_spec : {M : Type 1} → statement M
-put_gaps_spec =
-    tie.close
-    (tie.spec
-    invariant-loop
-    decreases-loop
-    (λ c. (search (started, rules), (omega arith, (search rules, search rules))))
-    (λ c κs. search rules)
-    (λ c κs. search rules)
-    (λ c κs. search rules)
-    (λ c. search rules)
-    (λ c κs. search rules)
-    (λ c. search rules)
-    (λ c. search rules)
-    (λ c. (search (again, rules), (search rules, (search rules, search rules))))
-    (λ c. search rules)
-    (λ c. (search (ended, rules), search rules)))
+pub returns : goal.returns
+returns c = (search (ended, rules), search rules)
