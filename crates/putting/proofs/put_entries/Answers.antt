@@ -11,8 +11,7 @@ use Rattle.datatype.specs.Codes.{struct, no_strategy}
 use Rattle.model.specs.Kinds.{map_kind}
 use Rattle.model.specs.Emission.{entries_name}
 use Rattle.putting.specs.Put.{put, put_bytes, record_of, writing, both, entries_in}
-use Rattle.putting.proofs.put_entries.Statement.{statement}
-use Rattle.putting.proofs.put_entries.Tie as tie
+use Rattle.putting.proofs.put_entries.Goals as goal
 
 module _ (kind i j : ℕ) (fields names : List ℕ) where
   no_map : (kind ≡ map_kind → ⊥) → writing i j fields names ≡ entries_in kind (writing i j fields names)
@@ -25,17 +24,8 @@ module _ (kind i j : ℕ) (fields names : List ℕ) where
   unfolding entries_in both if◌then◌else◌
   of_map next named type strategy records bytes e t s p q = rw (eq-eqb kind map_kind e, ← (rw (t, s) at p), ← q)
 
-pub put_entries_spec : {M : Type 1} → statement M
-put_entries_spec =
-    tie.close
-    (tie.spec
-    (λ c. (no_map _ _ _ _ _ (search rules), search rules))
-    (λ c κs. search rules)
-    (λ c κs. search rules)
-    (λ c. search rules)
-    (λ c κs. search rules)
-    (λ c. search rules)
-    (λ c κs. search rules)
-    (λ c. search rules)
-    (λ c. search rules)
-    (λ c. (search (of_map, rules), search rules)))
+pub returns-then-kind-ne-MAP : goal.returns-then-kind-ne-MAP
+returns-then-kind-ne-MAP c = (no_map _ _ _ _ _ (search rules), search rules)
+
+pub returns : goal.returns
+returns c = (search (of_map, rules), search rules)

@@ -16,8 +16,7 @@ use Rattle.places.specs.Layout.{Linked}
 use Rattle.places.specs.Reading.{step_at, child_name}
 use Rattle.places.specs.laws.Reading.{field_inside, variant_inside}
 use Rattle.putting.specs.Put.{Put, put_bytes}
-use Rattle.putting.proofs.put_name.Statement.{statement}
-use Rattle.putting.proofs.put_name.Tie as tie
+use Rattle.putting.proofs.put_name.Goals as goal
 
 module _ (text t : List ℕ) (child : ℕ) (step : Step) (s : step ≡ step_at t child) where
   field_ends : (name : Name) → Linked text t place_limit → IsRow child → step ≡ S.Field name → Inside text name
@@ -51,37 +50,26 @@ module _ (text t : List ℕ) (child : ℕ) (step : Step) (s : step ≡ step_at t
     unfolding child_name
     variant number name bytes e b q = rw (sym s ∙ e) (rw b at q)
 
-pub put_name_spec : {M : Type 1} → statement M
-put_name_spec =
-    tie.close
-    (tie.spec
-    (λ c κs. search rules)
-    (λ c. search rules)
-    (λ c. search rules)
-    (λ c κs. search rules)
-    (λ c. search rules)
-    (λ c. search rules)
-    (λ c κs. search rules)
-    (λ c. search rules)
-    (λ c. search rules)
-    (λ c κs. search rules)
-    (λ c. search rules)
-    (λ c κs. search (field_ends, rules))
-    (λ c κs. search rules)
-    (λ c. search rules)
-    (λ c κs. search rules)
-    (λ c. search rules)
-    (λ c κs. search (variant_ends, rules))
-    (λ c κs. search rules)
-    (λ c. search rules)
-    (λ c. (search (element, rules), search rules))
-    (λ c. search rules)
-    (λ c. (search (key, rules), search rules))
-    (λ c. search rules)
-    (λ c. (search (value, rules), search rules))
-    (λ c. search rules)
-    (λ c. (search (field, rules), search rules))
-    (λ c. search rules)
-    (λ c. (search (position, rules), search rules))
-    (λ c. search rules)
-    (λ c. (search (variant, rules), search rules)))
+pub bytes-requires : goal.bytes-requires
+bytes-requires c = search (field_ends, rules)
+
+pub bytes-requires-in-Variant : goal.bytes-requires-in-Variant
+bytes-requires-in-Variant c = search (variant_ends, rules)
+
+pub returns-in-Element : goal.returns-in-Element
+returns-in-Element c = (search (element, rules), search rules)
+
+pub returns-in-Key : goal.returns-in-Key
+returns-in-Key c = (search (key, rules), search rules)
+
+pub returns-in-Value : goal.returns-in-Value
+returns-in-Value c = (search (value, rules), search rules)
+
+pub returns-in-Field : goal.returns-in-Field
+returns-in-Field c = (search (field, rules), search rules)
+
+pub returns-in-Position : goal.returns-in-Position
+returns-in-Position c = (search (position, rules), search rules)
+
+pub returns-in-Variant : goal.returns-in-Variant
+returns-in-Variant c = (search (variant, rules), search rules)
