@@ -17,8 +17,7 @@ use Rattle.places.specs.Reading.{child_name}
 use Rattle.putting.specs.Put.{put, put_bytes, record_of, writing, both}
 use Rattle.fields.specs.Fields.{is_dictionary, field_count}
 use Rattle.schema.specs.Emit.{field_at}
-use Rattle.schema.proofs.put_field.Statement.{statement}
-use Rattle.schema.proofs.put_field.Tie as tie
+use Rattle.schema.proofs.put_field.Goals as goal
 
 module _ (options : ℕ) (text t : List ℕ) (place : ℕ) (nullable : Bool) (number i j next named size : ℕ) (fields names records bytes : List ℕ)
     (is : Bool) (d : is ≡ is_dictionary options t place) (l : size ≡ length (child_name text t place)) (q : put named bytes ≡ put_bytes (child_name text t place) names j) where
@@ -35,26 +34,8 @@ module _ (options : ℕ) (text t : List ℕ) (place : ℕ) (nullable : Bool) (nu
   unfolding field_at both if◌then◌else◌
   of_kind kind code strategy count how p k e s c n r = rw (sym d ∙ p, ← k, ← l, ← e, ← (c ∙ s), ← n, ← r, ← q)
 
-pub put_field_spec : {M : Type 1} → statement M
-put_field_spec =
-    tie.close
-    (tie.spec
-    (λ c κs. search rules)
-    (λ c κs. search rules)
-    (λ c κs. search rules)
-    (λ c κs. search rules)
-    (λ c κs. search rules)
-    (λ c κs. search rules)
-    (λ c κs. search rules)
-    (λ c κs. search rules)
-    (λ c. search rules)
-    (λ c. search rules)
-    (λ c. (search (of_dictionary, rules), search rules))
-    (λ c κs. search rules)
-    (λ c κs. search rules)
-    (λ c κs. search rules)
-    (λ c κs. search rules)
-    (λ c κs. search rules)
-    (λ c. search rules)
-    (λ c. search rules)
-    (λ c. (search (of_kind, rules), search rules)))
+pub returns-then-is_dictionary : goal.returns-then-is_dictionary
+returns-then-is_dictionary c = (search (of_dictionary, rules), search rules)
+
+pub returns : goal.returns
+returns c = (search (of_kind, rules), search rules)

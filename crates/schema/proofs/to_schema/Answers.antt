@@ -10,8 +10,7 @@ use Rattle.walk.specs.declared.Walked.TheVariants as W
 use Rattle.walk.specs.Walk.{walked}
 use Rattle.schema.specs.declared.Emitted.TheVariants as E
 use Rattle.schema.specs.Emit.{Answered, answered, level_limit, finished, to_schema_at}
-use Rattle.schema.proofs.to_schema.Statement.{statement}
-use Rattle.schema.proofs.to_schema.Tie as tie
+use Rattle.schema.proofs.to_schema.Goals as goal
 
 -- t is the table with the children in order
 module _ (options : ℕ) (text t ordered fields names : List ℕ) (o : t ≡ ordered) (answer : Walked) (a : answer ≡ walked options text t level_limit root_place) where
@@ -24,18 +23,8 @@ module _ (options : ℕ) (text t ordered fields names : List ℕ) (o : t ≡ ord
   unfolding to_schema_at
   walked_through records bytes below whole e f = rw (← o, sym a ∙ e) f
 
-pub to_schema_spec : {M : Type 1} → statement M
-to_schema_spec =
-    tie.close
-    (tie.spec
-    (λ c κs. search rules)
-    (λ c κs. search rules)
-    (λ c. search rules)
-    (λ c. search rules)
-    (λ c κs. search rules)
-    (λ c. search rules)
-    (λ c. (search (refused, rules), search rules))
-    (λ c. search rules)
-    (λ c. search rules)
-    (λ c. search rules)
-    (λ c. (search (walked_through, rules), search rules)))
+pub returns-in-Refused : goal.returns-in-Refused
+returns-in-Refused c = (search (refused, rules), search rules)
+
+pub returns-in-Below : goal.returns-in-Below
+returns-in-Below c = (search (walked_through, rules), search rules)

@@ -15,8 +15,7 @@ use Rattle.places.specs.Layout.{kind_word, null_word, root_place}
 use Rattle.schema.specs.declared.Emitted.TheVariants as E
 use Rattle.putting.specs.Put.{writing}
 use Rattle.schema.specs.Emit.{answered, emitted_at, fields_below, level_limit, finished}
-use Rattle.schema.proofs.finish.Statement.{statement}
-use Rattle.schema.proofs.finish.Tie as tie
+use Rattle.schema.proofs.finish.Goals as goal
 
 module _ (options : ℕ) (text t fields names : List ℕ) (records bytes below kind seen : ℕ) (k : kind ≡ word t root_place kind_word) (u : seen ≡ word t root_place null_word) where
   nullable_root_lem : seen ≡ 1 → answered (E.Refused F.NullableRoot) fields names ≡ finished options text t fields names records bytes below
@@ -51,32 +50,22 @@ module _ (options : ℕ) (text t fields names : List ℕ) (records bytes below k
           emitted i j out named h e =
               rw (← u, ne_eqb seen 1 n, ← k, ne_eqb kind null m, sym r ∙ not-false root s, ← d, le-ltb (length fields) (needed * 8) g, ← b, le-ltb (length names) many h, ← e)
 
-returns-6 : tie.Need-returns-6
-returns-6 c =
-    let e = c.before.before.before.before in
-    let b = e.before.before.before in
-    let w = b.before.before.before in
-    let r = w.before.before in
-    let n = r.before.before in
-    emitted _ _ _ _ _ _ _ _ _ _ n.before.before.get.ensures n.before.get2.ensures n.if1.false r.before.if2.false _ r.emits-struct.ensures w.before.if3.false
-    _ w.wide.ensures b.before.before.if4.false _ b.before.wide2.ensures _ _ _ _ b.if5.false e.emit-children.ensures.0
+pub returns-then-get-eq1 : goal.returns-then-get-eq1
+returns-then-get-eq1 c = search (nullable_root_lem, rules)
 
-pub finish_spec : {M : Type 1} → statement M
-finish_spec =
-    tie.close
-    (tie.spec
-    (λ c κs. search rules)
-    (λ c κs. search rules)
-    (λ c. search (nullable_root_lem, rules))
-    (λ c. search (null_root_lem, rules))
-    (λ c κs. search rules)
-    (λ c. search (no_struct, rules))
-    (λ c κs. search rules)
-    (λ c. search rules)
-    (λ c. search (short_fields, rules))
-    (λ c κs. search rules)
-    (λ c. search (short_names, rules))
-    (λ c κs. search rules)
-    (λ c. search rules)
-    (λ c. search rules)
-    returns-6)
+pub returns-then-kind-eq-UNKNOWN : goal.returns-then-kind-eq-UNKNOWN
+returns-then-kind-eq-UNKNOWN c = search (null_root_lem, rules)
+
+pub returns-then-not-emits_struct : goal.returns-then-not-emits_struct
+returns-then-not-emits_struct c = search (no_struct, rules)
+
+pub returns-then-fields-wide : goal.returns-then-fields-wide
+returns-then-fields-wide c = search (short_fields, rules)
+
+pub returns-then-names-wide : goal.returns-then-names-wide
+returns-then-names-wide c = search (short_names, rules)
+
+pub returns : goal.returns
+returns c =
+    emitted _ _ _ _ _ _ _ _ _ _ c.get-kind.ensures c.get.ensures c.if-get-eq1.false c.if-kind-eq-UNKNOWN.false _ c.emits_struct.ensures c.if-not-emits_struct.false-raw
+    _ c.wide.ensures c.if-fields-wide.false _ c.wide-2.ensures _ _ _ _ c.if-names-wide.false c.emit_children.ensures.0
