@@ -1,0 +1,43 @@
+-- The emission of a place, of its children and of a child, as one cycle: the levels fall. Over the children, those that are left give what all give.
+use borrow.Author.Rules.{rules}
+use mathlib.Core.Path.{◌≡◌, refl}
+use Prim.Native.Nat.{ℕ, ◌+◌, ◌*◌, ◌<◌, ◌≤◌}
+use native.Mathlib.Omega.{arith}
+use lib.ListN.{length}
+use Rattle.places.specs.Reading.{child_limit}
+use Rattle.words.specs.Word.{IsRow}
+use Rattle.model.specs.Tracing.{place_limit}
+use Rattle.places.specs.Layout.{Linked}
+use Rattle.putting.specs.Put.{writing}
+use Rattle.schema.specs.Emit.{fields_from, emitted_at}
+use Rattle.schema.proofs.Emits.{spent, ended, next, in_child, some_level, leaf, opened}
+use Rattle.schema.proofs.+emitting.Goals as goal
+
+pub emit-returns-then-is_leaf : goal.emit-returns-then-is_leaf
+emit-returns-then-is_leaf t c = (search (leaf, rules), search rules)
+
+pub emit-overflow_sub-levels : goal.emit-overflow_sub-levels
+emit-overflow_sub-levels t c = search (some_level, rules)
+
+pub emit-emit_children-requires : goal.emit-emit_children-requires
+emit-emit_children-requires t c = let h : 1 ≤ c.args.levels = search (some_level, rules) in (omega arith, search rules)
+
+pub emit-returns : goal.emit-returns
+emit-returns t c = (search (opened, rules), search rules)
+
+pub emit_child-returns : goal.emit_child-returns
+emit_child-returns t c = (search (in_child, rules), search rules)
+
+pub emit_children-loop-left-init : goal.emit_children-loop-left-init
+emit_children-loop-left-init t c = (refl, search rules, search rules, search rules, search rules, search rules, search rules, search rules)
+
+pub emit_children-returns-then-child-eq0 : goal.emit_children-returns-then-child-eq0
+emit_children-returns-then-child-eq0 t c = (search (ended, rules), search rules)
+
+pub emit_children-loop-left-preserved : goal.emit_children-loop-left-preserved
+emit_children-loop-left-preserved t c =
+    let l = c.loop-left in
+    (search (next, rules), search rules, l.invariant.2, l.invariant.3, search rules, search rules, search rules, search rules)
+
+pub emit_children-returns : goal.emit_children-returns
+emit_children-returns t c = (search (spent, rules), search rules)
