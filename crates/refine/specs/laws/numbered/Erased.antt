@@ -113,6 +113,19 @@ unfolding steps_s put_s if◌then◌else◌
 put_steps s N v no_spots = refl
 put_steps s N v (child r h x u ks) = cases (same s r) (λ q. rw q refl) (λ q. rw q (ap (λ (rs : List Step). r ∷ rs) (put_steps s N v ks)))
 
+-- past a child at another step
+kid_other : (s r : Step) → same s r ≡ false → (h : ℕ) (t : Tree) (K : Kids) → kid_at s (kid r h t K) ≡ kid_at s K
+unfolding kid_at if◌then◌else◌
+kid_other s r e h t K = rw e refl
+
+put_other : (s r : Step) → same s r ≡ false → (t : Tree) (h : ℕ) (u : Tree) (K : Kids) → put s t (kid r h u K) ≡ kid r h u (put s t K)
+unfolding put if◌then◌else◌
+put_other s r e t h u K = rw e refl
+
+-- a place put back in its place
+put_back : (s r : Step) → same s r ≡ false → (h : ℕ) (t : Tree) (K : Kids) → put s (kid_at s (kid r h t K)) (kid r h t K) ≡ kid r h t (put s (kid_at s K) K)
+put_back s r e h t K = put_other s r e (kid_at s (kid r h t K)) h t K ∙ ap (λ (x : Tree). kid r h t (put s x K)) (kid_other s r e h t K)
+
 -- a new child, which this sample has not seen
 mid_add : {seen : Step → Bool} {N most : ℕ} (s : Step) (n : ℕ) {ks : Spots} {K : Kids} → seen s ≡ false → 0 < N → has s (steps_s ks) ≡ false → Mid seen N most ks K
     → Mid seen N most (add_s s n ks) (put s (kid_at s K) K)
@@ -120,9 +133,9 @@ unfolding steps_s has add_s kid_at put if◌then◌else◌
 mid_add {seen = seen} {N = N} s n w l a mnil =
     let e : ◌≡◌ {A = ℕ} 0 (0 + one (seen s)) = rw w refl in
     mcons {s = s} {x = 0} {u = new_spot n} e (ne_eqb 0 N (λ z. omega arith) ∙ sym w) (omega arith, l) refl (omega arith, tt) mnil
-mid_add s n w l a (mcons {s = r} {ks = ks} e f i d g j) =
+mid_add {seen = seen} {N = N} {most = most} s n w l a (mcons {s = r} {h = h} {g = v} {x = x} {u = u} {ks = ks} {K = K} e f i d g j) =
     neither (same s r) (has s (steps_s ks)) a λ p q.
-    rw p (mcons e f i (add_has r s n ks ∙ rw (d, same_sym r s, p) refl) g (mid_add s n w l q j))
+    subst (λ (T : Kids). Mid seen N most (add_s s n (child r h x u ks)) T) (sym (put_back s r p v (erase u) K)) (mcons e f i (add_has r s n ks ∙ rw (d, same_sym r s, p) refl) g (mid_add s n w l q j))
 
 -- the seen steps, with one more
 abbrev Seen : (Step → Bool) → Step → Step → Bool
@@ -168,7 +181,7 @@ mid_put {seen = seen} {N = N} s v m a gv (mcons {s = r} {h = h} {g = g'} {x = x}
 has_kid : (s : Step) (K : Kids) → has s (steps_of K) ≡ true → put s (kid_at s K) K ≡ K
 unfolding steps_of has put kid_at if◌then◌else◌
 has_kid s no_kids e = absurd (false≢true e)
-has_kid s (kid r h t K) e = cases (same s r) (λ q. rw q refl) (λ q. let e' : has s (steps_of K) ≡ true = rw q at e in rw q (ap (kid r h t) (has_kid s K e')))
+has_kid s (kid r h t K) e = cases (same s r) (λ q. rw q refl) (λ q. let e' : has s (steps_of K) ≡ true = rw q at e in put_back s r q h t K ∙ ap (kid r h t) (has_kid s K e'))
 
 put_put : (s : Step) (t t' : Tree) (K : Kids) → put s t' (put s t K) ≡ put s t' K
 unfolding put if◌then◌else◌
