@@ -173,7 +173,7 @@ module _ (options : ℕ) (text t : List ℕ) where
           let q : arranged k (fields_s options k m 0 (order_s false k ks)) ≡ no_fields = rw z (arranged_none options k m c) in
           let own = own_field lacking number name no_fields d nm kl (leaf_count c z) (omega arith) in
           rw (emitted_leaf levels p lacking number w (leaf_is (λ c'. absurd (true≢false (sym c' ∙ c)))), d, q)
-          (writes_as (field_at options text t p (lacking || eqb (word t p null_word) 1) number) _ name _ (name ++ []) (sym (append-nil _)) (sym (append-nil name)) own w (rw (d, q) at room))
+          (writes_as (field_at options text t p (lacking || eqb (word t p null_word) 1) number) (◌++◌ {A = ℕ} (type_of options k ∷ one (lacking || b) ∷ strategy_of k ∷ number ∷ two_bytes (length {A = ℕ} name)) (two_bytes (child_count no_fields))) name _ (name ++ []) (sym (append-nil _)) (sym (append-nil name)) own w (rw (d, q) at room))
 
       place_inner : as_words ≡ false → is_container k ≡ true → k < 256 → (eqb k map_kind ≡ true → many_s ks ≡ 2) →
           AllS (Told options text t n p k m) (order_s false k ks) → (eqb k union_kind ≡ true → Rising 0 (order_s false k ks))
@@ -186,7 +186,7 @@ module _ (options : ℕ) (text t : List ℕ) where
           let own = own_field lacking number name fs d nm kl (counts two told rises).0 (counts two told rises).1 in
           let under = below_write options text t n p k m (emitted_at options text t levels) ks few two (r 2 (omega arith)) inner h in
           let all = writes_next (field_at options text t p (lacking || eqb (word t p null_word) 1) number)
-          (fields_below t (emitted_at options text t levels) k p) _ name (records_in fs) (names_in fs) own under in
+          (fields_below t (emitted_at options text t levels) k p) (◌++◌ {A = ℕ} (type_of options k ∷ one (lacking || b) ∷ strategy_of k ∷ number ∷ two_bytes (length {A = ℕ} name)) (two_bytes (child_count (arranged k (fields_s options k m 0 (order_s false k ks)))))) name (records_in fs) (names_in fs) own under in
           rw (emitted_below_lem levels p lacking number w (inner_is c d), e₀, d) (all w (rw d at room))
 
 -- ---- the second walk
