@@ -3,8 +3,14 @@
 #![tactic(auto)]
 
 ghost use Rattle.std.specs.Prelude.{◌≡◌, ◌+◌, ◌<◌, ◌≤◌, min, length};
+ghost use Rattle.std.specs.Io.{ReadsAtMost};
 ghost use Rattle.io.specs.Counts.{IsPrefixLen};
 ghost use Rattle.files.specs.Bytes.{two_bytes, three_bytes};
+
+use std::fs;
+use std::io;
+use std::io::Read;
+use std::rt::Files;
 
 // What came of reading: how many bytes are at the start of the buffer. Where the file cannot be read, a line on
 // standard error has said why.
@@ -14,61 +20,53 @@ pub struct Loaded {
     pub bytes: usize,
 }
 
-// One read.
-fn read_some(fd: i32, path: &[u8], buffer: &mut [u8]) -> Loaded
-    ensures { IsPrefixLen result.bytes buffer.new }
-{
-    let got = libc::read(fd, buffer);
-    let bytes = io::count(got, buffer);
-    if got < 0 {
-        os::fail(path);
-        return Loaded {
-            readable: false,
-            bytes,
-        };
-    }
-    Loaded {
-        readable: true,
-        bytes,
-    }
-}
-
 // Reads until the file ends or the buffer is full.
-fn read_all(fd: i32, path: &[u8], buffer: &mut [u8]) -> Loaded
-    ensures { IsPrefixLen result.bytes buffer.new }
+fn read_all<F: Read>(file: &mut F, buffer: &mut [u8]) -> io::Result<usize>
+    ensures { ReadsAtMost result buffer.new }
 {
     let mut done = 0;
     while done < buffer.len() {
-        let some = read_some(fd, path, &mut buffer[done..]);
-        if some.bytes == 0 {
-            return Loaded {
-                readable: some.readable,
-                bytes: done,
-            };
+        let some = file.read(&mut buffer[done..])?;
+        if some == 0 {
+            return Ok(done);
         }
-        done += some.bytes;
+        done += some;
     }
-    Loaded {
-        readable: true,
-        bytes: done,
-    }
+    Ok(done)
+}
+
+// The same of the file with that path.
+fn read_file<R: Files>(rt: &R, path: &str, buffer: &mut [u8]) -> io::Result<usize>
+    ensures { ReadsAtMost result buffer.new }
+{
+    let mut file = fs::open(rt, path)?;
+    read_all(&mut file, buffer)
 }
 
 // The file's bytes into a buffer, as many as it holds. No contract can say which bytes these are, nor how many.
-pub fn load(path: &[u8], buffer: &mut [u8]) -> Loaded
+pub fn load<R: Files + Eprint>(rt: &R, path: &[u8], buffer: &mut [u8]) -> Loaded
     ensures { IsPrefixLen result.bytes buffer.new }
 {
-    let fd = os::open_read(path);
-    if fd < 0 {
-        os::fail(path);
+    let Ok(path) = std::str::from_utf8(path) else {
+        let _ = eprintln!(rt; "a path that is not UTF-8");
         return Loaded {
             readable: false,
             bytes: 0,
         };
+    };
+    match read_file(rt, path, buffer) {
+        Ok(bytes) => Loaded {
+            readable: true,
+            bytes,
+        },
+        Err(error) => {
+            let _ = eprintln!(rt; "{path}: {error}");
+            Loaded {
+                readable: false,
+                bytes: 0,
+            }
+        }
     }
-    let loaded = read_all(fd, path, buffer);
-    libc::close(fd);
-    loaded
 }
 
 pub fn wide(byte: u8) -> usize

@@ -21,8 +21,7 @@ use Rattle.call.specs.declared.Outcome.{Outcome}
 use Rattle.call.specs.declared.Outcome.TheVariants as O
 use Rattle.call.specs.Call.{lent, answer_by}
 use Rattle.call.specs.laws.Call.{lent_is_answer}
-use Rattle.call.proofs.trace.Statement.{statement}
-use Rattle.call.proofs.trace.Tie as tie
+use Rattle.call.proofs.trace.Goals as goal
 
 -- the part that is lent
 part : (t : List ℕ) → table_words ≤ length t → IsTable (take table_words t)
@@ -60,20 +59,20 @@ module _ (options word : ℕ) (commands text t fields names : List ℕ) (made : 
           rw (← made, ← u, known, le-ltb (length t) table_words room, ← l, e)
           (lent_is_answer t room o (batch word commands text) ended fields names records written (schema_of (batch word commands text)) q)
 
-pub trace_spec : {M : Type 1} → statement M
-trace_spec =
-    tie.close
-    (tie.spec
-    (λ c κs. search rules)
-    (λ c κs. search rules)
-    (λ c. search (unknown_option_lem, rules))
-    (λ c. search (short_table_lem, rules))
-    (λ c κs. search rules)
-    (λ c. search (long_input_lem, rules))
-    (λ c. search rules)
-    (λ c. search (part_length, rules))
-    (λ c κs. (search (short_enough, rules), search (part, rules)))
-    (λ c. search rules)
-    (λ c. search rules)
-    (λ c. search rules)
-    (λ c. search (traced, rules)))
+pub returns-then-has_unknown_bit : goal.returns-then-has_unknown_bit
+returns-then-has_unknown_bit c = search (unknown_option_lem, rules)
+
+pub returns-then-table-lt-WORDS : goal.returns-then-table-lt-WORDS
+returns-then-table-lt-WORDS c = search (short_table_lem, rules)
+
+pub returns-then-is_long : goal.returns-then-is_long
+returns-then-is_long c = search (long_input_lem, rules)
+
+pub slice_bounds-trace_part-end-2 : goal.slice_bounds-trace_part-end-2
+slice_bounds-trace_part-end-2 c = search (part_length, rules)
+
+pub trace_part-requires : goal.trace_part-requires
+trace_part-requires c = (search (short_enough, rules), search (part, rules))
+
+pub returns : goal.returns
+returns c = search (traced, rules)

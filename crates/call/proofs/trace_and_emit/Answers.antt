@@ -20,8 +20,7 @@ use Rattle.schema.specs.Emit.{answered, to_schema_at}
 use Rattle.call.specs.declared.Outcome.TheVariants as O
 use Rattle.call.specs.Call.{given, emitted_from}
 use Rattle.call.specs.laws.Call.{linked_more, cleared_ordered}
-use Rattle.call.proofs.trace_and_emit.Statement.{statement}
-use Rattle.call.proofs.trace_and_emit.Tie as tie
+use Rattle.call.proofs.trace_and_emit.Goals as goal
 
 module _ (text u : List ℕ) (r : Traced) (behind n : ℕ) (next : r ≡ T.Next behind n) (after : SoundTraced text u 1 r) where
   linked_after : Linked text u place_limit
@@ -54,25 +53,17 @@ module _ (options : ℕ) (commands text t u fields names : List ℕ) (r : Traced
         (from_samples commands text options t)
     turned_down_lem refusal e = rw (← traced, next, ← emitted, e) refl
 
-pub trace_and_emit_spec : {M : Type 1} → statement M
-trace_and_emit_spec =
-    tie.close
-    (tie.spec
-    (λ c κs. search rules)
-    (λ c. search rules)
-    (λ c κs. (search (linked_after, rules), search (few_after, rules)))
-    (λ c κs. (search (ordered_table, rules), search (few_after, rules)))
-    (λ c. search rules)
-    (λ c. search rules)
-    (λ c. search rules)
-    (λ c κs. search rules)
-    (λ c. search rules)
-    (λ c. search rules)
-    (λ c. search rules)
-    (λ c. (search (schema, rules), search (zeroed_after, rules)))
-    (λ c. search rules)
-    (λ c. search rules)
-    (λ c. search rules)
-    (λ c. (search (turned_down_lem, rules), search (zeroed_after, rules)))
-    (λ c. search rules)
-    (λ c. (search (refused, rules), search rules)))
+pub to_schema-emitted-requires : goal.to_schema-emitted-requires
+to_schema-emitted-requires c = (search (linked_after, rules), search (few_after, rules))
+
+pub clear_places-requires : goal.clear_places-requires
+clear_places-requires c = (search (ordered_table, rules), search (few_after, rules))
+
+pub returns-in-Schema : goal.returns-in-Schema
+returns-in-Schema c = (search (schema, rules), search (zeroed_after, rules))
+
+pub returns-in-Refused-emitted : goal.returns-in-Refused-emitted
+returns-in-Refused-emitted c = (search (turned_down_lem, rules), search (zeroed_after, rules))
+
+pub returns-in-Refused : goal.returns-in-Refused
+returns-in-Refused c = (search (refused, rules), search rules)

@@ -7,8 +7,7 @@ use Prim.Native.Nat.{ℕ, ◌<◌}
 use lib.ListN.{length, get_or}
 use Rattle.commands.specs.Bytes.{Bytes}
 use Rattle.call.specs.laws.Call.{bytes_known}
-use Rattle.call.proofs.first_byte.Statement.{statement}
-use Rattle.call.proofs.first_byte.Tie as tie
+use Rattle.call.proofs.first_byte.Goals as goal
 
 none : (xs : List ℕ) → length xs ≡ 0 → (0 ≡ get_or xs 0 0) × Bytes xs
 none [] e = (refl, tt)
@@ -17,6 +16,8 @@ none (x ∷ xs) e = absurd (omega arith)
 one : (xs : List ℕ) (r : ℕ) → r ≡ get_or xs 0 0 → ((i : ℕ) → get_or xs i 0 < 256) → (r ≡ get_or xs 0 0) × Bytes xs
 one xs r e h = (e, bytes_known xs h)
 
-pub first_byte_spec : {M : Type 1} → statement M
-first_byte_spec = tie.close (tie.spec (λ c. none c.before.args.commands.now c.if1.true) (λ c. search rules)
-    (λ c. one c.before.before.args.commands.now _ refl (λ i. omega (arith, c.shared-slice-known.given i))))
+pub returns-then-commands-eq0 : goal.returns-then-commands-eq0
+returns-then-commands-eq0 c = none c.args.commands.now c.if-commands-eq0.true
+
+pub returns : goal.returns
+returns c = one c.args.commands.now _ refl (λ i. omega (arith, c.shared_slice_known-1.given i))

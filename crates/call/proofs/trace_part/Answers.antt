@@ -14,8 +14,7 @@ use Rattle.model.specs.Demand3.{batch}
 use Rattle.call.specs.declared.Outcome.{Outcome}
 use Rattle.call.specs.Call.{lent, answer_by, given, emitted_from}
 use Rattle.call.specs.laws.Call.{given_is_answer}
-use Rattle.call.proofs.trace_part.Statement.{statement}
-use Rattle.call.proofs.trace_part.Tie as tie
+use Rattle.call.proofs.trace_part.Goals as goal
 
 sound_at_first : (text u : List ℕ) → u ≡ zeros → Sound text u 1
 sound_at_first text u e = rw e (sound_zeros text)
@@ -27,14 +26,8 @@ ended : (options : ℕ) (commands text t fields names u records written : List �
 ended options commands text t fields names u records written o z g e f bytes short whole =
     rw f (given_is_answer options commands text t fields names bytes short whole o records written (rw e at g))
 
-pub trace_part_spec : {M : Type 1} → statement M
-trace_part_spec =
-    tie.close
-    (tie.spec
-    (λ c κs. search rules)
-    (λ c κs. search rules)
-    (λ c κs. search (sound_at_first, rules))
-    (λ c. search rules)
-    (λ c. search rules)
-    (λ c. search rules)
-    (λ c. search (ended, rules)))
+pub trace_and_emit-requires : goal.trace_and_emit-requires
+trace_and_emit-requires c = search (sound_at_first, rules)
+
+pub returns : goal.returns
+returns c = search (ended, rules)
