@@ -1,5 +1,5 @@
-// What is exported to C and to Rust, and nothing else. What it promises is in specs/Called.antt, and what follows for the
-// planner in specs/Demands.antt.
+// The call as C and Rust have it (fasthrom_c exports it), and nothing else. What it promises is in specs/Called.antt, and what follows
+// for the planner in specs/Demands.antt.
 
 #![tactic(auto)]
 
@@ -20,8 +20,7 @@ pub struct Answer {
 }
 
 // The call.
-#[unsafe(no_mangle)]
-pub extern "C" fn fasthrom_trace(
+pub fn fasthrom_trace(
     options: u16,
     commands: &[u8],
     text: &[u8],

@@ -3,12 +3,10 @@
 #![tactic(auto)]
 
 ghost use Rattle.std.specs.Prelude.{◌≡◌, ◌+◌, ◌<◌, ◌≤◌, min, length};
-ghost use Rattle.std.specs.Io.{ReadsAtMost};
 ghost use Rattle.io.specs.Counts.{IsPrefixLen};
 ghost use Rattle.files.specs.Bytes.{two_bytes, three_bytes};
 
 use std::fs;
-use std::io;
 use std::io::Read;
 use std::rt::Files;
 
@@ -20,47 +18,70 @@ pub struct Loaded {
     pub bytes: usize,
 }
 
-// Reads until the file ends or the buffer is full.
-fn read_all<F: Read>(file: &mut F, buffer: &mut [u8]) -> io::Result<usize>
-    ensures { ReadsAtMost result buffer.new }
-{
-    let mut done = 0;
-    while done < buffer.len() {
-        let some = file.read(&mut buffer[done..])?;
-        if some == 0 {
-            return Ok(done);
-        }
-        done += some;
-    }
-    Ok(done)
-}
-
-// The same of the file with that path.
-fn read_file<R: Files>(rt: &R, path: &str, buffer: &mut [u8]) -> io::Result<usize>
-    ensures { ReadsAtMost result buffer.new }
-{
-    let mut file = fs::open(rt, path)?;
-    read_all(&mut file, buffer)
-}
-
-// The file's bytes into a buffer, as many as it holds. No contract can say which bytes these are, nor how many.
-pub fn load<R: Files + Eprint>(rt: &R, path: &[u8], buffer: &mut [u8]) -> Loaded
+// One read. A failed one has put nothing into the buffer.
+fn read_some<R: Eprint, F: Read>(rt: &R, file: &mut F, path: &str, buffer: &mut [u8]) -> Loaded
     ensures { IsPrefixLen result.bytes buffer.new }
 {
-    let Ok(path) = std::str::from_utf8(path) else {
-        let _ = eprintln!(rt; "a path that is not UTF-8");
-        return Loaded {
-            readable: false,
-            bytes: 0,
-        };
-    };
-    match read_file(rt, path, buffer) {
+    match file.read(buffer) {
         Ok(bytes) => Loaded {
             readable: true,
             bytes,
         },
         Err(error) => {
             let _ = eprintln!(rt; "{path}: {error}");
+            Loaded {
+                readable: false,
+                bytes: 0,
+            }
+        }
+    }
+}
+
+// Reads until the file ends or the buffer is full.
+fn read_all<R: Eprint, F: Read>(rt: &R, file: &mut F, path: &str, buffer: &mut [u8]) -> Loaded
+    ensures { IsPrefixLen result.bytes buffer.new }
+{
+    let mut done = 0;
+    while done < buffer.len() {
+        let some = read_some(rt, file, path, &mut buffer[done..]);
+        if some.bytes == 0 {
+            return Loaded {
+                readable: some.readable,
+                bytes: done,
+            };
+        }
+        done += some.bytes;
+    }
+    Loaded {
+        readable: true,
+        bytes: done,
+    }
+}
+
+// The same of the file with that path.
+fn read_file<R: Files + Eprint>(rt: &R, path: &str, buffer: &mut [u8]) -> Loaded
+    ensures { IsPrefixLen result.bytes buffer.new }
+{
+    match fs::open(rt, path) {
+        Ok(mut file) => read_all(rt, &mut file, path, buffer),
+        Err(error) => {
+            let _ = eprintln!(rt; "{path}: {error}");
+            Loaded {
+                readable: false,
+                bytes: 0,
+            }
+        }
+    }
+}
+
+// The file's bytes into a buffer, as many as it holds. No contract can say which bytes these are, nor how many.
+pub fn load<R: Files + Eprint>(rt: &R, path: &[u8], buffer: &mut [u8]) -> Loaded
+    ensures { IsPrefixLen result.bytes buffer.new }
+{
+    match str::from_utf8(path) {
+        Ok(path) => read_file(rt, path, buffer),
+        Err(error) => {
+            let _ = eprintln!(rt; "the path of a file: {error}");
             Loaded {
                 readable: false,
                 bytes: 0,

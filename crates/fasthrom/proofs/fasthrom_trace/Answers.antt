@@ -11,8 +11,7 @@ use Rattle.call.specs.declared.Outcome.{Outcome}
 use Rattle.call.specs.declared.Outcome.TheVariants as O
 use Rattle.call.specs.Call.{answer_by}
 use Rattle.fasthrom.specs.Called.{Called}
-use Rattle.fasthrom.proofs.fasthrom_trace.Statement.{statement}
-use Rattle.fasthrom.proofs.fasthrom_trace.Tie as tie
+use Rattle.fasthrom.proofs.fasthrom_trace.Goals as goal
 
 module _ (b : Batch) (lent left : Buffers) (o : Outcome) (e : answer_by o left ≡ answer b lent) where
   small : (refusal : Refusal) (place : ℕ) → o ≡ O.Refused refusal place → place < 4294967296
@@ -27,21 +26,11 @@ module _ (b : Batch) (lent left : Buffers) (o : Outcome) (e : answer_by o left �
   unfolding Called
   refused refusal place number is n = rw n (rw is at e)
 
-pub fasthrom_trace_spec : {M : Type 1} → statement M
-fasthrom_trace_spec =
-    tie.close
-    (tie.spec
-    (λ c κs. search rules)
-    (λ c. search rules)
-    (λ c. search rules)
-    (λ c κs. search rules)
-    (λ c. search rules)
-    (λ c. search (small, rules))
-    (λ c. search rules)
-    (λ c. search rules)
-    (λ c. search rules)
-    (λ c. search (schema, rules))
-    (λ c. search rules)
-    (λ c. search rules)
-    (λ c. search rules)
-    (λ c. search (refused, rules)))
+pub overflow_cast-result-in-Refused : goal.overflow_cast-result-in-Refused
+overflow_cast-result-in-Refused c = search (small, rules)
+
+pub returns-in-Schema : goal.returns-in-Schema
+returns-in-Schema c = search (schema, rules)
+
+pub returns-in-Refused : goal.returns-in-Refused
+returns-in-Refused c = search (refused, rules)
