@@ -11,6 +11,7 @@ ghost use Rattle.answers_vectors.specs.Agrees.{CalledOver, Met, agrees, question
 use fasthrom::Answer;
 use questions::{BYTE, HEADER, ROOM, WORD};
 use replay::Tally;
+use std::rt::Files;
 
 // Words of the table, of which a question lends the first.
 const TABLE: usize = 16400;
@@ -103,7 +104,7 @@ fn agrees(question: &[u8]) -> bool
     )
 }
 
-fn replay_all(vectors: &[u8]) -> Tally
+fn replay_all(rt: &impl Print, vectors: &[u8]) -> Tally
     ensures { result ≡ question_tally vectors.now }
 {
     let mut at = 0;
@@ -111,26 +112,26 @@ fn replay_all(vectors: &[u8]) -> Tally
     let mut differ = 0;
     while at < vectors.len() {
         let end = questions::end_of_question(vectors, at);
-        differ += replay::differs(records, agrees(&vectors[at..end]));
+        differ += replay::differs(rt, records, agrees(&vectors[at..end]));
         records += 1;
         at = end;
     }
     Tally { records, differ }
 }
 
-fn replay_file(path: &[u8], what: &[u8]) {
+fn replay_file<R: Files + Print + Eprint>(rt: &R, path: &[u8], what: &[u8]) {
     let mut buffer = [0u8; 262144];
-    let loaded = files::load(path, &mut buffer);
+    let loaded = files::load(rt, path, &mut buffer);
     let n = loaded.bytes;
-    let tally = replay_all(&buffer[..n]);
-    replay::report(tally, what, n);
+    let tally = replay_all(rt, &buffer[..n]);
+    replay::report(rt, tally, what, n);
 }
 
-fn main() {
-    replay_file(b"shaped.bin", b" batches of a shape");
-    replay_file(b"damaged.bin", b" damaged batches");
-    replay_file(b"options.bin", b" batches under each option");
-    replay_file(b"limits.bin", b" batches near the limits");
-    replay_file(b"lengths.bin", b" batches of the greatest length");
-    replay_file(b"edition_2.bin", b" batches in edition 2");
+fn main(rt: HostRuntime) {
+    replay_file(&rt, b"shaped.bin", b" batches of a shape");
+    replay_file(&rt, b"damaged.bin", b" damaged batches");
+    replay_file(&rt, b"options.bin", b" batches under each option");
+    replay_file(&rt, b"limits.bin", b" batches near the limits");
+    replay_file(&rt, b"lengths.bin", b" batches of the greatest length");
+    replay_file(&rt, b"edition_2.bin", b" batches in edition 2");
 }

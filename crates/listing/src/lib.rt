@@ -5,26 +5,24 @@
 ghost use Rattle.std.specs.Prelude.{◌≡◌, ◌+◌, ◌<◌, ◌≤◌, length};
 ghost use Rattle.listing.specs.Levels.{level_after, one_fewer, next_level, next_due};
 
-use libc::STDOUT_FILENO;
-
 // A number, and what follows it.
-pub fn print_number(n: usize, after: &[u8]) {
-    io::print_decimal(STDOUT_FILENO, n as u64);
-    io::write_all(STDOUT_FILENO, after);
+pub fn print_number(rt: &impl Print, n: usize, after: &[u8]) {
+    let _ = rt.print(n);
+    let _ = rt.write_all(after);
 }
 
 // The line of the field record at an offset: level, type, nullable, strategy, variant, children, name.
-fn print_record(level: usize, fields: &[u8], at: usize, name: &[u8])
+fn print_record(rt: &impl Print, level: usize, fields: &[u8], at: usize, name: &[u8])
     requires { at + 8 ≤ length fields.now }
 {
-    print_number(level, b" ");
-    print_number(files::wide(fields[at]), b" ");
-    print_number(files::wide(fields[at + 1]), b" ");
-    print_number(files::wide(fields[at + 2]), b" ");
-    print_number(files::wide(fields[at + 3]), b" ");
-    print_number(files::two_bytes(fields, at + 6), b" ");
-    io::write_all(STDOUT_FILENO, name);
-    io::write_all(STDOUT_FILENO, b"\n");
+    print_number(rt, level, b" ");
+    print_number(rt, files::wide(fields[at]), b" ");
+    print_number(rt, files::wide(fields[at + 1]), b" ");
+    print_number(rt, files::wide(fields[at + 2]), b" ");
+    print_number(rt, files::wide(fields[at + 3]), b" ");
+    print_number(rt, files::two_bytes(fields, at + 6), b" ");
+    let _ = rt.write_all(name);
+    let _ = rt.write_all(b"\n");
 }
 
 // The level of the record after one that has no children: its own while others are due there, else that of the
@@ -60,7 +58,7 @@ fn next_level(due: &mut [u16; 8193], level: usize, children: u16) -> usize
 }
 
 // Field records, preorder, with their names, which stand one after another.
-pub fn print_records(fields: &[u8], names: &[u8])
+pub fn print_records(rt: &impl Print, fields: &[u8], names: &[u8])
     requires { length fields.now ≤ 65536 }
 {
     let mut due = [0u16; 8193];
@@ -69,7 +67,7 @@ pub fn print_records(fields: &[u8], names: &[u8])
     let mut at = 0;
     while at + 8 <= fields.len() {
         let end = files::end_of(names, name, files::two_bytes(fields, at + 4));
-        print_record(level, fields, at, &names[name..end]);
+        print_record(rt, level, fields, at, &names[name..end]);
         level = next_level(&mut due, level, files::two_bytes(fields, at + 6) as u16);
         name = end;
         at += 8;

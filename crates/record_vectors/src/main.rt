@@ -18,6 +18,7 @@ use coerce::Coerced;
 use datatype::{DataType, Decoded};
 use options::TracingOptions;
 use replay::Tally;
+use std::rt::Files;
 use text::Name;
 
 // What the records of a file are.
@@ -133,7 +134,7 @@ fn agrees(kind: Kind, record: &[u8]) -> bool
     }
 }
 
-fn replay_all(kind: Kind, vectors: &[u8]) -> Tally
+fn replay_all(rt: &impl Print, kind: Kind, vectors: &[u8]) -> Tally
     ensures { result ≡ record_tally (agrees_as kind) vectors.now }
 {
     let mut at = 0;
@@ -142,22 +143,22 @@ fn replay_all(kind: Kind, vectors: &[u8]) -> Tally
     while at < vectors.len() {
         let start = at + 1;
         at = replay::end_of_record(vectors, at);
-        differ += replay::differs(records, agrees(kind, &vectors[start..at]));
+        differ += replay::differs(rt, records, agrees(kind, &vectors[start..at]));
         records += 1;
     }
     Tally { records, differ }
 }
 
-fn replay_file(path: &[u8], kind: Kind, what: &[u8]) {
+fn replay_file<R: Files + Print + Eprint>(rt: &R, path: &[u8], kind: Kind, what: &[u8]) {
     let mut buffer = [0u8; 262144];
-    let loaded = files::load(path, &mut buffer);
+    let loaded = files::load(rt, path, &mut buffer);
     let n = loaded.bytes;
-    let tally = replay_all(kind, &buffer[..n]);
-    replay::report(tally, what, n);
+    let tally = replay_all(rt, kind, &buffer[..n]);
+    replay::report(rt, tally, what, n);
 }
 
-fn main() {
-    replay_file(b"texts.bin", Kind::Text, b" texts");
-    replay_file(b"names.bin", Kind::Name, b" byte strings");
-    replay_file(b"joints.bin", Kind::Joint, b" joints");
+fn main(rt: HostRuntime) {
+    replay_file(&rt, b"texts.bin", Kind::Text, b" texts");
+    replay_file(&rt, b"names.bin", Kind::Name, b" byte strings");
+    replay_file(&rt, b"joints.bin", Kind::Joint, b" joints");
 }

@@ -7,8 +7,6 @@ ghost use Rattle.std.specs.Prelude.{◌≡◌, ◌≤◌, ◌<◌, length};
 ghost use Rattle.logic.specs.Test.{if◌then◌else◌};
 ghost use Rattle.replay.specs.Records.{record_end};
 
-use libc::STDOUT_FILENO;
-
 // How many records there are, and how many of them differ from what is stored.
 #[derive(Clone, Copy)]
 pub struct Tally {
@@ -26,25 +24,20 @@ pub fn end_of_record(vectors: &[u8], at: usize) -> usize
 }
 
 // Names a record whose answer is not the stored one, and counts it: 1, or 0 where the two agree. The first is record 0.
-pub fn differs(record: usize, agrees: bool) -> usize
+pub fn differs(rt: &impl Print, record: usize, agrees: bool) -> usize
     ensures { (result ≡ (if agrees then 0 else 1)) × (result ≤ 1) }
 {
     if agrees {
         return 0;
     }
-    io::write_all(STDOUT_FILENO, b"record ");
-    io::print_decimal(STDOUT_FILENO, record as u64);
-    io::write_all(STDOUT_FILENO, b" differs\n");
+    let _ = println!(rt; "record {record} differs");
     1
 }
 
 // The last line: how many records there were, in how many bytes, and how many of them differ.
-pub fn report(tally: Tally, what: &[u8], bytes: usize) {
-    io::print_decimal(STDOUT_FILENO, tally.records as u64);
-    io::write_all(STDOUT_FILENO, what);
-    io::write_all(STDOUT_FILENO, b" in ");
-    io::print_decimal(STDOUT_FILENO, bytes as u64);
-    io::write_all(STDOUT_FILENO, b" bytes, ");
-    io::print_decimal(STDOUT_FILENO, tally.differ as u64);
-    io::write_all(STDOUT_FILENO, b" differ\n");
+pub fn report(rt: &impl Print, tally: Tally, what: &[u8], bytes: usize) {
+    let _ = rt.print(tally.records);
+    let _ = rt.write_all(what);
+    let differ = tally.differ;
+    let _ = println!(rt; " in {bytes} bytes, {differ} differ");
 }

@@ -9,80 +9,79 @@ ghost use Rattle.model.specs.Tracing.{place_limit};
 ghost use Rattle.samples_vectors.specs.Made.{made_in};
 
 use leaves::Traced;
-use libc::STDOUT_FILENO;
 use options::TracingOptions;
 
-fn print_number(n: u64, after: &[u8]) {
-    io::print_decimal(STDOUT_FILENO, n);
-    io::write_all(STDOUT_FILENO, after);
+fn print_number(rt: &impl Print, n: u64, after: &[u8]) {
+    let _ = rt.print(n);
+    let _ = rt.write_all(after);
 }
 
 // A whole word.
-fn print_word(table: &[u32], place: usize, field: usize, after: &[u8])
+fn print_word(rt: &impl Print, table: &[u32], place: usize, field: usize, after: &[u8])
     requires { IsTable table.now × IsRow place × (field < place_words) × (is_link field ≡ false) }
 {
-    print_number(words::get(table, place, field) as u64, after);
+    print_number(rt, words::get(table, place, field) as u64, after);
 }
 
 // Two links, which share a word.
-fn print_links(table: &[u32], place: usize, lower: usize, upper: usize)
+fn print_links(rt: &impl Print, table: &[u32], place: usize, lower: usize, upper: usize)
     requires { IsTable table.now × IsRow place × (is_link lower ≡ true) × (is_link upper ≡ true) }
 {
-    print_number(words::link(table, place, lower) as u64, b"/");
-    print_number(words::link(table, place, upper) as u64, b" ");
+    print_number(rt, words::link(table, place, lower) as u64, b"/");
+    print_number(rt, words::link(table, place, upper) as u64, b" ");
 }
 
 // The name as the part of the text that it is.
-fn print_name(table: &[u32], place: usize)
+fn print_name(rt: &impl Print, table: &[u32], place: usize)
     requires { IsTable table.now × IsRow place }
 {
     let name = places::given_name(table, place);
-    print_number(name.offset as u64, b"+");
-    print_number(name.length as u64, b" ");
+    print_number(rt, name.offset as u64, b"+");
+    print_number(rt, name.length as u64, b" ");
 }
 
 // What is known of a place, and its children.
-fn print_own(table: &[u32], place: usize)
+fn print_own(rt: &impl Print, table: &[u32], place: usize)
     requires { IsTable table.now × IsRow place }
 {
-    print_word(table, place, places::KIND, b" ");
-    print_word(table, place, places::NULL, b" ");
-    print_word(table, place, places::SAMPLES, b" ");
-    print_links(table, place, places::FIRST, places::LAST);
-    print_links(table, place, places::ROOT, places::BLOCK);
+    print_word(rt, table, place, places::KIND, b" ");
+    print_word(rt, table, place, places::NULL, b" ");
+    print_word(rt, table, place, places::SAMPLES, b" ");
+    print_links(rt, table, place, places::FIRST, places::LAST);
+    print_links(rt, table, place, places::ROOT, places::BLOCK);
 }
 
 // What it is as a child.
-fn print_as_child(table: &[u32], place: usize)
+fn print_as_child(rt: &impl Print, table: &[u32], place: usize)
     requires { IsTable table.now × IsRow place }
 {
-    print_links(table, place, places::LEFT, places::RIGHT);
-    print_links(table, place, places::NEXT, places::PARENT);
-    print_word(table, place, places::STEP, b" ");
-    print_name(table, place);
-    print_word(table, place, places::HELD, b" ");
-    print_word(table, place, places::MARK, b" ");
-    print_word(table, place, places::TAG, b" ");
-    print_word(table, place, places::POSITION, b"\n");
+    print_links(rt, table, place, places::LEFT, places::RIGHT);
+    print_links(rt, table, place, places::NEXT, places::PARENT);
+    print_word(rt, table, place, places::STEP, b" ");
+    print_name(rt, table, place);
+    print_word(rt, table, place, places::HELD, b" ");
+    print_word(rt, table, place, places::MARK, b" ");
+    print_word(rt, table, place, places::TAG, b" ");
+    print_word(rt, table, place, places::POSITION, b"\n");
 }
 
-fn print_places(table: &[u32], count: usize)
+fn print_places(rt: &impl Print, table: &[u32], count: usize)
     requires { IsTable table.now × (count ≤ place_limit) }
 {
-    io::write_all(STDOUT_FILENO, b"places ");
-    print_number(count as u64, b"\n");
+    let _ = rt.write_all(b"places ");
+    print_number(rt, count as u64, b"\n");
     let mut place = 0;
     while place < count {
-        print_own(table, place);
-        print_as_child(table, place);
+        print_own(rt, table, place);
+        print_as_child(rt, table, place);
         place += 1;
     }
 }
 
-fn print_refusal(number: u8, place: usize) {
-    io::write_all(STDOUT_FILENO, b"refused ");
-    print_number(number as u64, b" ");
-    print_number(place as u64, b"\n");
+fn print_refusal(rt: &impl Print, number: u8, place: usize) {
+    let _ = rt.write_all(b"refused ");
+    print_number(rt, number as u64, b" ");
+    print_number(rt, place as u64, b"\n");
 }
 
 // How many places there are, where no count is given: a refusal hands back none. Each new place is its parent's last child,
@@ -103,23 +102,23 @@ fn made(table: &[u32]) -> usize
     newest + 1
 }
 
-fn trace(options: u16, commands: &[u8], text: &[u8], table: &mut [u32])
+fn trace(rt: &impl Print, options: u16, commands: &[u8], text: &[u8], table: &mut [u32])
     requires { IsTable table.old }
 {
     words::clear(table);
     match samples::from_samples(commands, text, TracingOptions::new(options), table) {
         Traced::Next(_, count) => {
-            print_places(table, count);
+            print_places(rt, table, count);
         }
         Traced::Refused(refusal, place) => {
-            print_refusal(refusal.number(), place);
-            print_places(table, made(table));
+            print_refusal(rt, refusal.number(), place);
+            print_places(rt, table, made(table));
         }
     }
 }
 
 // A batch is the options word, the lengths of commands and text, and both. One that is cut off is the last.
-fn trace_all(batches: &[u8], table: &mut [u32])
+fn trace_all(rt: &impl Print, batches: &[u8], table: &mut [u32])
     requires { IsTable table.old }
 {
     let mut at = 0;
@@ -134,6 +133,7 @@ fn trace_all(batches: &[u8], table: &mut [u32])
         let middle = start + commands;
         at = middle + text;
         trace(
+            rt,
             options,
             &batches[start..middle],
             &batches[middle..at],
@@ -142,11 +142,11 @@ fn trace_all(batches: &[u8], table: &mut [u32])
     }
 }
 
-fn main() {
+fn main(rt: HostRuntime) {
     let mut buffer = [0u8; 65536];
     let mut table = [0u32; words::WORDS];
-    let loaded = files::load(b"batches.bin", &mut buffer);
+    let loaded = files::load(&rt, b"batches.bin", &mut buffer);
     let n = loaded.bytes;
-    trace_all(&buffer[..n], &mut table);
-    print_number(n as u64, b" bytes\n");
+    trace_all(&rt, &buffer[..n], &mut table);
+    print_number(&rt, n as u64, b" bytes\n");
 }
