@@ -14,8 +14,7 @@ use Rattle.datatype.specs.declared.Decoded.TheVariants as E
 use Rattle.datatype.specs.Codes.{code_of, decoded}
 use Rattle.coerce.specs.Joint.{joint}
 use Rattle.record_vectors.specs.Joints.{stored_as, is_joint, joint_agrees}
-use Rattle.record_vectors.proofs.joint_agrees.Statement.{statement}
-use Rattle.record_vectors.proofs.joint_agrees.Tie as tie
+use Rattle.record_vectors.proofs.joint_agrees.Goals as goal
 
 other : (stored : List ℕ) → (length stored ≡ 5 → ⊥) → false ≡ joint_agrees stored
 unfolding joint_agrees
@@ -41,24 +40,14 @@ module _ (word a b code : ℕ) (x : Decoded) (dx : x ≡ decoded a) where
     unfolding is_joint
     both second answer given two f t o g = rw (sym dx ∙ e, sym dy ∙ f, g, o, t)
 
-pub joint_agrees_spec : {M : Type 1} → statement M
-joint_agrees_spec =
-    tie.close
-    (tie.spec
-    (λ c. search (other, rules))
-    (λ c κs. search rules)
-    (λ c. search rules)
-    (λ c κs. search rules)
-    (λ c. search rules)
-    (λ c κs. search rules)
-    (λ c. search rules)
-    (λ c. search rules)
-    (λ c. whole _ _ (search rules) (search (no_first, rules)))
-    (λ c. search rules)
-    (λ c κs. search rules)
-    (λ c. search rules)
-    (λ c. search rules)
-    (λ c. whole _ _ (search rules) (search (no_second, rules)))
-    (λ c κs. search rules)
-    (λ c. search rules)
-    (λ c. whole _ _ (search rules) (search (both, rules))))
+pub returns-then-record-ne5 : goal.returns-then-record-ne5
+returns-then-record-ne5 c = search (other, rules)
+
+pub returns-in_default : goal.returns-in_default
+returns-in_default c = whole _ _ (search rules) (search (no_first, rules))
+
+pub returns-in_default-from_code : goal.returns-in_default-from_code
+returns-in_default-from_code c = whole _ _ (search rules) (search (no_second, rules))
+
+pub returns : goal.returns
+returns c = whole _ _ (search rules) (search (both, rules))

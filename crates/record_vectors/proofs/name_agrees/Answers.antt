@@ -13,8 +13,7 @@ use Rattle.logic.specs.Test.{if◌then◌else◌}
 use Rattle.logic.specs.laws.Test.{if_passed, if_failed}
 use Rattle.text.specs.Utf8.{is_utf8}
 use Rattle.record_vectors.specs.Names.{name_agrees}
-use Rattle.record_vectors.proofs.name_agrees.Statement.{statement}
-use Rattle.record_vectors.proofs.name_agrees.Tie as tie
+use Rattle.record_vectors.proofs.name_agrees.Goals as goal
 
 none : (stored : List ℕ) → length stored ≡ 0 → false ≡ name_agrees stored
 unfolding name_agrees
@@ -39,16 +38,14 @@ module _ (stored : List ℕ) (some : length stored ≡ 0 → ⊥) (few : length 
   zero : flag ≡ false → eqb (get_or stored 0 0) 0 ≡ name_agrees stored
   zero e = byte 0 (if_failed 1 (all ∙ e))
 
-pub name_agrees_spec : {M : Type 1} → statement M
-name_agrees_spec =
-    tie.close
-    (tie.spec
-    (λ c. search (none, rules))
-    (λ c. search (long, rules))
-    (λ c. search rules)
-    (λ c. search rules)
-    (λ c κs. search rules)
-    (λ c. search rules)
-    (λ c. search rules)
-    (λ c. one _ (search rules) (search rules) _ c.before.before.is-utf8.ensures c.before.if3.true)
-    (λ c. zero _ (search rules) (search rules) _ c.before.before.is-utf8.ensures c.before.if3.false))
+pub returns-then-record-eq0 : goal.returns-then-record-eq0
+returns-then-record-eq0 c = search (none, rules)
+
+pub returns-then-record-gt256 : goal.returns-then-record-gt256
+returns-then-record-gt256 c = search (long, rules)
+
+pub returns-then-is_utf8 : goal.returns-then-is_utf8
+returns-then-is_utf8 c = one _ (search rules) (search rules) _ c.is_utf8.ensures c.if-is_utf8.true
+
+pub returns-else-is_utf8 : goal.returns-else-is_utf8
+returns-else-is_utf8 c = zero _ (search rules) (search rules) _ c.is_utf8.ensures c.if-is_utf8.false

@@ -6,11 +6,10 @@ use Prim.Native.Nat.{ℕ}
 use Rattle.datatype.specs.declared.DataType.{DataType}
 use Rattle.datatype.specs.Codes.{code_of}
 use Rattle.chrono.specs.Text.{text_type}
-use Rattle.record_vectors.proofs.observed.Statement.{statement}
-use Rattle.record_vectors.proofs.observed.Tie as tie
+use Rattle.record_vectors.proofs.observed.Goals as goal
 
 by_word : (text : List ℕ) (t : DataType) (code given word : ℕ) → code ≡ code_of t → code_of t ≡ text_type given text → given ≡ word → code ≡ text_type word text
 by_word text t code given word e f g = cc
 
-pub observed_spec : {M : Type 1} → statement M
-observed_spec = tie.close (tie.spec (λ c κs. search rules) (λ c κs. search rules) (λ c κs. search rules) (λ c. search (by_word, rules)))
+pub returns : goal.returns
+returns c = search (by_word, rules)

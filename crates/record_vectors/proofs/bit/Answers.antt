@@ -5,8 +5,7 @@ use mathlib.Core.Bool.{Bool, true, false}
 use Prim.Native.Nat.{ℕ}
 use Rattle.logic.specs.laws.Test.{if_passed, if_failed}
 use Rattle.record_vectors.specs.Texts.{bit_of}
-use Rattle.record_vectors.proofs.bit.Statement.{statement}
-use Rattle.record_vectors.proofs.bit.Tie as tie
+use Rattle.record_vectors.proofs.bit.Goals as goal
 
 set : (matches : Bool) (weight : ℕ) → matches ≡ true → weight ≡ bit_of matches weight
 unfolding bit_of
@@ -16,5 +15,8 @@ clear : (matches : Bool) (weight : ℕ) → matches ≡ false → 0 ≡ bit_of m
 unfolding bit_of
 clear matches weight e = sym (if_failed weight e)
 
-pub bit_spec : {M : Type 1} → statement M
-bit_spec = tie.close (tie.spec (λ c. search (set, rules)) (λ c. search (clear, rules)))
+pub returns-then-matches : goal.returns-then-matches
+returns-then-matches c = search (set, rules)
+
+pub returns-else-matches : goal.returns-else-matches
+returns-else-matches c = search (clear, rules)

@@ -11,8 +11,7 @@ use lib.ListN.{length, get_or, take, drop, length-drop}
 use lib.Seq.{take_all}
 use Rattle.chrono.specs.Text.{text_type}
 use Rattle.record_vectors.specs.Texts.{guessing, guessing_large, matchers_of, text_agrees}
-use Rattle.record_vectors.proofs.text_agrees.Statement.{statement}
-use Rattle.record_vectors.proofs.text_agrees.Tie as tie
+use Rattle.record_vectors.proofs.text_agrees.Goals as goal
 
 short : (stored : List ℕ) → length stored < 3 → false ≡ text_agrees stored
 unfolding text_agrees
@@ -42,21 +41,14 @@ module _ (stored : List ℕ) (long : 3 ≤ length stored) (bits : ℕ) (matched 
         rw
         (le-leb 3 (length stored) long, ← all stored, ← matched, eq-eqb bits (get_or stored 0 0) same, ← observed, eq-eqb code (get_or stored 1 0) h, ← e)
 
-pub text_agrees_spec : {M : Type 1} → statement M
-text_agrees_spec =
-    tie.close
-    (tie.spec
-    (λ c. search (short, rules))
-    (λ c. search rules)
-    (λ c. search rules)
-    (λ c. search rules)
-    (λ c κs. search rules)
-    (λ c. search rules)
-    (λ c. search (unmatched, rules))
-    (λ c κs. search rules)
-    (λ c. search rules)
-    (λ c. search (another, rules))
-    (λ c. search rules)
-    (λ c κs. search rules)
-    (λ c. search rules)
-    (λ c. search (last, rules)))
+pub returns-then-record-lt3 : goal.returns-then-record-lt3
+returns-then-record-lt3 c = search (short, rules)
+
+pub returns-then-matchers-record : goal.returns-then-matchers-record
+returns-then-matchers-record c = search (unmatched, rules)
+
+pub returns-then-observed-record : goal.returns-then-observed-record
+returns-then-observed-record c = search (another, rules)
+
+pub returns : goal.returns
+returns c = search (last, rules)

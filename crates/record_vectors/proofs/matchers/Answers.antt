@@ -7,27 +7,12 @@ use Prim.Native.Nat.{ℕ, ◌+◌}
 use Rattle.chrono.specs.Grammar.{fits}
 use Rattle.chrono.specs.Date.{naive_datetime, utc_datetime, naive_time, naive_date}
 use Rattle.record_vectors.specs.Texts.{bit_of, matchers_of}
-use Rattle.record_vectors.proofs.matchers.Statement.{statement}
-use Rattle.record_vectors.proofs.matchers.Tie as tie
+use Rattle.record_vectors.proofs.matchers.Goals as goal
 
 sum : (text : List ℕ) (p q r s : Bool) (a b c d : ℕ) → p ≡ fits naive_datetime text → a ≡ bit_of p 1 → q ≡ fits utc_datetime text → b ≡ bit_of q 2 →
     r ≡ fits naive_time text → c ≡ bit_of r 4 → s ≡ fits naive_date text → d ≡ bit_of s 8 → a + b + c + d ≡ matchers_of text
 unfolding matchers_of
 sum text p q r s a b c d hp ha hq hb hr hc hs hd = cc
 
-pub matchers_spec : {M : Type 1} → statement M
-matchers_spec =
-    tie.close
-    (tie.spec
-    (λ c κs. search rules)
-    (λ c κs. search rules)
-    (λ c κs. search rules)
-    (λ c κs. search rules)
-    (λ c. search rules)
-    (λ c κs. search rules)
-    (λ c κs. search rules)
-    (λ c. search rules)
-    (λ c κs. search rules)
-    (λ c κs. search rules)
-    (λ c. search rules)
-    (λ c. search (sum, rules)))
+pub returns : goal.returns
+returns c = search (sum, rules)

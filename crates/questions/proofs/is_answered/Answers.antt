@@ -10,8 +10,7 @@ use lib.Dec.{eqb}
 use Rattle.questions.specs.Question.{number_at}
 use Rattle.questions.specs.Left.{Answered}
 use Rattle.questions.specs.laws.Left.{no}
-use Rattle.questions.proofs.is_answered.Statement.{statement}
-use Rattle.questions.proofs.is_answered.Tie as tie
+use Rattle.questions.proofs.is_answered.Goals as goal
 
 last : (question : List ℕ) (refusal place records names columns a b c d e : ℕ) →
     refusal ≡ a → a ≡ number_at question 5 → place ≡ b → b ≡ number_at question 6 → records ≡ c → c ≡ number_at question 7 →
@@ -19,17 +18,17 @@ last : (question : List ℕ) (refusal place records names columns a b c d e : �
 last question refusal place records names columns a b c d e ra ha pb hb rc hc nd hd he =
     ((λ t. (ra ∙ ha, pb ∙ hb, rc ∙ hc, nd ∙ hd, eqb-true columns e t ∙ he)), λ all. eq-eqb columns e (all.4 ∙ sym he))
 
-pub is_answered_spec : {M : Type 1} → statement M
-is_answered_spec =
-    tie.close
-    (tie.spec
-    (λ c κs. search rules)
-    (λ c. no _ (λ all. c.if1.true (all.0 ∙ sym c.before.number.ensures.0)))
-    (λ c κs. search rules)
-    (λ c. no _ (λ all. c.if2.true (all.1 ∙ sym c.before.number2.ensures.0)))
-    (λ c κs. search rules)
-    (λ c. no _ (λ all. c.if3.true (all.2 ∙ sym c.before.number3.ensures.0)))
-    (λ c κs. search rules)
-    (λ c. no _ (λ all. c.if4.true (all.3 ∙ sym c.before.number4.ensures.0)))
-    (λ c κs. search rules)
-    (λ c. search (last, rules)))
+pub returns-then-refusal-number : goal.returns-then-refusal-number
+returns-then-refusal-number c = no _ (λ all. c.if-refusal-number.true (all.0 ∙ sym c.number.ensures.0))
+
+pub returns-then-place-number : goal.returns-then-place-number
+returns-then-place-number c = no _ (λ all. c.if-place-number.true (all.1 ∙ sym c.number-2.ensures.0))
+
+pub returns-then-records-number : goal.returns-then-records-number
+returns-then-records-number c = no _ (λ all. c.if-records-number.true (all.2 ∙ sym c.number-3.ensures.0))
+
+pub returns-then-names-number : goal.returns-then-names-number
+returns-then-names-number c = no _ (λ all. c.if-names-number.true (all.3 ∙ sym c.number-4.ensures.0))
+
+pub returns : goal.returns
+returns c = search (last, rules)

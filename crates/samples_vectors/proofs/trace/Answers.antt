@@ -11,8 +11,7 @@ use Rattle.leaves.specs.declared.Traced.{Traced}
 use Rattle.leaves.specs.declared.Traced.TheVariants as T
 use Rattle.leaves.specs.Leaves.{SoundTraced}
 use Rattle.reading.specs.laws.Sound.{traced_sound}
-use Rattle.samples_vectors.proofs.trace.Statement.{statement}
-use Rattle.samples_vectors.proofs.trace.Tie as tie
+use Rattle.samples_vectors.proofs.trace.Goals as goal
 
 sound : (text u : List ℕ) → u ≡ zeros → Sound text u 1
 sound text u e = rw e (sound_zeros text)
@@ -23,21 +22,8 @@ few text t n r behind m s e = (traced_sound text t n r s behind m e).linked.most
 roomy : (text t : List ℕ) (n : ℕ) (r : Traced) (behind m : ℕ) → SoundTraced text t n r → r ≡ T.Next behind m → IsTable t
 roomy text t n r behind m s e = (traced_sound text t n r s behind m e).linked.room
 
-pub trace_spec : {M : Type 1} → statement M
-trace_spec =
-    tie.close
-    (tie.spec
-    (λ c κs. search rules)
-    (λ c κs. search rules)
-    (λ c κs. search (sound, rules))
-    (λ c. search rules)
-    (λ c κs. (search (roomy, rules), search (few, rules)))
-    (λ c. search rules)
-    (λ c κs. search rules)
-    (λ c κs. search rules)
-    (λ c κs. search rules)
-    (λ c κs. search rules)
-    (λ c. search rules)
-    (λ c. search rules)
-    (λ c. search rules)
-    (λ c. search rules))
+pub from_samples-requires : goal.from_samples-requires
+from_samples-requires g c = search (sound, rules)
+
+pub print_places-requires : goal.print_places-requires
+print_places-requires g c = (search (roomy, rules), search (few, rules))

@@ -9,8 +9,7 @@ use lib.Seq.{take_all}
 use native.Mathlib.Omega.{arith}
 use Rattle.logic.specs.laws.Test.{if_passed, if_failed}
 use Rattle.questions.specs.Question.{header_bytes, question_size, question_end}
-use Rattle.questions.proofs.end_of_question.Statement.{statement}
-use Rattle.questions.proofs.end_of_question.Tie as tie
+use Rattle.questions.proofs.end_of_question.Goals as goal
 
 cut : (vectors : List ℕ) (at : ℕ) → length vectors - at < header_bytes → length vectors ≡ question_end vectors at
 unfolding question_end
@@ -23,15 +22,8 @@ whole vectors at size r h e f =
     let all : take (length vectors - at) (drop at vectors) ≡ drop at vectors = take_all (length vectors - at) (drop at vectors) (simp length-drop (omega arith)) in
     f ∙ ap (λ (n : ℕ). min (length vectors) (at + n)) (e ∙ ap question_size all) ∙ sym (if_failed (length vectors) (le-ltb _ _ h))
 
-pub end_of_question_spec : {M : Type 1} → statement M
-end_of_question_spec =
-    tie.close
-    (tie.spec
-    (λ c. search rules)
-    (λ c. search (cut, rules))
-    (λ c. search rules)
-    (λ c. search rules)
-    (λ c. search rules)
-    (λ c κs. search rules)
-    (λ c κs. search rules)
-    (λ c. (whole _ _ _ _ (search rules) c.before.size.ensures.0 c.end_of_lem.ensures.0, search rules, search rules)))
+pub returns-then-vectors-at-lt-HEADER : goal.returns-then-vectors-at-lt-HEADER
+returns-then-vectors-at-lt-HEADER c = search (cut, rules)
+
+pub returns : goal.returns
+returns c = (whole _ _ _ _ (search rules) c.size-size.ensures.0 c.end_of.ensures.0, search rules, search rules)

@@ -9,8 +9,7 @@ use Rattle.coerce.specs.declared.Coerced.{Coerced}
 use Rattle.coerce.specs.declared.Coerced.TheVariants as C
 use Rattle.coerce.specs.Joint.{codes_of}
 use Rattle.record_vectors.specs.Joints.{stored_as}
-use Rattle.record_vectors.proofs.joint.Statement.{statement}
-use Rattle.record_vectors.proofs.joint.Tie as tie
+use Rattle.record_vectors.proofs.joint.Goals as goal
 
 some : (answer : Coerced) (joint : Option ℕ) (t : DataType) (code : ℕ) → codes_of answer ≡ joint → answer ≡ C.Type t → code ≡ code_of t → code ≡ stored_as joint
 some answer joint t code told e f = f ∙ ap (λ (a : Coerced). stored_as (codes_of a)) (sym e) ∙ ap stored_as told
@@ -18,13 +17,8 @@ some answer joint t code told e f = f ∙ ap (λ (a : Coerced). stored_as (codes
 none : (answer : Coerced) (joint : Option ℕ) → codes_of answer ≡ joint → answer ≡ C.Nothing → 255 ≡ stored_as joint
 none answer joint told e = ap (λ (a : Coerced). stored_as (codes_of a)) (sym e) ∙ ap stored_as told
 
-pub joint_spec : {M : Type 1} → statement M
-joint_spec =
-    tie.close
-    (tie.spec
-    (λ c κs. search rules)
-    (λ c. search rules)
-    (λ c κs. search rules)
-    (λ c. search rules)
-    (λ c. search (some, rules))
-    (λ c. search (none, rules)))
+pub returns-in-Type : goal.returns-in-Type
+returns-in-Type c = search (some, rules)
+
+pub returns-in-Nothing : goal.returns-in-Nothing
+returns-in-Nothing c = search (none, rules)

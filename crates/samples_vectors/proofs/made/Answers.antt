@@ -1,7 +1,6 @@
 -- `made` has the highest number of those that it passed.
 use borrow.Author.Rules.{rules}
 use mathlib.Core.Path.{◌≡◌, refl, sym, ◌∙◌}
-use mathlib.Core.Logic.{⊎_elim}
 use mathlib.Core.List.{List}
 use Prim.Native.Nat.{ℕ, ◌+◌, ◌-◌, ◌<◌, ◌≤◌}
 use native.Mathlib.Nat.{max-eq_left, max-eq_right}
@@ -11,8 +10,8 @@ use Rattle.model.specs.Tracing.{place_limit}
 use Rattle.places.specs.Layout.{last_word}
 use Rattle.places.specs.Reading.{link_at}
 use Rattle.samples_vectors.specs.Made.{newest_of}
-use Rattle.samples_vectors.proofs.made.Statement.{statement}
-use Rattle.samples_vectors.proofs.made.Tie as tie
+use Rattle.samples_vectors.proofs.made.Goals.{then-newest-last, else-newest-last}
+use Rattle.samples_vectors.proofs.made.Goals as goal
 
 none : (t : List ℕ) → 0 ≡ newest_of t 0
 unfolding newest_of
@@ -30,34 +29,16 @@ module _ (t : List ℕ) (place newest last : ℕ) (before : newest ≡ newest_of
 all : (t : List ℕ) (place newest : ℕ) → newest ≡ newest_of t place → place ≡ place_limit → newest + 1 ≡ newest_of t place_limit + 1
 all t place newest e f = cc
 
-abbrev invariant-loop : tie.invariant-loop
-invariant-loop table newest₀ place₀ newest place = (place ≤ place_limit) × (newest ≡ newest_of table place) × (newest < place_limit)
+pub loop-place-init : goal.loop-place-init
+loop-place-init c = (search rules, none _, search rules)
 
-abbrev decreases-loop : tie.decreases-loop
-decreases-loop table newest₀ place₀ newest place = place_limit - place
+pub loop-place-preserved : goal.loop-place-preserved
+loop-place-preserved c =
+    let inv = c.loop-place.invariant in
+    let link = c.link-last.ensures in
+    elim c.if-newest-last.branch [
+      then-newest-last w ↦ (omega arith, w.newest-is ∙ newer _ _ _ _ inv.1 link.0 w.if-newest-last.true, omega arith)
+    | else-newest-last w ↦ (omega arith, w.newest-is ∙ older _ _ _ _ inv.1 link.0 w.if-newest-last.false, omega arith) ]
 
-loop_again : tie.Need-loop-preserved invariant-loop decreases-loop
-loop_again c =
-    let inv = c.before.before.before.loop.invariant in
-    let link = c.before.link.ensures in
-    ⊎_elim
-    (λ w. (omega arith, w.1 ∙ newer _ _ _ _ inv.1 link.0 w.0.taken, omega arith))
-    (λ w. (omega arith, w.1 ∙ older _ _ _ _ inv.1 link.0 w.0.left, omega arith))
-    c.if1.branch
-
-returns : tie.Need-returns invariant-loop decreases-loop
-returns c = (all _ _ _ c.before.loop.invariant.1 (omega arith), omega arith)
-
-pub made_spec : {M : Type 1} → statement M
-made_spec =
-    tie.close
-    (tie.spec
-    invariant-loop
-    decreases-loop
-    (λ c. (search rules, none _, search rules))
-    (λ c κs. search rules)
-    (λ c. search rules)
-    (λ c. search rules)
-    loop_again
-    (λ c. search rules)
-    returns)
+pub returns : goal.returns
+returns c = (all _ _ _ c.loop-place.invariant.1 (omega arith), omega arith)

@@ -7,8 +7,7 @@ use Prim.Native.Nat.{ℕ}
 use native.Mathlib.Omega.{arith}
 use lib.Dec.{leb}
 use Rattle.questions.specs.Left.{early}
-use Rattle.questions.proofs.is_early.Statement.{statement}
-use Rattle.questions.proofs.is_early.Tie as tie
+use Rattle.questions.proofs.is_early.Goals as goal
 
 none : (refusal : ℕ) → refusal ≡ 0 → false ≡ early refusal
 none refusal e = rw (lt-leb 1 refusal (omega arith))
@@ -16,5 +15,8 @@ none refusal e = rw (lt-leb 1 refusal (omega arith))
 some : (refusal : ℕ) → (refusal ≡ 0 → ⊥) → leb refusal 3 ≡ early refusal
 some refusal h = rw (le-leb 1 refusal (omega (arith, h)))
 
-pub is_early_spec : {M : Type 1} → statement M
-is_early_spec = tie.close (tie.spec (λ c. search (none, rules)) (λ c. search (some, rules)))
+pub returns-then-refusal-eq0 : goal.returns-then-refusal-eq0
+returns-then-refusal-eq0 c = search (none, rules)
+
+pub returns : goal.returns
+returns c = search (some, rules)

@@ -10,8 +10,7 @@ use Rattle.record_vectors.specs.Texts.{text_agrees}
 use Rattle.record_vectors.specs.Names.{name_agrees}
 use Rattle.record_vectors.specs.Joints.{joint_agrees}
 use Rattle.record_vectors.specs.Agrees.{agrees_as}
-use Rattle.record_vectors.proofs.agrees.Statement.{statement}
-use Rattle.record_vectors.proofs.agrees.Tie as tie
+use Rattle.record_vectors.proofs.agrees.Goals as goal
 
 module _ (kind : Kind) (stored : List ℕ) (flag : Bool) where
   as_text : kind ≡ K.Text → flag ≡ text_agrees stored → flag ≡ agrees_as kind stored
@@ -26,16 +25,11 @@ module _ (kind : Kind) (stored : List ℕ) (flag : Bool) where
   unfolding agrees_as
   as_joint e h = rw e h
 
-pub agrees_spec : {M : Type 1} → statement M
-agrees_spec =
-    tie.close
-    (tie.spec
-    (λ c. search rules)
-    (λ c κs. search rules)
-    (λ c. search rules)
-    (λ c κs. search rules)
-    (λ c. search rules)
-    (λ c κs. search rules)
-    (λ c. search (as_text, rules))
-    (λ c. search (as_name, rules))
-    (λ c. search (as_joint, rules)))
+pub returns-in-Text : goal.returns-in-Text
+returns-in-Text c = search (as_text, rules)
+
+pub returns-in-Name : goal.returns-in-Name
+returns-in-Name c = search (as_name, rules)
+
+pub returns-in-Joint : goal.returns-in-Joint
+returns-in-Joint c = search (as_joint, rules)
