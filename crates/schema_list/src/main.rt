@@ -48,7 +48,12 @@ fn list(rt: &impl Print, options: u16, commands: &[u8], text: &[u8]) {
 }
 
 // Both files are read up to one byte more than the call takes, so that a longer one is refused as too long.
-fn list_with<R: Files + Print + Eprint>(rt: &R, options: u16, commands_path: &[u8], text_path: &[u8]) {
+fn list_with<R: Files + Print + Eprint>(
+    rt: &R,
+    options: u16,
+    commands_path: &[u8],
+    text_path: &[u8],
+) {
     let mut commands = [0u8; 65536];
     let mut text = [0u8; 65536];
     let first = files::load(rt, commands_path, &mut commands);
@@ -71,7 +76,12 @@ fn complain(rt: &impl Eprint, path: &[u8]) {
 }
 
 // The return in three files. An options word is two bytes: a third would be read, and turned down.
-fn list_return<R: Files + Print + Eprint>(rt: &R, options_path: &[u8], commands_path: &[u8], text_path: &[u8]) {
+fn list_return<R: Files + Print + Eprint>(
+    rt: &R,
+    options_path: &[u8],
+    commands_path: &[u8],
+    text_path: &[u8],
+) {
     let mut options = [0u8; 3];
     let loaded = files::load(rt, options_path, &mut options);
     if !loaded.readable {
@@ -97,7 +107,12 @@ fn argument(rt: &impl Env, i: usize, buffer: &mut [u8]) -> usize
 }
 
 // The return in the files that three arguments name.
-fn list_named<R: Files + Print + Eprint + Env>(rt: &R, options: usize, commands: usize, text: usize) {
+fn list_named<R: Files + Print + Eprint + Env>(
+    rt: &R,
+    options: usize,
+    commands: usize,
+    text: usize,
+) {
     let mut first = [0u8; PATH];
     let mut second = [0u8; PATH];
     let mut third = [0u8; PATH];

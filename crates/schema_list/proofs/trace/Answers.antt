@@ -9,8 +9,7 @@ use Rattle.model.specs.Answer.{Batch, Answer, answer}
 use Rattle.call.specs.Call.{lent}
 use Rattle.fasthrom.specs.declared.Answer as R
 use Rattle.fasthrom.specs.Called.{said, Called}
-use Rattle.schema_list.proofs.trace.Statement.{statement}
-use Rattle.schema_list.proofs.trace.Tie as tie
+use Rattle.schema_list.proofs.trace.Goals as goal
 
 all_zero : zeros ≡ replicate table_words 0
 unfolding zeros
@@ -22,12 +21,5 @@ module _ (b : Batch) (table t f n fields names : List ℕ) (r : R.Answer) (zero 
   unfolding Called
   into call = rw zero (ap (λ (x : List ℕ). said r (lent x f n)) (sym (ap (λ (a : Answer). a.left.table) call)) ∙ call)
 
-pub trace_spec : {M : Type 1} → statement M
-trace_spec =
-    tie.close
-    (tie.spec
-    (λ c. search rules)
-    (λ c κs. search rules)
-    (λ c. search rules)
-    (λ c. search rules)
-    (λ c. into _ _ _ _ _ _ _ _ all_zero c.before.before.before.before.before.fasthrom-trace.ensures))
+pub returns : goal.returns
+returns c = into _ _ _ _ _ _ _ _ all_zero c.fasthrom_trace.ensures
