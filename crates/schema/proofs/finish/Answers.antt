@@ -1,7 +1,7 @@
 -- `finish` tests for refusals 15 to 18 in turn, and writes the schema where none is met.
 use borrow.Author.Rules.{rules}
 use borrow.Author.Tests.{eq-eqb, ne_eqb, lt-ltb, le-ltb, not-true, not-false}
-use mathlib.Core.Path.{◌≡◌, sym, ◌∙◌}
+use mathlib.Core.Path.{◌≡◌, refl, sym, ◌∙◌}
 use mathlib.Core.Bool.{Bool, true, false, not}
 use mathlib.Core.List.{List}
 use Prim.Native.Nat.{ℕ, ◌*◌, ◌<◌, ◌≤◌}
@@ -67,5 +67,5 @@ returns-then-names-wide c = search (short_names, rules)
 
 pub returns : goal.returns
 returns c =
-    emitted _ _ _ _ _ _ _ _ _ _ c.get-kind.ensures c.get.ensures c.if-get-eq1.false c.if-kind-eq-UNKNOWN.false _ c.emits_struct.ensures c.if-not-emits_struct.false-raw
+    emitted _ _ _ _ _ _ _ _ _ _ c.get-kind.ensures c.get.ensures c.if-get-eq1.false c.if-kind-eq-UNKNOWN.false _ c.emits_struct.ensures (rw c.if-not-emits_struct.false refl)
     _ c.wide.ensures c.if-fields-wide.false _ c.wide-2.ensures _ _ _ _ c.if-names-wide.false c.emit_children.ensures.0
