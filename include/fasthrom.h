@@ -4,7 +4,7 @@
  * with one of eighteen refusals and a place. Whatever the bytes of the batch are, the call is safe and ends; callers need
  * test nothing first. What it answers is stated in crates/fasthrom/specs and proved of the code.
  *
- * Link target/staticlib/libfasthrom.a (rt staticlib fasthrom; x86-64 Linux). Valid as C99 and as C++.
+ * Link target/staticlib/libfasthrom.a (bin/build library; x86-64 Linux). Valid as C99 and as C++.
  */
 #ifndef FASTHROM_H
 #define FASTHROM_H

@@ -1,4 +1,4 @@
-//! Finds the static library that `rt staticlib fasthrom` writes.
+//! Finds the static library that `bin/build library` writes.
 
 use std::env;
 use std::path::{Path, PathBuf};
@@ -13,7 +13,7 @@ fn main() {
     println!("cargo::rerun-if-changed={}", library.display());
     if !library.is_file() {
         println!(
-            "cargo::error={} is missing: run `rt staticlib fasthrom` at the top of the repository, \
+            "cargo::error={} is missing: run `bin/build library` at the top of the repository, \
              or set FASTHROM_LIB to the folder that holds libfasthrom.a",
             library.display()
         );

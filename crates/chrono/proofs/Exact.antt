@@ -164,7 +164,7 @@ date_exact : (k : List ℕ → Bool) → Stops is_digit k → Exact naive_date k
 unfolding leads leads_many
 date_exact k stops =
     then_exact _ _ k (byte_or_exact plus _ _ (byte_or_exact minus _ _
-        (nothing_exact (λ u. leads (digits then (byte minus then (one_or_two_digits then (byte minus then one_or_two_digits)))) u k)) (λ u. refl)) (λ u. refl))
+    (nothing_exact (λ u. leads (digits then (byte minus then (one_or_two_digits then (byte minus then one_or_two_digits)))) u k)) (λ u. refl)) (λ u. refl))
     (then_exact _ _ k (many_exact is_digit _ (after minus _ refl))
     (then_exact _ _ k (one_exact _ _)
     (then_exact _ _ k (two_exact _ (after minus _ refl)) (then_exact _ _ k (one_exact _ _) (two_exact k stops)))))

@@ -1,16 +1,9 @@
 -- `skip_digits` passes the digits one by one: at each turn the offset and the digits that are left give the same.
-use mathlib.Core.Path.{◌≡◌, sym, ◌∙◌}
-use mathlib.Core.Bool.{Bool, true, false}
-use mathlib.Core.List.{List}
-use Prim.Native.Nat.{ℕ, suc, ◌+◌, ◌-◌, ◌≤◌, ◌<◌}
-use native.Mathlib.Omega.{arith}
-use native.Mathlib.Numerals.{add-one}
-use lib.ListN.{length, get_or, drop, drop_of_length-le}
-use borrow.Author.Rules.{rules}
-use borrow.Author.Tests.{not-true, not-false}
+use mathlib.Core.Path.{◌≡◌}
+use Prim.Native.Nat.{◌+◌, ◌-◌}
+use lib.ListN.{length, drop}
 use Rattle.chrono.specs.Date.{is_digit}
 use Rattle.chrono.specs.Scan.{run}
-use Rattle.chrono.proofs.Steps.{run_on, run_ends}
 use Rattle.chrono.proofs.skip_digits.Given as goal
 
 abbrev pub invariant-loop-i : goal.invariant-loop-i

@@ -1,15 +1,9 @@
 -- `split_prefix` reads the word byte by byte: at each turn what is left of it gives the same as the whole.
-use mathlib.Core.Path.{◌≡◌, sym, ap, ◌∙◌}
-use mathlib.Core.List.{List}
-use Prim.Native.Nat.{ℕ, ◌+◌, ◌-◌, ◌≤◌, ◌<◌}
-use native.Mathlib.Numerals.{add-one}
-use lib.ListN.{length, get_or, drop, drop_of_length-le}
-use lib.Seq.{drop-cons}
-use borrow.Author.Rules.{rules}
-use Rattle.chrono.specs.declared.Matched.{Matched}
-use Rattle.chrono.specs.declared.Matched.TheVariants.{Rest, No}
-use Rattle.chrono.specs.Grammar.{byte, word}
-use Rattle.chrono.specs.Scan.{scan, onward}
+use mathlib.Core.Path.{◌≡◌}
+use Prim.Native.Nat.{◌-◌, ◌≤◌}
+use lib.ListN.{length, drop}
+use Rattle.chrono.specs.Grammar.{word}
+use Rattle.chrono.specs.Scan.{scan}
 use Rattle.chrono.proofs.split_prefix.Given as goal
 
 abbrev pub invariant-loop-i : goal.invariant-loop-i

@@ -1,5 +1,4 @@
 -- `number_joint`: the rule of the table, at all of its entries by one test.
-use borrow.Author.Rules.{rules}
 use borrow.Author.Tests.{leb-true, eqb-true}
 use mathlib.Core.Path.{◌≡◌, refl}
 use mathlib.Core.Bool.{Bool, true, ◌&&◌}

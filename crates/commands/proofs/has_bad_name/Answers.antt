@@ -1,5 +1,4 @@
 -- `has_bad_name` tells refusal 5 of the name among counted operands.
-use borrow.Author.Rules.{rules}
 use borrow.Author.Tests.{lt-ltb, le-ltb, eq-eqb, ne_eqb}
 use Rattle.logic.specs.Test.{if◌then◌else◌}
 use Rattle.commands.specs.Commands.{bad_name}

@@ -1,5 +1,4 @@
 -- `is_bad_name` tells refusal 5 of a name.
-use borrow.Author.Rules.{rules}
 use borrow.Author.Tests.{leb-true}
 use mathlib.Core.Path.{◌∙◌, sym}
 use Rattle.commands.specs.Commands.{bad_name}

@@ -25,6 +25,7 @@ module _ (commands text : List ℕ) (at : ℕ) (due : Due) (byte : ℕ) (is : by
   unknown : 28 ≤ byte → R.Refused F.BadCommand at ≡ read_command commands text at due
   unfolding read_command bad_command if◌then◌else◌
   unknown h = rw (← is, lt-leb _ _ left, le-leb _ _ h)
+
 module _ (commands text : List ℕ) (at : ℕ) (due : Due) (byte : ℕ) (is : byte ≡ get_or commands at 0) (count : ℕ) (left : at < length commands)
     (known : byte < 28) (counts : count ≡ operands (form_of byte)) where
   cut_off : length commands - at < 1 + 2 * count → R.Refused F.BadCommand at ≡ read_command commands text at due
@@ -32,6 +33,7 @@ module _ (commands text : List ℕ) (at : ℕ) (due : Due) (byte : ℕ) (is : by
   cut_off h =
       let short : length commands < at + width (form_of byte) = omega arith in
       rw (← is, lt-leb _ _ left, lt-leb _ _ known, lt-ltb _ _ short)
+
 module _ (commands text : List ℕ) (at : ℕ) (due : Due) (byte : ℕ) (is : byte ≡ get_or commands at 0) (count : ℕ) (admitted : Bool)
     (left : at < length commands) (known : byte < 28) (counts : count ≡ operands (form_of byte)) (whole : 1 + 2 * count ≤ length commands - at)
     (stood : admitted ≡ stands due byte) where
@@ -47,6 +49,7 @@ module _ (commands text : List ℕ) (at : ℕ) (due : Due) (byte : ℕ) (is : by
 
   placed : not admitted ≡ false → bad_command commands at due ≡ false
   placed h = by_standing ∙ h
+
 module _ (commands text : List ℕ) (at : ℕ) (due : Due) {byte : ℕ} (is : byte ≡ get_or commands at 0) {count : ℕ} {bad : Bool}
     (stands_there : bad_command commands at due ≡ false) (counts : count ≡ operands (form_of byte))
     (named : bad ≡ bad_name text (name_among count commands (at + 1))) where

@@ -7,7 +7,6 @@ use Rattle.logic.specs.laws.Test.{same_test}
 use Rattle.text.specs.laws.Name.{eq_name_true, eq_name_refl}
 use Rattle.model.specs.Result.{Result, accepted, refused, ◌>>=◌}
 use Rattle.model.specs.Kinds.{Step, field, element, position, key, value, variant, step_code, same}
-use Rattle.commands.specs.declared.Read.TheVariants as R
 
 -- ---- results
 -- what an accepted outcome of two steps tells of the first

@@ -6,8 +6,7 @@ use mathlib.Core.Bool.{false}
 use mathlib.Core.List.{List}
 use Prim.Native.Nat.{ℕ, zero, suc, ◌-◌, ◌<◌, ◌≤◌}
 use native.Mathlib.Omega.{arith}
-use Rattle.words.specs.Word.{IsRow}
-use Rattle.places.specs.Reading.{next_child, child_limit}
+use Rattle.places.specs.Reading.{next_child}
 use Rattle.fields.specs.Fields.{count_with, count_from}
 use Rattle.fields.proofs.count_children.Goals as goal
 

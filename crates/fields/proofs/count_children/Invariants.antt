@@ -1,14 +1,9 @@
 -- `count_children`: the children that are left count the same as all of them.
-use borrow.Author.Rules.{rules}
-use borrow.Author.Tests.{ne_eqb}
 use mathlib.Core.Path.{◌≡◌}
 use mathlib.Core.Bool.{false}
-use mathlib.Core.List.{List}
-use Prim.Native.Nat.{ℕ, zero, suc, ◌-◌, ◌<◌, ◌≤◌}
-use native.Mathlib.Omega.{arith}
 use Rattle.words.specs.Word.{IsRow}
 use Rattle.places.specs.Reading.{next_child, child_limit}
-use Rattle.fields.specs.Fields.{count_with, count_from}
+use Rattle.fields.specs.Fields.{count_from}
 use Rattle.fields.proofs.count_children.Given as goal
 
 abbrev pub invariant-loop-left : goal.invariant-loop-left

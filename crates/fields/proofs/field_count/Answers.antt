@@ -1,5 +1,4 @@
 -- `field_count` goes by the kind.
-use borrow.Author.Rules.{rules}
 use borrow.Author.Tests.{eq-eqb, ne_eqb}
 use Rattle.logic.specs.Test.{if◌then◌else◌}
 use Rattle.fields.specs.Fields.{field_count}

@@ -1,5 +1,4 @@
 -- `is_encoded` tests for a string, then the option.
-use borrow.Author.Rules.{rules}
 use mathlib.Core.Path.{sym, ◌∙◌}
 use Rattle.fields.proofs.is_encoded.Goals as goal
 

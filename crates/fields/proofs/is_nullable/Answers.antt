@@ -1,5 +1,4 @@
 -- `is_nullable` tests what is lacking, then whether null was seen.
-use borrow.Author.Rules.{rules}
 use Rattle.fields.proofs.is_nullable.Goals as goal
 
 pub returns : goal.returns

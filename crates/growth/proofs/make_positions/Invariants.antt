@@ -1,20 +1,7 @@
 -- `make_positions`: the positions left, appended to the table as it is, give what all give.
-use Rattle.std.proofs.Common.{◌≡◌, ℕ, suc, ◌+◌, ◌-◌, ◌<◌, ◌≤◌, List, length, refl, add-one, arith, rules, ne_eqb, le-leb}
-use borrow.Author.Tests.{lt-leb}
-use Rattle.logic.specs.Test.{if◌then◌else◌}
-use Rattle.refusal.specs.declared.Refusal.TheVariants as F
-use Rattle.text.specs.declared.Name.{Name}
-use Rattle.words.specs.Word.{word, with_word}
-use Rattle.model.specs.Tracing.{place_limit}
-use Rattle.shapes.specs.declared.Step.TheVariants as S
-use Rattle.shapes.specs.Steps.{code_of, name_of}
-use Rattle.shapes.specs.laws.Shapes.{no_name_good}
-use Rattle.growth.specs.declared.Made.TheVariants as D
-use Rattle.places.specs.Layout.{first_word, block_word, Sound, Ready}
-use Rattle.growth.specs.Growth.{Making, making, appended, made_all, positions_from, appended_from, positions_made}
-use Rattle.places.specs.laws.Layout.{sound_with}
-use Rattle.growth.specs.laws.Growth.{sound_appended}
-use Rattle.growth.specs.laws.Growth.{last_small}
+use Rattle.std.proofs.Common.{◌≡◌, ℕ, ◌-◌, List, length}
+use Rattle.places.specs.Layout.{Ready}
+use Rattle.growth.specs.Growth.{Making, appended_from}
 use Rattle.growth.proofs.make_positions.Given as goal
 
 -- the positions from i on

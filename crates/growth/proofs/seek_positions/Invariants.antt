@@ -1,13 +1,7 @@
 -- `seek_positions`: the positions left, made for the table as it is, give what all give.
-use Rattle.std.proofs.Common.{◌≡◌, ℕ, suc, ◌+◌, ◌-◌, ◌<◌, ◌≤◌, List, [], ◌∷◌, length, sym, ◌∙◌, add-one, arith, rules}
-use Rattle.refusal.specs.declared.Refusal.{Refusal}
-use Rattle.shapes.specs.declared.Step.TheVariants as S
-use Rattle.shapes.specs.laws.Shapes.{no_name_good}
-use Rattle.growth.specs.declared.Made.{Made}
-use Rattle.growth.specs.declared.Made.TheVariants as D
+use Rattle.std.proofs.Common.{◌≡◌, ℕ, ◌-◌, List, length}
 use Rattle.places.specs.Layout.{Ready}
-use Rattle.growth.specs.Growth.{Making, making, made_one, made_all, positions_from}
-use Rattle.growth.specs.laws.Growth.{one_ready, made_first, made_stops}
+use Rattle.growth.specs.Growth.{Making, made_all, positions_from}
 use Rattle.growth.proofs.seek_positions.Given as goal
 
 -- what they give

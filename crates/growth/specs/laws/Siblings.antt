@@ -1,11 +1,11 @@
 -- A place that is made as the last child of another, and the children of all places: they stay the places with that parent, in ascending order.
-use Rattle.std.specs.Prelude.{◌≡◌, ℕ, ◌+◌, ◌<◌, ◌≤◌, true, false, List, ◌==◌, ◌≢◌, nat_lt, refl}
+use Rattle.std.specs.Prelude.{◌≡◌, ℕ, ◌+◌, ◌<◌, ◌≤◌, List, ◌==◌, ◌≢◌, nat_lt}
 use Rattle.std.proofs.Common.{sym, ◌∙◌, arith, eqb-true, ltb-true, ltb-false}
 use Rattle.std.proofs.lemmas.Bool.{eqb-false}
 use Rattle.logic.specs.laws.Test.{cases}
-use Rattle.words.specs.Word.{word, IsRow}
+use Rattle.words.specs.Word.{word}
 use Rattle.model.specs.Tracing.{place_limit}
-use Rattle.places.specs.Layout.{first_word, last_word, next_word, parent_word, Linked, Siblings, Sound, Ready}
+use Rattle.places.specs.Layout.{first_word, last_word, next_word, parent_word, Linked, Siblings, Ready}
 
 -- place n is the new last child of a place, by the words that tell
 pub record Appended (t u : List ℕ) (place n : ℕ) : Type 0 where

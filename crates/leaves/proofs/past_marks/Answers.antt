@@ -1,10 +1,6 @@
 -- `past_marks`: from each command on the marks are what they are as a whole.
-use Prim.Native.Nat.{◌-◌}
 use borrow.Author.Rules.{rules}
 use borrow.Author.Tests.{not-true, not-false}
-use mathlib.Core.Path.{◌≡◌}
-use lib.ListN.{length}
-use Rattle.leaves.specs.Marks.{past_marks}
 use Rattle.leaves.specs.laws.Marks.{past_cut, past_mark, past_other}
 use Rattle.leaves.proofs.past_marks.Goals as goal
 

@@ -8,8 +8,6 @@ use Rattle.std.proofs.Math.ListN.{length}
 use Rattle.logic.specs.Test.{if◌then◌else◌}
 use Rattle.logic.specs.Turns.{Turn, again, done}
 use Rattle.logic.specs.laws.Turns.{Says, Falls, holds, goes_on, ends}
-use Rattle.commands.specs.declared.Read.TheVariants as R
-use Rattle.shapes.specs.declared.Part.TheVariants as P
 use Rattle.leaves.specs.Marks.{Chain, chain, is_mark, past_turn, past_marks, marked, some_byte}
 use Rattle.logic.specs.laws.Flag.{if_either}
 use Rattle.words.specs.Word.{word}

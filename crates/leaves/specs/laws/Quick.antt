@@ -1,9 +1,9 @@
 -- Laws of the quick way: what each of its answers is, and that what it passes is observed so.
-use Rattle.std.specs.Prelude.{◌≡◌, Bool, not, ◌&&◌, List, ℕ, ◌+◌, ◌<◌, ltb, leb}
+use Rattle.std.specs.Prelude.{◌≡◌, Bool, ◌&&◌, List, ℕ, ◌+◌, ◌<◌, ltb}
 use Rattle.std.proofs.Math.Path.{refl}
 use Rattle.std.proofs.Common.{sym, ap, ◌∙◌, arith}
 use Rattle.std.proofs.Math.Bool.{true, false}
-use borrow.Author.Tests.{eqb-true, eq-eqb, ne_eqb, le-leb, lt-leb, ltb-true, lt-ltb, le-ltb, leb-false}
+use borrow.Author.Tests.{eqb-true, eq-eqb, ne_eqb, ltb-true}
 use Rattle.std.proofs.Math.Dec.{eqb}
 use Rattle.std.proofs.Math.ListN.{length, get_or}
 use Rattle.logic.specs.Test.{if◌then◌else◌}
@@ -12,7 +12,7 @@ use Rattle.datatype.specs.Codes.{null}
 use Rattle.coerce.specs.laws.Joined.{joint_null}
 use Rattle.words.specs.Word.{word, with_word}
 use Rattle.words.specs.laws.Word.{with_word_lem}
-use Rattle.model.specs.Kinds.{sequence_kind, is_container}
+use Rattle.model.specs.Kinds.{is_container}
 use Rattle.shapes.specs.declared.Leaf.{Leaf}
 use Rattle.shapes.specs.declared.Leaf.TheVariants as O
 use Rattle.shapes.specs.Leaf.{is_own_byte, leaf_at}
@@ -21,8 +21,8 @@ use Rattle.kinds.specs.declared.Met.TheVariants as M
 use Rattle.kinds.specs.Meeting.{meeting}
 use Rattle.places.specs.Layout.{kind_word, null_word}
 use Rattle.leaves.specs.declared.Traced.TheVariants as T
-use Rattle.leaves.specs.Marks.{Chain, chain}
-use Rattle.leaves.specs.Leaves.{Out, out, stored, observed}
+use Rattle.leaves.specs.Marks.{chain}
+use Rattle.leaves.specs.Leaves.{out, stored, observed}
 use Rattle.leaves.specs.laws.Leaves.{observe_kind, observed_again}
 use Rattle.leaves.specs.Quick.{same_at, quick_leaf, quick_at}
 

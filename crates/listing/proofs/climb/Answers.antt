@@ -1,8 +1,5 @@
 -- `climb` goes up one level at a time, and the record after the one in hand would stand at the same level after a record there.
 use borrow.Author.Rules.{rules}
-use mathlib.Core.Path.{◌≡◌}
-use Prim.Native.Nat.{◌≤◌}
-use Rattle.listing.specs.Levels.{level_after}
 use Rattle.listing.specs.laws.Levels.{ends, counts, goes_on, ends_at_root, at_root}
 use Rattle.listing.proofs.climb.Goals as goal
 

@@ -8,8 +8,7 @@ pub touch-requires : goal.touch-requires
 touch-requires c = search (is_place, child_place, child_room, rules)
 
 pub returns-in-Child : goal.returns-in-Child
-returns-in-Child c =
-    (
+returns-in-Child c = (
   search (held_child, rules),
   child_held _ _ _
       c.ensure.ensures.1 _ _

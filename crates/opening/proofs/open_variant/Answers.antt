@@ -6,8 +6,7 @@ use Rattle.growth.specs.laws.Growth.{sampled_ready}
 use Rattle.opening.proofs.open_variant.Goals as goal
 
 pub hold-requires : goal.hold-requires
-hold-requires c =
-    (
+hold-requires c = (
   sampled_ready _ _ _ _
       c.requires.ready _ _
       c.sample.ensures,

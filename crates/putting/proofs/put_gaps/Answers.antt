@@ -6,7 +6,6 @@ use mathlib.Core.List.{List}
 use Prim.Native.Nat.{ℕ, suc, ◌+◌, ◌-◌, ◌%◌, ◌<◌, ◌≤◌}
 use native.Mathlib.Numerals.{add-one}
 use native.Mathlib.Omega.{arith}
-use lib.ListN.{length}
 use Rattle.datatype.specs.Codes.{null, unknown_variant}
 use Rattle.walk.specs.Walk.{sum_of}
 use Rattle.putting.specs.Put.{Put, put, put_bytes, record_of, put_gaps}

@@ -1,15 +1,8 @@
 -- `put_gaps`: the slots that are left give what all of them give.
-use borrow.Author.Rules.{rules}
 use mathlib.Core.Path.{◌≡◌}
-use mathlib.Core.Bool.{true}
-use mathlib.Core.List.{List}
-use Prim.Native.Nat.{ℕ, suc, ◌+◌, ◌-◌, ◌%◌, ◌<◌, ◌≤◌}
-use native.Mathlib.Numerals.{add-one}
-use native.Mathlib.Omega.{arith}
+use Prim.Native.Nat.{◌-◌, ◌≤◌}
 use lib.ListN.{length}
-use Rattle.datatype.specs.Codes.{null, unknown_variant}
-use Rattle.walk.specs.Walk.{sum_of}
-use Rattle.putting.specs.Put.{Put, put, put_bytes, record_of, put_gaps}
+use Rattle.putting.specs.Put.{put, put_gaps}
 use Rattle.putting.proofs.put_gaps.Given as goal
 
 abbrev pub invariant-loop-i : goal.invariant-loop-i

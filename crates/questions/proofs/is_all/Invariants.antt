@@ -1,11 +1,7 @@
 -- `is_all` has seen the word at every index that it passed.
-use borrow.Author.Rules.{rules}
-use borrow.Author.Count.{below_none, below_more}
 use mathlib.Core.Path.{◌≡◌}
 use Prim.Native.Nat.{ℕ, ◌-◌, ◌<◌, ◌≤◌}
-use native.Mathlib.Nat.{lt_of_lt_of_le}
 use lib.ListN.{length, get_or}
-use Rattle.questions.specs.laws.Left.{no, yes, alike, alike_at}
 use Rattle.questions.proofs.is_all.Given as goal
 
 abbrev pub invariant-loop-i : goal.invariant-loop-i

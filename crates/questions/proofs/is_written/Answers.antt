@@ -1,6 +1,5 @@
 -- `is_written` compares the first bytes, and then the others.
 use borrow.Author.Rules.{rules}
-use borrow.Author.Tests.{not-true, not-false}
 use mathlib.Core.Path.{sym}
 use lib.Seq.{length-take-le}
 use Rattle.questions.specs.laws.Left.{written_short, written_other, written_by_rest}

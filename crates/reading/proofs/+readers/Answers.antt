@@ -1,13 +1,9 @@
 -- The readers call one another in a circle, with the levels left falling.
 use borrow.Author.Rules.{rules}
-use mathlib.Core.Path.{◌≡◌, refl}
-use lib.ListN.{length}
+use mathlib.Core.Path.{refl}
 use native.Mathlib.Nat.{le_refl, le_trans}
 use Rattle.logic.specs.laws.Flag.{flagged}
-use Rattle.model.specs.Kinds.{sequence_kind, map_kind, tuple_kind}
 use Rattle.shapes.specs.laws.Shapes.{text_inside, variant_good, parts_parted}
-use Rattle.places.specs.Layout.{Ready}
-use Rattle.reading.specs.Reading.{parts_from, parts_by, readers}
 use Rattle.reading.specs.laws.Readers.{contents_unit, contents_value, contents_positions, contents_fields, value_leaf, value_parted, named_parted, unnamed, part_child, part_refused, begun_fits, parted_sequence, parted_struct, parted_refused, parted_leaf, parted_parts, parted_variant, parted_none, container_parts, container_refused, variant_child, variant_refused}
 use Rattle.reading.specs.laws.Quick.{quick_read, quick_sound}
 use Rattle.leaves.specs.laws.Quick.{quick_none}
@@ -18,12 +14,7 @@ use Rattle.reading.specs.laws.Sound.{held_from, opened_left, opened_ready, opene
 use Rattle.places.specs.laws.Layout.{is_place, has_room_lem}
 use Rattle.opening.specs.laws.Opening.{held_ready}
 use Rattle.leaves.specs.laws.Marks.{past_ready, observed_sound}
-use Prim.Native.Nat.{◌-◌, ℕ, ◌+◌, ◌*◌, ◌<◌, ◌≤◌}
-use mathlib.Core.List.{List}
-use Rattle.options.specs.declared.TracingOptions.{TracingOptions}
-use Rattle.leaves.specs.declared.Site.{Site}
 use Rattle.reading.proofs.+readers.Goals as goal
-use Rattle.reading.proofs.+readers.Invariants.{Left}
 
 pub read_container-overflow_sub-levels : goal.read_container-overflow_sub-levels
 read_container-overflow_sub-levels t c = search (opened_left, rules)

@@ -1,24 +1,10 @@
 -- The readers call one another in a circle, with the levels left falling.
-use borrow.Author.Rules.{rules}
-use mathlib.Core.Path.{◌≡◌, refl}
+use mathlib.Core.Path.{◌≡◌}
 use lib.ListN.{length}
-use native.Mathlib.Nat.{le_refl, le_trans}
-use Rattle.logic.specs.laws.Flag.{flagged}
 use Rattle.model.specs.Kinds.{sequence_kind, map_kind, tuple_kind}
-use Rattle.shapes.specs.laws.Shapes.{text_inside, variant_good, parts_parted}
 use Rattle.places.specs.Layout.{Ready}
 use Rattle.reading.specs.Reading.{parts_from, parts_by, readers}
-use Rattle.reading.specs.laws.Readers.{contents_unit, contents_value, contents_positions, contents_fields, value_leaf, value_parted, named_parted, unnamed, part_child, part_refused, begun_fits, parted_sequence, parted_struct, parted_refused, parted_leaf, parted_parts, parted_variant, parted_none, container_parts, container_refused, variant_child, variant_refused}
-use Rattle.reading.specs.laws.Quick.{quick_read, quick_sound}
-use Rattle.leaves.specs.laws.Quick.{quick_none}
-use Rattle.reading.specs.laws.Runs.{elements_same}
-use Rattle.runs.specs.laws.Runs.{same_above}
-use Rattle.reading.specs.laws.Loops.{parts_end, parts_refused, parts_stopped, parts_more, parts_less, parts_counted, count_fits, element_part, elements_more, part_unnamed, element_unnamed, position_unnamed, entry_unnamed, position_part, positions_end, whole_fits, name_fits, name_whole, name_inside, end_fits_lem, fields_ended, fields_refused, fields_stopped, fields_more, fields_less, by_fields, by_elements, by_entries, by_positions}
-use Rattle.reading.specs.laws.Sound.{held_from, opened_left, opened_ready, opened_from, chosen_left, chosen_from, field_ready, field_grows, field_still, field_ends, traced_from, traced_grows, traced_ready, traced_first, falls_parts, falls_contents, falls_named, sequence_parted, struct_parted, tuple_parted}
-use Rattle.places.specs.laws.Layout.{is_place, has_room_lem}
-use Rattle.opening.specs.laws.Opening.{held_ready}
-use Rattle.leaves.specs.laws.Marks.{past_ready, observed_sound}
-use Prim.Native.Nat.{◌-◌, ℕ, ◌+◌, ◌*◌, ◌<◌, ◌≤◌}
+use Prim.Native.Nat.{◌-◌, ℕ, ◌+◌, ◌*◌, ◌≤◌}
 use mathlib.Core.List.{List}
 use Rattle.options.specs.declared.TracingOptions.{TracingOptions}
 use Rattle.leaves.specs.declared.Site.{Site}

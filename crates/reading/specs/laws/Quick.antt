@@ -1,6 +1,5 @@
 -- What the quick way passes is read so, and where it passes nothing all is as it was.
-use Rattle.std.specs.Prelude.{◌≡◌, refl, Bool, false, not, List, ℕ, ◌<◌, length, get_or}
-use Rattle.std.proofs.Common.{sym}
+use Rattle.std.specs.Prelude.{◌≡◌, refl, Bool, false, not, List, ℕ, ◌<◌, get_or}
 use Rattle.std.proofs.lemmas.Bool.{not-true}
 use Rattle.logic.specs.laws.Table.{all_below, below_at}
 use Rattle.shapes.specs.Leaf.{leaf_at}

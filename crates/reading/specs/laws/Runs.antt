@@ -1,11 +1,11 @@
 -- Elements of a sequence that change nothing: the present sample holds one already, and they are of the type that it has.
-use Rattle.std.specs.Prelude.{◌≡◌, true, not, ◌&&◌, ltb}
+use Rattle.std.specs.Prelude.{◌≡◌, true, not, ◌&&◌}
 use Rattle.std.proofs.Math.Path.{refl, ap}
 use Rattle.std.proofs.Common.{◌∙◌, drop-cons}
 use mathlib.Core.List.{List, [], ◌∷◌}
 use Prim.Native.Nat.{ℕ, suc, ◌+◌, ◌<◌}
 use native.Mathlib.Omega.{arith}
-use borrow.Author.Tests.{eqb-true, eqb-false, eq-eqb, ne_eqb, ltb-true, not-true}
+use borrow.Author.Tests.{eqb-true, eqb-false, eq-eqb, ne_eqb, not-true}
 use Rattle.std.proofs.Math.Dec.{eqb}
 use Rattle.std.proofs.Math.ListN.{length, get_or, drop, length-drop}
 use Rattle.std.proofs.Math.Numerals.{add-one}
@@ -13,7 +13,6 @@ use Rattle.std.proofs.Math.Nat.{add-zero}
 use Rattle.logic.specs.Test.{if◌then◌else◌}
 use Rattle.logic.specs.laws.Test.{cases, both}
 use Rattle.logic.specs.Turns.{done, after, turns}
-use Rattle.datatype.specs.Codes.{null}
 use Rattle.text.specs.Name.{eq_name}
 use Rattle.words.specs.Word.{word}
 use Rattle.commands.specs.declared.Due.TheVariants as D

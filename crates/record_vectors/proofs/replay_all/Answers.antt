@@ -9,7 +9,7 @@ loop-at-init g c = (search rules, search rules, search rules, refl)
 pub loop-at-preserved : goal.loop-at-preserved
 loop-at-preserved g c =
     let on = record_on (agrees_as _) _ _ _ _ _ _ _ _ (search rules) c.end_of_record-at.ensures.0 c.agrees.ensures c.differs-differ.ensures.0
-        c.loop-at.invariant.3 in
+    c.loop-at.invariant.3 in
     (search rules, search rules, search rules, on)
 
 pub returns : goal.returns

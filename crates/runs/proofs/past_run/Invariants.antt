@@ -1,9 +1,7 @@
 -- `past_run`: behind the blocks, and from each offset on, the run ends where it does as a whole.
 use Prim.Native.Nat.{◌-◌}
-use borrow.Author.Rules.{rules}
 use mathlib.Core.Path.{◌≡◌}
 use lib.ListN.{length}
-use Rattle.runs.specs.laws.Runs.{run_cut, run_other, run_more}
 use Rattle.runs.specs.Runs.{behind_run}
 use Rattle.runs.proofs.past_run.Given as goal
 

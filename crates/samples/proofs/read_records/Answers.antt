@@ -1,10 +1,5 @@
 -- `read_records`: from each record on the batch gives what it gives as a whole.
-use Prim.Native.Nat.{◌-◌}
 use borrow.Author.Rules.{rules}
-use mathlib.Core.Path.{◌≡◌}
-use lib.ListN.{length}
-use Rattle.places.specs.Layout.{Ready}
-use Rattle.samples.specs.Samples.{records_at, from_samples}
 use Rattle.samples.specs.laws.Samples.{records_end, records_stopped, records_more, records_less, root_ready, root_sound}
 use Rattle.reading.specs.laws.Sound.{traced_ready}
 use Rattle.samples.proofs.read_records.Goals as goal

@@ -1,15 +1,8 @@
 -- The emission of a place, of its children and of a child, as one cycle: the levels fall. Over the children, those that are left give what all give.
 use borrow.Author.Rules.{rules}
-use mathlib.Core.Path.{◌≡◌, refl}
-use Prim.Native.Nat.{ℕ, ◌+◌, ◌*◌, ◌<◌, ◌≤◌}
+use mathlib.Core.Path.{refl}
+use Prim.Native.Nat.{◌≤◌}
 use native.Mathlib.Omega.{arith}
-use lib.ListN.{length}
-use Rattle.places.specs.Reading.{child_limit}
-use Rattle.words.specs.Word.{IsRow}
-use Rattle.model.specs.Tracing.{place_limit}
-use Rattle.places.specs.Layout.{Linked}
-use Rattle.putting.specs.Put.{writing}
-use Rattle.schema.specs.Emit.{fields_from, emitted_at}
 use Rattle.schema.proofs.Emits.{spent, ended, next, in_child, some_level, leaf, opened}
 use Rattle.schema.proofs.+emitting.Goals as goal
 

@@ -2,9 +2,9 @@
 use borrow.Author.Rules.{rules}
 use mathlib.Core.Path.{◌≡◌, refl, sym, ◌∙◌}
 use mathlib.Core.List.{List}
-use Prim.Native.Nat.{ℕ, ◌+◌, ◌-◌, ◌%◌, ◌<◌}
+use Prim.Native.Nat.{ℕ, ◌+◌, ◌<◌}
 use Rattle.text.specs.declared.Name.{Name}
-use Rattle.words.specs.Word.{word, IsRow}
+use Rattle.words.specs.Word.{word}
 use Rattle.shapes.specs.Steps.{field_code}
 use Rattle.places.specs.Layout.{last_word, Ready}
 use Rattle.places.specs.laws.Layout.{first_below}

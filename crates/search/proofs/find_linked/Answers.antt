@@ -7,11 +7,11 @@ use Prim.Native.Nat.{ℕ, ◌<◌}
 use Rattle.words.specs.Word.{word}
 use Rattle.text.specs.declared.Name.{Name}
 use Rattle.shapes.specs.Steps.{field_code}
-use Rattle.places.specs.Layout.{first_word, next_word, parent_word, Ready}
-use Rattle.search.specs.Search.{find_from, find_in}
+use Rattle.places.specs.Layout.{first_word, next_word, Ready}
+use Rattle.search.specs.Search.{find_from}
 use Rattle.search.specs.Scan.{is_field}
 use Rattle.places.specs.laws.Layout.{first_below, next_below, name_ends}
-use Rattle.search.specs.laws.Search.{children_left, left_falls, find_first, find_none, find_found, find_next}
+use Rattle.search.specs.laws.Search.{left_falls, find_first, find_none, find_found, find_next}
 use Rattle.search.specs.laws.Scan.{child_field, all_tagged}
 use Rattle.search.proofs.find_linked.Goals as goal
 use Rattle.search.proofs.find_linked.Invariants.{Child}

@@ -1,9 +1,8 @@
 -- `seek`: from each link on the search gives what the whole gives.
 use borrow.Author.Rules.{rules}
-use mathlib.Core.Path.{◌≡◌, refl}
-use Prim.Native.Nat.{◌-◌, ◌<◌}
+use mathlib.Core.Path.{refl}
+use Prim.Native.Nat.{◌<◌}
 use Rattle.search.specs.laws.Tree.{leads_below, ahead_falls, seek_none, seek_found, seek_next}
-use Rattle.search.specs.Tree.{follow, seeking, seek_from, seek}
 use Rattle.search.proofs.seek.Goals as goal
 
 pub loop-child-init : goal.loop-child-init

@@ -1,8 +1,6 @@
 -- `seek`: from each link on the search gives what the whole gives.
-use borrow.Author.Rules.{rules}
-use mathlib.Core.Path.{◌≡◌, refl}
+use mathlib.Core.Path.{◌≡◌}
 use Prim.Native.Nat.{◌-◌, ◌<◌}
-use Rattle.search.specs.laws.Tree.{leads_below, ahead_falls, seek_none, seek_found, seek_next}
 use Rattle.search.specs.Tree.{follow, seeking, seek_from, seek}
 use Rattle.search.proofs.seek.Given as goal
 

@@ -1,5 +1,4 @@
 -- `begins_at` looks at one byte.
-use borrow.Author.Rules.{rules}
 use borrow.Author.Tests.{lt-ltb, le-ltb}
 use Rattle.shapes.specs.Shapes.{begins_at}
 use Rattle.shapes.proofs.begins_at.Goals as goal

@@ -1,7 +1,6 @@
 -- `element_part`: the end by its byte, or what stands there.
 use borrow.Author.Rules.{rules}
 use native.Mathlib.Omega.{arith}
-use mathlib.Core.Path.{refl}
 use Rattle.shapes.specs.laws.Bytes.{begins_inside, end_part}
 use Rattle.shapes.proofs.element_part.Goals as goal
 

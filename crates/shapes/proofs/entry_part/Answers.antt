@@ -1,5 +1,4 @@
 -- `entry_part` goes by turns.
-use borrow.Author.Rules.{rules}
 use borrow.Author.Tests.{eq-eqb, ne_eqb}
 use Rattle.logic.specs.Test.{if◌then◌else◌}
 use Rattle.shapes.specs.Shapes.{part_at}

@@ -1,5 +1,4 @@
 -- `is_plain` looks at one byte.
-use borrow.Author.Rules.{rules}
 use borrow.Author.Tests.{lt-ltb, le-ltb}
 use Rattle.shapes.specs.Shapes.{plain_at}
 use Rattle.shapes.proofs.is_plain.Goals as goal

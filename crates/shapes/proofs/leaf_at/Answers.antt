@@ -6,7 +6,6 @@ use mathlib.Core.Bool.{true, false}
 use mathlib.Core.List.{List}
 use Prim.Native.Nat.{ℕ, ◌+◌, ◌<◌, ◌≤◌}
 use native.Mathlib.Omega.{arith}
-use lib.Dec.{eqb}
 use lib.ListN.{length, get_or}
 use Rattle.logic.specs.Test.{if◌then◌else◌}
 use Rattle.datatype.specs.Codes.{null}
@@ -21,7 +20,7 @@ use Rattle.commands.specs.laws.Commands.{byte_of, good}
 use Rattle.shapes.specs.declared.Leaf.{Leaf}
 use Rattle.shapes.specs.declared.Leaf.TheVariants as O
 use Rattle.shapes.specs.Shapes.{shape_at, plain_byte}
-use Rattle.shapes.specs.Leaf.{plain_kind, leaf_by, leaf_read, leaf_at}
+use Rattle.shapes.specs.Leaf.{leaf_by, leaf_read, leaf_at}
 use Rattle.shapes.specs.laws.Leaf.{past_none, plain_leaf}
 use Rattle.shapes.specs.laws.Bytes.{bare_read}
 use Rattle.shapes.proofs.leaf_at.Goals as goal

@@ -1,5 +1,4 @@
 -- `tried_kind` gives the code of the type that the name's bytes observe.
-use borrow.Author.Rules.{rules}
 use Rattle.shapes.proofs.tried_kind.Goals as goal
 
 pub returns : goal.returns

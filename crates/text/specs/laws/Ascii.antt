@@ -1,5 +1,5 @@
 -- Where all bytes of a text are below 80, every name inside it is UTF-8.
-use Rattle.std.specs.Prelude.{◌≡◌, refl, ℕ, zero, suc, ◌+◌, ◌≤◌, ◌<◌, Bool, true, false, not, List, [], ◌∷◌, eqb, leb, length, get_or, drop}
+use Rattle.std.specs.Prelude.{◌≡◌, refl, ℕ, zero, suc, ◌+◌, ◌≤◌, ◌<◌, Bool, true, false, List, [], ◌∷◌, eqb, length, get_or}
 use Rattle.std.proofs.Common.{◌∙◌, arith, get_or-drop, get_or-take, eqb-true, leb-false}
 use Rattle.std.proofs.lemmas.Bool.{eqb-false, not-true}
 use Rattle.logic.specs.laws.Test.{cases, neither}

@@ -1,10 +1,5 @@
 -- The walk of a place, of its children and over them, as one cycle: the levels fall. Over the children, those that are left give what all give.
-use Rattle.std.proofs.Common.{◌≡◌, ℕ, ◌+◌, ◌*◌, ◌<◌, false, ⊎_elim, arith, rules}
-use Rattle.words.specs.Word.{IsRow}
-use Rattle.model.specs.Tracing.{place_limit}
-use Rattle.places.specs.Layout.{Linked}
-use Rattle.places.specs.Reading.{next_child, child_limit}
-use Rattle.walk.specs.Walk.{children_from, walked}
+use Rattle.std.proofs.Common.{rules}
 use Rattle.walk.proofs.Walks.{spent, ended, beyond, refused, next, of_map, of_other, unknown, null_field_lem, primitive, no_level, as_strings, dataless_union_lem, Opens, no_union, with_data, null_children, opened}
 use Rattle.walk.proofs.+walking.Goals.{walk_place-then-kind-eq-UNION+then-is_dataless+else-enums_without_data_as_strings+else-not-allow_null_fields, walk_place-else-kind-eq-UNION, walk_place-else-kind-eq-UNION-via-then-kind-eq-UNION+else-is_dataless, walk_place-else-kind-eq-UNION-via-else-kind-eq-UNION}
 use Rattle.walk.proofs.+walking.Goals as goal
@@ -54,9 +49,11 @@ walk_place-returns-then-not-allow_null_fields t c = search (dataless_union_lem, 
 pub walk_place-returns : goal.walk_place-returns
 walk_place-returns t c =
     let o : Opens c.args.options.word c.args.table.now c.get-kind.result c.args.place =
-        elim c.if-kind-eq-UNION.branch [
-          walk_place-then-kind-eq-UNION+then-is_dataless+else-enums_without_data_as_strings+else-not-allow_null_fields w ↦ search (null_children, rules)
-        | walk_place-else-kind-eq-UNION w ↦ elim w.else-kind-eq-UNION.branch [
-              walk_place-else-kind-eq-UNION-via-then-kind-eq-UNION+else-is_dataless v ↦ search (with_data, rules)
-            | walk_place-else-kind-eq-UNION-via-else-kind-eq-UNION v ↦ search (no_union, rules) ] ] in
+    elim c.if-kind-eq-UNION.branch [
+      | walk_place-then-kind-eq-UNION+then-is_dataless+else-enums_without_data_as_strings+else-not-allow_null_fields w ↦ search (null_children, rules)
+      | walk_place-else-kind-eq-UNION w ↦ elim w.else-kind-eq-UNION.branch [
+        | walk_place-else-kind-eq-UNION-via-then-kind-eq-UNION+else-is_dataless v ↦ search (with_data, rules)
+        | walk_place-else-kind-eq-UNION-via-else-kind-eq-UNION v ↦ search (no_union, rules)
+      ]
+    ] in
     search (opened, rules)

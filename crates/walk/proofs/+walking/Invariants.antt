@@ -1,11 +1,10 @@
 -- The walk of a place, of its children and over them, as one cycle: the levels fall. Over the children, those that are left give what all give.
-use Rattle.std.proofs.Common.{◌≡◌, ℕ, ◌+◌, ◌*◌, ◌<◌, false, ⊎_elim, arith, rules}
+use Rattle.std.proofs.Common.{◌≡◌, ◌+◌, ◌*◌, false}
 use Rattle.words.specs.Word.{IsRow}
 use Rattle.model.specs.Tracing.{place_limit}
 use Rattle.places.specs.Layout.{Linked}
 use Rattle.places.specs.Reading.{next_child, child_limit}
 use Rattle.walk.specs.Walk.{children_from, walked}
-use Rattle.walk.proofs.Walks.{spent, ended, beyond, refused, next, of_map, of_other, unknown, null_field_lem, primitive, no_level, as_strings, dataless_union_lem, Opens, no_union, with_data, null_children, opened}
 use Rattle.walk.proofs.+walking.Given as goal
 
 abbrev pub decreases-walk_children : goal.decreases-walk_children

@@ -1,10 +1,9 @@
 -- `clear_places` zeroes one plane after another, as far as each is to be: before each turn, the planes before it are done.
-use borrow.Author.Rules.{rules}
 use mathlib.Core.Path.{◌≡◌}
 use Prim.Native.Nat.{◌-◌, ◌≤◌}
 use lib.ListN.{length}
 use Rattle.words.specs.Word.{row_words}
-use Rattle.words.proofs.Zeroed.{planes_to, planes_none, planes_more, planes_all}
+use Rattle.words.proofs.Zeroed.{planes_to}
 use Rattle.words.proofs.clear_places.Given as goal
 
 abbrev pub invariant-loop-gap : goal.invariant-loop-gap

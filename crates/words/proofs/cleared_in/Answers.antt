@@ -1,5 +1,4 @@
 -- `cleared_in` tells the last gap, and the planes of the links that putting children in order stores, from the others.
-use borrow.Author.Rules.{rules}
 use mathlib.Core.Logic.{⊎_elim}
 use Rattle.words.proofs.Zeroed.{in_last, in_orders, in_before, in_behind}
 use Rattle.words.proofs.cleared_in.Goals as goal

@@ -1,13 +1,7 @@
 -- `has` looks at one place after another: before each turn it tells of as many as turns were made.
-use borrow.Author.Rules.{rules}
-use mathlib.Core.Path.{◌≡◌, refl}
-use mathlib.Core.Bool.{Bool, false, ◌||◌}
-use mathlib.Core.List.{List}
-use Prim.Native.Nat.{ℕ, ◌+◌, ◌-◌, ◌≤◌}
-use native.Mathlib.Numerals.{add-one}
-use native.Mathlib.Omega.{arith}
-use lib.Dec.{eqb}
-use Rattle.words.specs.Word.{word, has_among}
+use mathlib.Core.Path.{◌≡◌}
+use Prim.Native.Nat.{◌-◌, ◌≤◌}
+use Rattle.words.specs.Word.{has_among}
 use Rattle.words.proofs.has.Given as goal
 
 abbrev pub invariant-loop-i : goal.invariant-loop-i

@@ -1,10 +1,9 @@
 -- `plane_index`: in the gaps, or in a plane.
-use borrow.Author.Rules.{rules}
-use mathlib.Core.Path.{◌≡◌, refl, ◌∙◌}
+use mathlib.Core.Path.{◌≡◌}
 use Prim.Native.Nat.{ℕ, ◌+◌, ◌-◌, ◌*◌, ◌/◌, ◌%◌, ◌<◌}
 use native.Mathlib.Omega.{arith}
 use Rattle.words.specs.Word.{table_words, row_words, plane_words, gap_words, IsRow, plane_index}
-use Rattle.words.specs.laws.Word.{index_gap, index_plane, plane_inside}
+use Rattle.words.specs.laws.Word.{index_gap, index_plane}
 use Rattle.words.proofs.plane_index.Goals as goal
 
 in_gap : (row place : ℕ) → IsRow place → row ≡ 0 → (place / gap_words * plane_words + place % gap_words ≡ plane_index row place) × (place / gap_words * plane_words + place % gap_words < table_words)

@@ -1,10 +1,8 @@
 -- `zero_words` zeroes one word after another: before each turn, those up to the index are zero.
-use borrow.Author.Rules.{rules}
 use mathlib.Core.Path.{◌≡◌}
 use Prim.Native.Nat.{◌-◌, ◌≤◌}
-use lib.ListN.{length, length-set}
+use lib.ListN.{length}
 use Rattle.words.specs.Word.{zeroed_in}
-use Rattle.words.proofs.Zeroed.{in_none, in_more, in_end}
 use Rattle.words.proofs.zero_words.Given as goal
 
 abbrev pub invariant-loop-i : goal.invariant-loop-i

@@ -1,5 +1,4 @@
 -- `Due::admits` tells which bytes can stand where something is due.
-use borrow.Author.Rules.{rules}
 use borrow.Author.Tests.{eq-eqb, ne_eqb}
 use Rattle.commands.proofs.Due.admits.Goals as goal
 

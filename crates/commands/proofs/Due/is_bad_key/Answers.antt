@@ -1,5 +1,4 @@
 -- `Due::is_bad_key` tells refusal 6.
-use borrow.Author.Rules.{rules}
 use borrow.Author.Tests.{eq-eqb, ne_eqb}
 use Rattle.commands.proofs.Due.is_bad_key.Goals as goal
 

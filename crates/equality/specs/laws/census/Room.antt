@@ -14,7 +14,7 @@ use Rattle.refusal.specs.Number.{too_many_places}
 use Rattle.model.specs.Result.{refused}
 use Rattle.model.specs.Kinds.{Step, field, element, position, key, value, variant, same, variant_of, is_variant}
 use Rattle.model.specs.Reading.{Value, val, cut, Parts, no_parts, cut_off, part, is_whole, are_whole, all_whole}
-use Rattle.model.specs.Tracing.{Tree, node, Kids, no_kids, kid, fresh, place_limit, steps_of, has, renames, clashes, room, made, trace}
+use Rattle.model.specs.Tracing.{Tree, node, Kids, no_kids, kid, fresh, place_limit, steps_of, has, renames, clashes, made, trace}
 use Rattle.model.specs.Census.{Said, census, below, parts_of, parts_at, steps_in, steps_seen, sights, fixed_steps, kind_in, is_lacking}
 use Rattle.model.specs.Bound.{unnamed, without_names, Among, AtMost}
 use Rattle.equality.specs.laws.Base.{and_right, and_both, or_cases, same_true, same_refl}

@@ -1,14 +1,9 @@
 -- `put_decimal` writes digits from the last to the first: the buffer with what is left written is the buffer with all written.
-use borrow.Author.Rules.{rules}
-use mathlib.Core.Path.{◌≡◌, sym, ap, ◌∙◌}
-use Prim.Native.Nat.{ℕ, ◌+◌, ◌-◌, ◌/◌, ◌%◌, ◌≤◌, ◌<◌}
-use native.Mathlib.Omega.{arith}
-use mathlib.Core.List.{List}
-use lib.ListN.{length, set, length-set}
+use mathlib.Core.Path.{◌≡◌}
+use Prim.Native.Nat.{◌+◌, ◌≤◌}
+use lib.ListN.{length}
 use Rattle.logic.specs.Buffer.{written}
-use Rattle.logic.specs.laws.Buffer.{written_one, written_last}
-use Rattle.text.specs.Decimal.{decimal, zero_digit}
-use Rattle.text.specs.laws.Decimal.{decimal_small, decimal_step, length_step, length_positive}
+use Rattle.text.specs.Decimal.{decimal}
 use Rattle.text.proofs.decimal.put_decimal.Given as goal
 
 abbrev pub invariant-loop-left : goal.invariant-loop-left

@@ -4,7 +4,7 @@ use mathlib.Core.Path.{◌≡◌, refl, ◌∙◌}
 use Prim.Native.Nat.{ℕ, suc, ◌+◌, ◌*◌, ◌-◌, ◌/◌, ◌%◌, ◌≤◌, ◌<◌}
 use native.Mathlib.Omega.{arith}
 use mathlib.Core.List.{List}
-use Rattle.text.specs.Tag.{tag_limit, four_of, mixed_of, lane_of, long_tag}
+use Rattle.text.specs.Tag.{four_of, mixed_of, lane_of, long_tag}
 use Rattle.text.proofs.tag.long_tag.Goals as goal
 
 module _ (bytes : List ℕ) (at start : ℕ) where

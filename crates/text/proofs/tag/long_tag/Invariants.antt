@@ -1,10 +1,7 @@
 -- `tag::long_tag` mixes eight bytes a turn: each lane is as after so many steps as turns were made.
-use borrow.Author.Rules.{rules}
-use mathlib.Core.Path.{◌≡◌, refl, ◌∙◌}
-use Prim.Native.Nat.{ℕ, suc, ◌+◌, ◌*◌, ◌-◌, ◌/◌, ◌%◌, ◌≤◌, ◌<◌}
-use native.Mathlib.Omega.{arith}
-use mathlib.Core.List.{List}
-use Rattle.text.specs.Tag.{tag_limit, four_of, mixed_of, lane_of, long_tag}
+use mathlib.Core.Path.{◌≡◌}
+use Prim.Native.Nat.{◌-◌, ◌/◌, ◌%◌, ◌≤◌, ◌<◌}
+use Rattle.text.specs.Tag.{tag_limit, lane_of}
 use Rattle.text.proofs.tag.long_tag.Given as goal
 
 abbrev pub invariant-loop-i : goal.invariant-loop-i

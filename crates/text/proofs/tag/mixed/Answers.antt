@@ -1,5 +1,4 @@
 -- `tag::mixed` stays below the limit by the remainder.
-use borrow.Author.Rules.{rules}
 use mathlib.Core.Path.{refl}
 use native.Mathlib.Omega.{arith}
 use Rattle.text.specs.Tag.{mixed_of}

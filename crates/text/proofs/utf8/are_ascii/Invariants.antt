@@ -1,9 +1,7 @@
 -- `utf8::are_ascii` looks at one byte after another: before each turn it tells of as many as turns were made.
-use borrow.Author.Rules.{rules}
 use mathlib.Core.Path.{◌≡◌}
 use Prim.Native.Nat.{◌-◌, ◌≤◌}
 use Rattle.text.specs.Block.{any_from, is_high}
-use Rattle.text.proofs.Blocks.{none, more, all}
 use Rattle.text.proofs.utf8.are_ascii.Given as goal
 
 abbrev pub invariant-loop-i : goal.invariant-loop-i

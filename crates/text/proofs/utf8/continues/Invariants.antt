@@ -1,14 +1,8 @@
 -- `continues` counts down: what is left to count is at the bytes that are left what the count is at the offset.
-use borrow.Author.Rules.{rules}
-use mathlib.Core.Path.{◌≡◌, refl, ◌∙◌}
-use Prim.Native.Nat.{ℕ, zero, suc, ◌+◌, ◌-◌, ◌≤◌, ◌<◌}
-use native.Mathlib.Nat.{not-suc-le-zero}
-use native.Mathlib.Numerals.{sub-one}
-use mathlib.Core.Bool.{Bool, true, false}
-use mathlib.Core.List.{List, ◌∷◌}
-use lib.ListN.{length, get_or, drop, replicate}
+use mathlib.Core.Path.{◌≡◌}
+use Prim.Native.Nat.{◌≤◌}
+use lib.ListN.{length, drop, replicate}
 use Rattle.text.specs.Due.{begins, trailing}
-use Rattle.text.proofs.Begins.{short, below, above, stepped}
 use Rattle.text.proofs.utf8.continues.Given as goal
 
 abbrev pub invariant-loop-left : goal.invariant-loop-left

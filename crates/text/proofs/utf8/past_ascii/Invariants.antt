@@ -1,14 +1,8 @@
 -- `utf8::past_ascii` passes a block a turn, and at the end those of the last eight bytes that are behind the blocks.
-use borrow.Author.Rules.{rules}
-use mathlib.Core.Path.{◌≡◌, refl}
-use Prim.Native.Nat.{ℕ, ◌+◌, ◌-◌, ◌≤◌, ◌<◌}
-use native.Mathlib.Omega.{arith}
-use mathlib.Core.Bool.{Bool, true, not}
-use mathlib.Core.List.{List}
+use mathlib.Core.Path.{◌≡◌}
+use Prim.Native.Nat.{◌-◌, ◌≤◌}
 use lib.ListN.{length, drop}
 use Rattle.text.specs.Utf8.{is_utf8}
-use Rattle.text.specs.Block.{any_from, is_high}
-use Rattle.text.proofs.Ascii.{ascii_block}
 use Rattle.text.proofs.utf8.past_ascii.Given as goal
 
 abbrev pub invariant-loop-i : goal.invariant-loop-i
