@@ -10,7 +10,7 @@ use lib.Dec.{ltb, eqb, eqb-suc-zero}
 use lib.ListN.{length, get_or, drop, drop_of_length-le}
 use lib.Seq.{drop-cons, drop-drop}
 use borrow.Author.Tests.{ltb-true, ltb-false, eqb-true}
-use Rattle.logic.specs.Test.{if◌then◌else◌}
+use Rattle.logic.specs.Test.{when◌then◌else◌}
 use Rattle.logic.specs.laws.Test.{cases}
 use Rattle.chrono.specs.declared.Matched.{Matched}
 use Rattle.chrono.specs.declared.Matched.TheVariants.{Rest, No}
@@ -27,7 +27,7 @@ unfolding leads scan
 nothing_exact k s i = refl
 
 pub one_exact : (t : ℕ → Bool) (k : List ℕ → Bool) → Exact (one t) k
-unfolding leads scan if◌then◌else◌
+unfolding leads scan when◌then◌else◌
 one_exact t k s i =
     cases (ltb i (length s))
     (λ e.
@@ -61,7 +61,7 @@ pub no_rest : {P : Type 0} {j : ℕ} → No ≡ Rest j → P
 no_rest e = let z : ◌≡◌ {A = ℕ} 0 1 = cc in absurd (omega arith)
 
 pub one_at : (t : ℕ → Bool) (s : List ℕ) (i j : ℕ) → scan (one t) s i ≡ Rest j → (t (get_or s i 0) ≡ true) × (drop i s ≡ get_or s i 0 ∷ drop j s)
-unfolding scan if◌then◌else◌
+unfolding scan when◌then◌else◌
 one_at t s i j e =
     cases (ltb i (length s))
     (λ l.
@@ -97,20 +97,20 @@ Stops t k = (c : ℕ) (u : List ℕ) → t c ≡ true → k (c ∷ u) ≡ false
 
 module _ (t : ℕ → Bool) (k : List ℕ → Bool) (stops : Stops t k) where
   further : (l : List ℕ) → elim (k l) [ true ↦ true | false ↦ leads_many t l k ] ≡ k (drop (run t l) l)
-  unfolding run if◌then◌else◌ leads_many
+  unfolding run when◌then◌else◌ leads_many
   further [] = first_only (k []) false (k []) refl refl
   further (c ∷ l) =
       cases (t c)
       (λ e. rw (stops c l e, e, leads_many) (further l))
       (λ e. rw e (first_only (k (c ∷ l)) (leads_many t (c ∷ l) k) (k (c ∷ l)) refl (rw (e, leads_many))))
 
-  whole_run : (l : List ℕ) → leads_many t l k ≡ (if eqb (run t l) 0 then false else k (drop (run t l) l))
-  unfolding run if◌then◌else◌ leads_many
+  whole_run : (l : List ℕ) → leads_many t l k ≡ (when eqb (run t l) 0 then false else k (drop (run t l) l))
+  unfolding run when◌then◌else◌ leads_many
   whole_run [] = refl
   whole_run (c ∷ l) = cases (t c) (λ e. rw (e, eqb-suc-zero (run t l), leads_many) (further l)) (λ e. rw (e, leads_many))
 
   many_exact : Exact (many t) k
-  unfolding leads scan if◌then◌else◌
+  unfolding leads scan when◌then◌else◌
   many_exact s i =
       whole_run (drop i s) ∙
       cases (eqb (run t (drop i s)) 0) (λ e. rw e) (λ e. rw (e, drop-drop (run t (drop i s)) i s))

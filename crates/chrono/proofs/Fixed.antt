@@ -7,7 +7,7 @@ use native.Mathlib.Omega.{arith}
 use lib.Dec.{eqb}
 use lib.ListN.{length, get_or, drop, drop_of_length-le}
 use borrow.Author.Tests.{eqb-true}
-use Rattle.logic.specs.Test.{if◌then◌else◌}
+use Rattle.logic.specs.Test.{when◌then◌else◌}
 use Rattle.logic.specs.laws.Test.{both}
 use Rattle.datatype.specs.Codes.{timestamp_naive, timestamp_utc, time64, date32}
 use Rattle.chrono.specs.declared.Matched.{Matched}
@@ -45,7 +45,7 @@ module _ (s : List ℕ) where
 
   -- four digits and no fifth
   year : 4 < length s → two_digits s 0 ≡ true → two_digits s 2 ≡ true → eqb (get_or s 4 0) minus ≡ true → Rest 4 ≡ scan digits s 0
-  unfolding scan if◌then◌else◌
+  unfolding scan when◌then◌else◌
   year h p q r =
       both (is_digit (get_or s 0 0)) (is_digit (get_or s 1 0)) p
       (λ a b.

@@ -7,7 +7,7 @@ use lib.Dec.{eqb}
 use lib.ListN.{length, get_or, drop, drop_of_length-le}
 use lib.Seq.{drop-cons}
 use borrow.Author.Tests.{eq-eqb, ne_eqb}
-use Rattle.logic.specs.Test.{if◌then◌else◌}
+use Rattle.logic.specs.Test.{when◌then◌else◌}
 use Rattle.logic.specs.laws.Test.{cases, neither}
 use Rattle.datatype.specs.Codes.{timestamp_naive, timestamp_utc, time64, date32}
 use Rattle.chrono.specs.declared.Matched.{Matched}
@@ -87,7 +87,7 @@ no_first g h s i = go (scan g s i)
 
 -- the first fit, by what each of the four tests gives
 first : (s : List ℕ) (string : ℕ) (a b c d : Bool) → fits naive_datetime s ≡ a → fits utc_datetime s ≡ b → fits naive_time s ≡ c → fits naive_date s ≡ d →
-    (if a then timestamp_naive else (if b then timestamp_utc else (if c then time64 else (if d then date32 else string)))) ≡ first_fit date_texts s string
+    (when a then timestamp_naive else (when b then timestamp_utc else (when c then time64 else (when d then date32 else string)))) ≡ first_fit date_texts s string
 unfolding first_fit
 first s string a b c d e f g h = rw (e, f, g, h)
 
@@ -111,11 +111,11 @@ module _ {r : Matched} (s : List ℕ) (string : ℕ) (flag : Bool) (sought : r �
   undated = sym given ∙ sought
 
   pub dateless_time : flag ≡ true → time64 ≡ first_fit date_texts s string
-  unfolding if◌then◌else◌
+  unfolding when◌then◌else◌
   dateless_time p = first s string false false true false (naive_of s No undated) (utc_of s No undated) (sym timed ∙ p) (date_of s No undated)
 
   pub dateless_string : flag ≡ false → string ≡ first_fit date_texts s string
-  unfolding if◌then◌else◌
+  unfolding when◌then◌else◌
   dateless_string p = first s string false false false false (naive_of s No undated) (utc_of s No undated) (sym timed ∙ p) (date_of s No undated)
 
 pub is_time : (s : List ℕ) (string : ℕ) → fits naive_time s ≡ true → time64 ≡ first_fit date_texts s string
@@ -128,7 +128,7 @@ is_time s string e = go (scan naive_date s 0) refl
 -- what a text is that begins with a date, by what follows
 module _ (s : List ℕ) (string at : ℕ) (dated : Rest at ≡ scan naive_date s 0) where
   pub date_ends : length s ≤ at → date32 ≡ first_fit date_texts s string
-  unfolding leads if◌then◌else◌
+  unfolding leads when◌then◌else◌
   date_ends h =
       let e : drop at s ≡ [] = drop_of_length-le s h in
       first s string false false false true (naive_of s (Rest at) dated ∙ rw e) (utc_of s (Rest at) dated ∙ rw e)
@@ -140,7 +140,7 @@ module _ (s : List ℕ) (string at : ℕ) (dated : Rest at ≡ scan naive_date s
     no_date = date_of s (Rest at) dated ∙ rw (drop-cons s at 0 more)
 
     pub no_separator : {r : Matched} → r ≡ scan separator s at → r ≡ No → string ≡ first_fit date_texts s string
-    unfolding leads if◌then◌else◌
+    unfolding leads when◌then◌else◌
     no_separator p q =
         let e : No ≡ scan separator s at = sym q ∙ p in
         first s string false false false false
@@ -153,8 +153,8 @@ module _ (s : List ℕ) (string at : ℕ) (dated : Rest at ≡ scan naive_date s
       separated : Rest next ≡ scan separator s at
       separated = sym given ∙ sought
 
-      naive_time_lem : fits naive_datetime s ≡ (if eqb (get_or s at 0) T' then of_rest is_empty s (scan naive_time s next) else false)
-      unfolding leads if◌then◌else◌
+      naive_time_lem : fits naive_datetime s ≡ (when eqb (get_or s at 0) T' then of_rest is_empty s (scan naive_time s next) else false)
+      unfolding leads when◌then◌else◌
       naive_time_lem =
           naive_of s (Rest at) dated ∙
           rw (separator_at s at next separated)
@@ -165,7 +165,7 @@ module _ (s : List ℕ) (string at : ℕ) (dated : Rest at ≡ scan naive_date s
       utc_time = utc_of s (Rest at) dated ∙ separator_exact _ s at ∙ ap (of_rest (λ x'. leads naive_time x' (λ u. leads utc_zone u is_empty)) s) (sym separated) ∙ time_zone s next
 
       pub no_time_next : {q : Matched} → q ≡ scan naive_time s next → q ≡ No → string ≡ first_fit date_texts s string
-      unfolding if◌then◌else◌
+      unfolding when◌then◌else◌
       no_time_next p q =
           let e : No ≡ scan naive_time s next = sym q ∙ p in
           first s string false false false false
@@ -178,7 +178,7 @@ module _ (s : List ℕ) (string at : ℕ) (dated : Rest at ≡ scan naive_date s
         timed : Rest zone ≡ scan naive_time s next
         timed = sym given' ∙ sought'
 
-        naive_end : fits naive_datetime s ≡ (if eqb (get_or s at 0) T' then is_empty (drop zone s) else false)
+        naive_end : fits naive_datetime s ≡ (when eqb (get_or s at 0) T' then is_empty (drop zone s) else false)
         naive_end = naive_time_lem ∙ rw (← timed)
 
         utc_zone_lem : fits utc_datetime s ≡ of_rest is_empty s (scan utc_zone s zone)
@@ -189,15 +189,15 @@ module _ (s : List ℕ) (string at : ℕ) (dated : Rest at ≡ scan naive_date s
           utc_whole = utc_zone_lem ∙ ap (of_rest is_empty s) (sym zoned) ∙ sym whole
 
           no_naive : fits naive_datetime s ≡ false
-          unfolding if◌then◌else◌
+          unfolding when◌then◌else◌
           no_naive = naive_end ∙ rw (drop-cons s zone 0 left) (cases (eqb (get_or s at 0) T') (λ f. rw f) (λ f. rw f))
 
           pub zone_ends : flag ≡ true → timestamp_utc ≡ first_fit date_texts s string
-          unfolding if◌then◌else◌
+          unfolding when◌then◌else◌
           zone_ends p = first s string false true false false no_naive (utc_whole ∙ p) (no_time s at dated) no_date
 
           pub no_zone : flag ≡ false → string ≡ first_fit date_texts s string
-          unfolding if◌then◌else◌
+          unfolding when◌then◌else◌
           no_zone p = first s string false false false false no_naive (utc_whole ∙ p) (no_time s at dated) no_date
 
         module _ (ends : length s ≤ zone) where
@@ -206,14 +206,14 @@ module _ (s : List ℕ) (string at : ℕ) (dated : Rest at ≡ scan naive_date s
           no_utc = utc_time ∙ rw (← timed, drop_of_length-le s ends)
 
           pub time_ends : get_or s at 0 ≡ T' → timestamp_naive ≡ first_fit date_texts s string
-          unfolding if◌then◌else◌
+          unfolding when◌then◌else◌
           time_ends e =
               first s string true false false false (naive_end ∙ rw (eq-eqb (get_or s at 0) T' e, drop_of_length-le s ends)) no_utc
               (no_time s at dated)
               no_date
 
           pub blank_ends : (get_or s at 0 ≡ T' → ⊥) → string ≡ first_fit date_texts s string
-          unfolding if◌then◌else◌
+          unfolding when◌then◌else◌
           blank_ends e =
               first s string false false false false (naive_end ∙ rw (ne_eqb (get_or s at 0) T' e)) no_utc (no_time s at dated) no_date
 
@@ -223,7 +223,7 @@ unfolding leads leads_many
 other_date c s k e f g = rw (f, g, e, leads, leads_many)
 
 pub no_begin : (flag : Bool) (s : List ℕ) (string : ℕ) → flag ≡ begins s → flag ≡ false → string ≡ first_fit date_texts s string
-unfolding fits leads leads_many if◌then◌else◌
+unfolding fits leads leads_many when◌then◌else◌
 no_begin flag [] string e p = first [] string false false false false refl refl refl refl
 no_begin flag (c ∷ s) string e p =
     neither (is_digit c || eqb c plus) (eqb c minus) (sym e ∙ p)

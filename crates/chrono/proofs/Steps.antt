@@ -6,7 +6,7 @@ use Prim.Native.Nat.{ℕ, suc, ◌+◌, ◌≤◌, ◌<◌}
 use lib.ListN.{length, get_or, drop}
 use lib.Seq.{drop-cons}
 use borrow.Author.Tests.{lt-ltb, le-ltb}
-use Rattle.logic.specs.Test.{if◌then◌else◌}
+use Rattle.logic.specs.Test.{when◌then◌else◌}
 use Rattle.chrono.specs.declared.Matched.{Matched}
 use Rattle.chrono.specs.declared.Matched.TheVariants.{Rest, No}
 use Rattle.chrono.specs.Grammar.{Grammar, nothing, one, ◌then◌, ◌or◌}
@@ -18,24 +18,24 @@ and_same a b x y e f = rw (e, f)
 
 -- a byte of a class
 pub one_past : (t : ℕ → Bool) (s : List ℕ) (i : ℕ) → length s ≤ i → No ≡ scan (one t) s i
-unfolding scan if◌then◌else◌
+unfolding scan when◌then◌else◌
 one_past t s i h = rw (le-ltb i (length s) h)
 
 pub one_is : (t : ℕ → Bool) (s : List ℕ) (i : ℕ) → i < length s → t (get_or s i 0) ≡ true → Rest (i + 1) ≡ scan (one t) s i
-unfolding scan if◌then◌else◌
+unfolding scan when◌then◌else◌
 one_is t s i h e = rw (lt-ltb i (length s) h, e)
 
 pub one_not : (t : ℕ → Bool) (s : List ℕ) (i : ℕ) → i < length s → t (get_or s i 0) ≡ false → No ≡ scan (one t) s i
-unfolding scan if◌then◌else◌
+unfolding scan when◌then◌else◌
 one_not t s i h e = rw (lt-ltb i (length s) h, e)
 
 -- a run of bytes of a class: it goes on with one more of them, and ends before another
 pub run_on : (t : ℕ → Bool) (s : List ℕ) (i : ℕ) → i < length s → t (get_or s i 0) ≡ true → run t (drop i s) ≡ suc (run t (drop (suc i) s))
-unfolding run if◌then◌else◌
+unfolding run when◌then◌else◌
 run_on t s i h e = rw (drop-cons s i 0 h, e)
 
 pub run_ends : (t : ℕ → Bool) (s : List ℕ) (i : ℕ) → i < length s → t (get_or s i 0) ≡ false → run t (drop i s) ≡ 0
-unfolding run if◌then◌else◌
+unfolding run when◌then◌else◌
 run_ends t s i h e = rw (drop-cons s i 0 h, e)
 
 -- one grammar after another

@@ -2,7 +2,7 @@
 -- list is only asked what it holds. It is the same in either edition: in edition 2 no accepted place holds integers and floats
 -- both, with allow_to_string off (`kinds_apart`, proved in `equality`).
 use Rattle.std.specs.Prelude.{ℕ, Bool, not, ◌||◌, List, [], ◌∷◌, eqb}
-use Rattle.logic.specs.Test.{if◌then◌else◌}
+use Rattle.logic.specs.Test.{when◌then◌else◌}
 use Rattle.logic.specs.All.{has}
 use Rattle.datatype.specs.Codes.{null, int64, uint64, float64}
 use Rattle.options.specs.Word.{string_type}
@@ -19,17 +19,17 @@ is_string_or_timestamp t = is_string t || is_timestamp t
 -- or with strings: the string type"
 unfoldable pub several_seen : ℕ → List ℕ → ℕ
 several_seen string seen =
-    if has is_string_or_timestamp seen then string else
-    if has is_float seen then float64 else
-    if has is_signed seen then int64 else
+    when has is_string_or_timestamp seen then string else
+    when has is_float seen then float64 else
+    when has is_signed seen then int64 else
     uint64
 
 -- "none: Null; one: itself"; several
 unfoldable pub type_seen : ℕ → List ℕ → ℕ
 type_seen word [] = null
-type_seen word (t ∷ ts) = if has (is_other t) ts then several_seen (string_type word) (t ∷ ts) else t
+type_seen word (t ∷ ts) = when has (is_other t) ts then several_seen (string_type word) (t ∷ ts) else t
 
 -- the non-null types of those observed
 unfoldable pub non_null : List ℕ → List ℕ
 non_null [] = []
-non_null (t ∷ ts) = if eqb t null then non_null ts else t ∷ non_null ts
+non_null (t ∷ ts) = when eqb t null then non_null ts else t ∷ non_null ts

@@ -2,7 +2,7 @@
 -- have an answer: in edition 1 the one that coerce_primitive_type of the Rust gives.
 use Rattle.std.specs.Prelude.{ℕ, Bool, not, ◌&&◌, ◌||◌, leb, eqb}
 use Rattle.std.proofs.Math.Option.{Option, none, some}
-use Rattle.logic.specs.Test.{if◌then◌else◌}
+use Rattle.logic.specs.Test.{when◌then◌else◌}
 use Rattle.datatype.specs.Codes.{code_of, null, boolean, int8, int64, uint64, float32, float64, utf8, large_utf8, timestamp_naive, timestamp_utc}
 use Rattle.options.specs.Word.{coerce_numbers, allow_to_string, edition2, string_type}
 use Rattle.coerce.specs.declared.Coerced.{Coerced}
@@ -32,9 +32,9 @@ is_timestamp t = eqb t timestamp_naive || eqb t timestamp_utc
 -- is signed, else UInt64"
 unfoldable pub number_joint : ℕ → ℕ → ℕ
 number_joint a b =
-    if eqb a b then a else
-    if is_float a || is_float b then float64 else
-    if is_signed a || is_signed b then int64 else
+    when eqb a b then a else
+    when is_float a || is_float b then float64 else
+    when is_signed a || is_signed b then int64 else
     uint64
 
 -- an integer meets a float, in either order
@@ -48,8 +48,8 @@ is_forbidden word a b = edition2 word && is_mixed a b
 -- unequal number types meet: they have a joint "with coerce_numbers", if the edition does not forbid it
 unfoldable pub joint_of_numbers : ℕ → ℕ → ℕ → Option ℕ
 joint_of_numbers word a b =
-    if not (coerce_numbers word) then none else
-    if is_forbidden word a b then none else
+    when not (coerce_numbers word) then none else
+    when is_forbidden word a b then none else
     some (number_joint a b)
 
 -- what gives string with a string: a timestamp, and "with allow_to_string" a bool or number
@@ -61,28 +61,28 @@ yields_to_string word t = is_timestamp t || (allow_to_string word && is_to_strin
 
 -- a string type meets another type: that string type stays, under one options word always the options' own
 unfoldable pub joint_with_string : ℕ → ℕ → ℕ → Option ℕ
-joint_with_string word string other = if yields_to_string word other then some string else none
+joint_with_string word string other = when yields_to_string word other then some string else none
 
 -- "timestamps of unequal zones give string", the options' own; all else has no joint
 unfoldable pub joint_of_timestamps : ℕ → ℕ → ℕ → Option ℕ
 joint_of_timestamps word a b =
-    if is_timestamp a && is_timestamp b then some (if eqb a b then a else string_type word) else
+    when is_timestamp a && is_timestamp b then some (when eqb a b then a else string_type word) else
     none
 
 -- unequal types meet, neither of them Null
 unfoldable pub joint_of_unequal : ℕ → ℕ → ℕ → Option ℕ
 joint_of_unequal word a b =
-    if is_number a && is_number b then joint_of_numbers word a b else
-    if is_string a then joint_with_string word a b else
-    if is_string b then joint_with_string word b a else
+    when is_number a && is_number b then joint_of_numbers word a b else
+    when is_string a then joint_with_string word a b else
+    when is_string b then joint_with_string word b a else
     joint_of_timestamps word a b
 
 -- the joint of two types, none where there is none (refusal 10): "Null with a type gives that type", "equal types stay"
 unfoldable pub joint : ℕ → ℕ → ℕ → Option ℕ
 joint word a b =
-    if eqb a null then some b else
-    if eqb b null then some a else
-    if eqb a b then some a else
+    when eqb a null then some b else
+    when eqb b null then some a else
+    when eqb a b then some a else
     joint_of_unequal word a b
 
 -- the code that an answer stands for

@@ -1,7 +1,7 @@
 -- The commands, as in document 01's "Commands and texts", and what refuses one (4, 5 and 6 of "Eighteen ways to be turned down").
 use Rattle.std.specs.Prelude.{ℕ, ◌+◌, ◌*◌, Bool, false, not, ◌&&◌, ◌||◌, List, [], ◌∷◌, eqb, leb, ltb, length, get_or}
 use Rattle.std.proofs.Math.Option.{Option, none, some}
-use Rattle.logic.specs.Test.{if◌then◌else◌}
+use Rattle.logic.specs.Test.{when◌then◌else◌}
 use Rattle.text.specs.declared.Name.{Name}
 use Rattle.text.specs.Name.{inside, bytes_of}
 use Rattle.text.specs.Utf8.{is_utf8}
@@ -136,9 +136,9 @@ unfoldable pub read_command : List ℕ → List ℕ → ℕ → Due → Read
 read_command commands text at due =
     let byte : ℕ = get_or commands at 0 in
     let form : Form = form_of byte in
-    if bad_command commands at due then R.Refused F.BadCommand at
-    else (if bad_name text (name_in form commands (at + 1)) then R.Refused F.BadName at
-    else (if bad_key due byte then R.Refused F.BadKey at
+    when bad_command commands at due then R.Refused F.BadCommand at
+    else (when bad_name text (name_in form commands (at + 1)) then R.Refused F.BadName at
+    else (when bad_key due byte then R.Refused F.BadKey at
     else R.Command (made form commands (at + 1)) (at + width form)))
 
 -- the refusal and the place of a reading that is refused; of a good one refusal 4 and the offset behind the command

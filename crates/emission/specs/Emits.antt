@@ -1,7 +1,7 @@
 -- What an answer of emission over the words is beside the model's: the same refusal, both buffers untouched, or the model's counts, records
 -- and names, where there is room for them.
 use Rattle.std.specs.Prelude.{◌≡◌, ◌||◌, List, ◌++◌, ℕ, ◌*◌, ltb, length, drop}
-use Rattle.logic.specs.Test.{if◌then◌else◌}
+use Rattle.logic.specs.Test.{when◌then◌else◌}
 use Rattle.refusal.specs.Number.{number_of}
 use Rattle.refusal.specs.declared.Refusal.{Refusal}
 use Rattle.refusal.specs.declared.Refusal.TheVariants as F
@@ -15,7 +15,7 @@ abbrev pub Finishes : List ℕ → List ℕ → ℕ → ℕ → ℕ → Result F
 Finishes fields names records bytes columns (refused m at) a =
     (x : Refusal) × (number_of x ≡ m) × (a ≡ answered (E.Refused x) fields names)
 Finishes fields names records bytes columns (accepted fs) a =
-    a ≡ (if ltb (length fields) (records * 8) || ltb (length names) bytes then answered (E.Refused F.ShortBuffer) fields names
+    a ≡ (when ltb (length fields) (records * 8) || ltb (length names) bytes then answered (E.Refused F.ShortBuffer) fields names
     else answered (E.Schema records bytes columns)
     (records_in fs ++ drop (length (records_in fs)) fields) (names_in fs ++ drop (length (names_in fs)) names))
 

@@ -1,6 +1,6 @@
 -- What the field of a place is: how many fields stand below it, whether a sample lacks it, whether it is a dictionary or a leaf.
 use Rattle.std.specs.Prelude.{Bool, true, false, not, ◌&&◌, ◌||◌, List, ℕ, zero, suc, eqb, ltb}
-use Rattle.logic.specs.Test.{if◌then◌else◌}
+use Rattle.logic.specs.Test.{when◌then◌else◌}
 use Rattle.options.specs.Word.{enums_without_data_as_strings}
 use Rattle.words.specs.Word.{word}
 use Rattle.model.specs.Kinds.{map_kind, union_kind, is_container, is_struct}
@@ -10,7 +10,7 @@ use Rattle.walk.specs.Walk.{dataless_at, sum_of}
 
 -- how many fields with a child: of a union the slots up to its own
 abbrev pub count_with : ℕ → List ℕ → ℕ → ℕ → ℕ
-count_with kind t child count = if eqb kind union_kind then sum_of (variant_at t child) 1 else sum_of count 1
+count_with kind t child count = when eqb kind union_kind then sum_of (variant_at t child) 1 else sum_of count 1
 
 -- the children from one on, at most so many
 unfoldable pub count_from : List ℕ → ℕ → ℕ → ℕ → ℕ → ℕ → ℕ
@@ -26,7 +26,7 @@ count_below t kind place = count_from t kind place child_limit 0 (next_child t f
 
 -- how many fields a place's field has: a map's is its entries
 unfoldable pub field_count : List ℕ → ℕ → ℕ → ℕ
-field_count t kind place = if eqb kind map_kind then 1 else count_below t kind place
+field_count t kind place = when eqb kind map_kind then 1 else count_below t kind place
 
 -- a struct field that some sample lacks
 abbrev pub lacking_at : List ℕ → ℕ → ℕ → ℕ → Bool

@@ -1,6 +1,6 @@
 -- How places come to the table: a new last child, the child at a step found or made, samples counted, and the children of a container.
 use Rattle.std.specs.Prelude.{◌≡◌, ℕ, zero, suc, ◌+◌, ◌%◌, ◌^◌, ◌<◌, not, ◌&&◌, List, [], ◌∷◌, ◌==◌, nat_le}
-use Rattle.logic.specs.Test.{if◌then◌else◌}
+use Rattle.logic.specs.Test.{when◌then◌else◌}
 use Rattle.logic.specs.Slices.{Slice, MutSlice, now_of, at_exit}
 use Rattle.refusal.specs.declared.Refusal.TheVariants as F
 use Rattle.text.specs.declared.Name.{Name}
@@ -28,7 +28,7 @@ onward count = (count + 1) % 2 ^ 32
 -- ---- a new last child: linked from the place where it is the first, else from the last before it
 unfoldable pub linked : ℕ → ℕ → List ℕ → List ℕ
 linked place child t =
-    if word t place first_word == 0 then with_word t place first_word child else with_word t (word t place last_word) next_word child
+    when word t place first_word == 0 then with_word t place first_word child else with_word t (word t place last_word) next_word child
 
 -- its words that tell where it stands
 unfoldable pub described : ℕ → ℕ → Name → ℕ → List ℕ → List ℕ
@@ -45,7 +45,7 @@ appended place code name child t = described place code name child (lengthened p
 
 -- the position that a new child gets among its siblings: one behind the last's
 unfoldable pub position_in : ℕ → List ℕ → ℕ
-position_in place t = if word t place first_word == 0 then 0 else onward (word t (word t place last_word) position_word)
+position_in place t = when word t place first_word == 0 then 0 else onward (word t (word t place last_word) position_word)
 
 -- what the search for fields goes by: the tag of its name, and how many siblings stand before it
 unfoldable pub tagged : List ℕ → Name → ℕ → ℕ → List ℕ → List ℕ
@@ -53,7 +53,7 @@ tagged text name position child t = with_word (with_word t child tag_word (tag_o
 
 -- a new numbered child, the table's place n, is stored at the link where the search for it ends
 unfoldable pub entered : ℕ → ℕ → ℕ → List ℕ → List ℕ
-entered place code n t = if is_numbered code then with_word t (seek place code n t).place (seek place code n t).field n else t
+entered place code n t = when is_numbered code then with_word t (seek place code n t).place (seek place code n t).field n else t
 
 -- ---- the child at a step, found or made: refusals 9 and 11
 pub data Ensuring : Type 0 where
@@ -61,12 +61,12 @@ pub data Ensuring : Type 0 where
 
 unfoldable pub confirmed : List ℕ → Name → ℕ → ℕ → List ℕ → Ensured
 confirmed text name child n t =
-    if eq_name (bytes_of text (unpacked_name (word t child name_word))) (bytes_of text name) then E.Child child n else E.Refused F.TwoNames
+    when eq_name (bytes_of text (unpacked_name (word t child name_word))) (bytes_of text name) then E.Child child n else E.Refused F.TwoNames
 
 unfoldable pub ensured_by : List ℕ → ℕ → ℕ → Name → ℕ → List ℕ → ℕ → Ensuring
 ensured_by text place code name n t child =
-    if not (child == 0) then ensuring (confirmed text name child n t) t
-    else if nat_le place_limit n then ensuring (E.Refused F.TooManyPlaces) t
+    when not (child == 0) then ensuring (confirmed text name child n t) t
+    else when nat_le place_limit n then ensuring (E.Refused F.TooManyPlaces) t
     else ensuring (E.Child n (n + 1)) (entered place code n (tagged text name (position_in place t) n (appended place code name n t)))
 
 unfoldable pub ensured : List ℕ → ℕ → Step → ℕ → List ℕ → Ensuring
@@ -76,7 +76,7 @@ ensured text place step n t = ensured_by text place (code_of step) (name_of step
 -- a child counted once among those that the place's present sample holds
 unfoldable pub touched : ℕ → ℕ → List ℕ → List ℕ
 touched place child t =
-    if word t child mark_word == word t place samples_word then t
+    when word t child mark_word == word t place samples_word then t
     else with_word (with_word t child held_word (onward (word t child held_word))) child mark_word (word t place samples_word)
 
 unfoldable pub sampled : ℕ → ℕ → List ℕ → List ℕ
@@ -109,22 +109,22 @@ positions_from i (suc n) = S.Position i ∷ positions_from (suc i) n
 unfoldable pub appended_from : ℕ → ℕ → ℕ → ℕ → List ℕ → Making
 appended_from place i zero n t = making (D.Places n) t
 appended_from place i (suc left) n t =
-    if nat_le place_limit n then making (D.Refused F.TooManyPlaces) t
+    when nat_le place_limit n then making (D.Refused F.TooManyPlaces) t
     else appended_from place (suc i) left (n + 1) (appended place (code_of (S.Position i)) no_name n t)
 
 -- all positions of a tuple: a block where they are the place's first children
 unfoldable pub positions_made : List ℕ → ℕ → ℕ → ℕ → List ℕ → Making
 positions_made text place positions n t =
-    if word t place first_word == 0
+    when word t place first_word == 0
     then then_made (appended_from place 0 positions n t) (λ m u. making (D.Places m) (with_word u place block_word positions))
     else made_all text place (positions_from 0 positions) n t
 
 -- a sequence makes its element, a map its key and value, a tuple all its positions where the place was unknown
 unfoldable pub made : List ℕ → ℕ → ℕ → ℕ → ℕ → ℕ → List ℕ → Making
 made text place kind positions before n t =
-    if kind == sequence_kind then made_all text place (S.Element ∷ []) n t
-    else if kind == map_kind then made_all text place (S.Key ∷ S.Value ∷ []) n t
-    else if kind == tuple_kind && before == null then positions_made text place positions n t
+    when kind == sequence_kind then made_all text place (S.Element ∷ []) n t
+    else when kind == map_kind then made_all text place (S.Key ∷ S.Value ∷ []) n t
+    else when kind == tuple_kind && before == null then positions_made text place positions n t
     else making (D.Places n) t
 
 -- ---- what is true of the table afterwards

@@ -1,7 +1,7 @@
 -- Kinds that meet at a place, with so many levels left: refusals 7, 8 and 10.
 use Rattle.std.specs.Prelude.{not, ◌&&◌, ◌||◌, ℕ, eqb}
 use Rattle.std.proofs.Math.Option.{Option, none, some}
-use Rattle.logic.specs.Test.{if◌then◌else◌}
+use Rattle.logic.specs.Test.{when◌then◌else◌}
 use Rattle.refusal.specs.declared.Refusal.TheVariants as F
 use Rattle.coerce.specs.Joint.{joint}
 use Rattle.model.specs.Kinds.{is_container}
@@ -17,9 +17,9 @@ of_joint (some kind) = M.Kind kind
 
 unfoldable pub meeting : ℕ → ℕ → ℕ → ℕ → Met
 meeting options levels kind other =
-    if is_container other && eqb levels 0 then M.Refused F.TooDeep
-    else if not (is_container kind || is_container other) then of_joint (joint options kind other)
-    else if eqb other null then M.Kind kind
-    else if eqb kind null then M.Kind other
-    else if same_container kind other then M.Kind kind
+    when is_container other && eqb levels 0 then M.Refused F.TooDeep
+    else when not (is_container kind || is_container other) then of_joint (joint options kind other)
+    else when eqb other null then M.Kind kind
+    else when eqb kind null then M.Kind other
+    else when same_container kind other then M.Kind kind
     else M.Refused F.Mismatch

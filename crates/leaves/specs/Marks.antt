@@ -1,6 +1,6 @@
 -- The commands 10 and 11 before a value, of which 10 marks the place nullable.
 use Rattle.std.specs.Prelude.{Bool, ◌||◌, List, ℕ, ◌+◌, eqb, ltb, length, get_or}
-use Rattle.logic.specs.Test.{if◌then◌else◌}
+use Rattle.logic.specs.Test.{when◌then◌else◌}
 use Rattle.logic.specs.Turns.{Turn, again, done, turns}
 use Rattle.words.specs.Word.{with_word}
 use Rattle.places.specs.Layout.{null_word}
@@ -19,12 +19,12 @@ abbrev pub is_mark : ℕ → Bool
 is_mark byte = eqb byte some_byte || eqb byte newtype_byte
 
 unfoldable pub marked : ℕ → ℕ → List ℕ → List ℕ
-marked byte place t = if eqb byte some_byte then with_word t place null_word 1 else t
+marked byte place t = when eqb byte some_byte then with_word t place null_word 1 else t
 
 unfoldable pub past_turn : List ℕ → ℕ → Chain → Turn Chain Chain
 past_turn commands place (chain at t) =
-    if ltb at (length commands)
-    then (if is_mark (get_or commands at 0) then again (chain (at + 1) (marked (get_or commands at 0) place t)) else done (chain at t))
+    when ltb at (length commands)
+    then (when is_mark (get_or commands at 0) then again (chain (at + 1) (marked (get_or commands at 0) place t)) else done (chain at t))
     else done (chain at t)
 
 unfoldable pub past_marks : List ℕ → ℕ → ℕ → List ℕ → Chain

@@ -1,6 +1,6 @@
 -- A primitive by the quick way: a null, which only marks its place, and a value of the type that is there, which changes nothing.
 use Rattle.std.specs.Prelude.{Bool, ◌&&◌, List, ℕ, eqb, ltb, length, get_or}
-use Rattle.logic.specs.Test.{if◌then◌else◌}
+use Rattle.logic.specs.Test.{when◌then◌else◌}
 use Rattle.words.specs.Word.{word, with_word}
 use Rattle.shapes.specs.declared.Leaf.{Leaf}
 use Rattle.shapes.specs.declared.Leaf.TheVariants as O
@@ -16,8 +16,8 @@ same_at commands at place t =
 -- the offset behind it and the table then; the offset is 0 where it is neither, and so for a value that is marked
 abbrev pub quick_leaf : ℕ → List ℕ → Leaf → Chain
 quick_leaf place t (O.Value is_null kind behind) =
-    if is_null then chain behind (with_word t place null_word 1)
-    else if eqb (word t place kind_word) kind then chain behind t
+    when is_null then chain behind (with_word t place null_word 1)
+    else when eqb (word t place kind_word) kind then chain behind t
     else chain 0 t
 quick_leaf place t O.Other = chain 0 t
 

@@ -1,6 +1,6 @@
 -- The answer of the whole call, for whatever is handed in: refusal, place, counts, both buffers with their tails, and the work table.
 use Rattle.std.specs.Prelude.{Bool, true, false, ◌||◌, List, ◌++◌, ◌≡◌, ℕ, ◌*◌, ◌≤◌, ltb, length, drop, replicate}
-use Rattle.logic.specs.Test.{if◌then◌else◌}
+use Rattle.logic.specs.Test.{when◌then◌else◌}
 use Rattle.options.specs.Word.{unknown_bit}
 use Rattle.refusal.specs.Number.{unknown_option, short_table, long_input, short_buffer}
 use Rattle.model.specs.Result.{Result, accepted, refused, ◌>>=◌}
@@ -93,12 +93,12 @@ is_short schema lent = ltb (length lent.fields) (record_bytes * count_in schema)
 unfoldable pub answer_of : Batch → Buffers → Result Fields → Answer
 answer_of b lent (refused refusal place) = turned_down refusal place (zeroed lent)
 answer_of b lent (accepted schema) =
-    if is_short schema lent then turned_down short_buffer (length b.commands) (zeroed lent)
+    when is_short schema lent then turned_down short_buffer (length b.commands) (zeroed lent)
     else with_schema schema lent
 
 unfoldable pub answer : Batch → Buffers → Answer
 answer b lent =
-    if unknown_bit b.options then turned_down unknown_option 0 lent
-    else if ltb (length lent.table) table_words then turned_down short_table 0 lent
-    else if ltb input_limit (length b.commands) || ltb input_limit (length b.text) then turned_down long_input 0 lent
+    when unknown_bit b.options then turned_down unknown_option 0 lent
+    else when ltb (length lent.table) table_words then turned_down short_table 0 lent
+    else when ltb input_limit (length b.commands) || ltb input_limit (length b.text) then turned_down long_input 0 lent
     else answer_of b lent (schema_of b)

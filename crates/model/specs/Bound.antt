@@ -2,7 +2,7 @@
 -- read off its census; and which command needs each of them, where nothing bounds their number.
 use Rattle.std.specs.Prelude.{◌≡◌, false, ◌⊎◌, List, [], ◌∷◌, ◌++◌, ℕ, suc, ◌+◌, ◌≤◌, length}
 use Rattle.std.proofs.Math.Option.{some}
-use Rattle.logic.specs.Test.{if◌then◌else◌}
+use Rattle.logic.specs.Test.{when◌then◌else◌}
 use Rattle.model.specs.Result.{Result, accepted, refused}
 use Rattle.model.specs.Kinds.{Step, field, element, position, key, value, variant}
 use Rattle.model.specs.Reading.{Value, val, cut, Parts, no_parts, cut_off, part}
@@ -38,7 +38,7 @@ pub record AtMost (n options : ℕ) (records : List Value) : Type 0 where
 -- ---- which commands need them: the offset of each, once for every place that it makes, in their order, up to a refusal by another cause
 -- a place that is not there yet
 abbrev pub need : ℕ → Step → Kids → List ℕ
-need at s kids = if has s (steps_of kids) then [] else at ∷ []
+need at s kids = when has s (steps_of kids) then [] else at ∷ []
 
 -- those that a container makes at its own command
 unfoldable pub needed : ℕ → List Step → Kids → List ℕ
@@ -62,7 +62,7 @@ unfoldable mutual
   needs_in options depth no_parts kids = []
   needs_in options depth (cut_off refusal place) kids = []
   needs_in options depth (part at s v ps) kids =
-      if clashes s (steps_of kids) then []
+      when clashes s (steps_of kids) then []
       else need at s kids ++ (needs options (depth + dots_of s) v (kid_at s kids)
       ++ unless_refused (see options (depth + dots_of s) v (kid_at s kids)) λ tree. needs_in options depth ps (put s tree kids))
 

@@ -1,7 +1,7 @@
 -- The census (document 01, "Census"): what is said of each place, counted off the values that stand there. Nothing is merged.
 use Rattle.std.specs.Prelude.{Bool, false, ◌&&◌, ◌||◌, List, [], ◌∷◌, ◌++◌, ◌≡◌, ℕ, ◌+◌, eqb, ltb}
 use Rattle.std.proofs.Math.Option.{Option, none, some}
-use Rattle.logic.specs.Test.{if◌then◌else◌}
+use Rattle.logic.specs.Test.{when◌then◌else◌}
 use Rattle.datatype.specs.Codes.{null}
 use Rattle.text.specs.Name.{lt_name}
 use Rattle.coerce.specs.Census.{type_seen, non_null}
@@ -26,7 +26,7 @@ null_in (cut refusal place) = false
 unfoldable pub parts_at : Step → Parts → List Value
 parts_at s no_parts = []
 parts_at s (cut_off refusal place) = []
-parts_at s (part at r v ps) = if same s r then v ∷ parts_at s ps else parts_at s ps
+parts_at s (part at r v ps) = when same s r then v ∷ parts_at s ps else parts_at s ps
 
 -- one step down
 unfoldable pub below : Step → List Value → List Value
@@ -60,15 +60,15 @@ kinds_seen (v ∷ vs) = kind_in v ∷ kinds_seen vs
 -- the first sight of a container, Null where there is none
 unfoldable pub container_seen : List ℕ → ℕ
 container_seen [] = null
-container_seen (kind ∷ kinds) = if is_container kind then kind else container_seen kinds
+container_seen (kind ∷ kinds) = when is_container kind then kind else container_seen kinds
 
 unfoldable pub kind_seen : ℕ → List ℕ → ℕ
-kind_seen options kinds = if is_container (container_seen kinds) then container_seen kinds else type_seen options (non_null kinds)
+kind_seen options kinds = when is_container (container_seen kinds) then container_seen kinds else type_seen options (non_null kinds)
 
 -- ---- children
 -- a sequence's element, and a map's key and value, are places even if unseen
 unfoldable pub fixed_steps : ℕ → List Step
-fixed_steps kind = if eqb kind sequence_kind then element ∷ [] else if eqb kind map_kind then key ∷ value ∷ [] else []
+fixed_steps kind = when eqb kind sequence_kind then element ∷ [] else when eqb kind map_kind then key ∷ value ∷ [] else []
 
 unfoldable pub steps_in : Parts → List Step
 steps_in no_parts = []
@@ -77,7 +77,7 @@ steps_in (part at s v ps) = s ∷ steps_in ps
 
 -- steps in order of first sight
 unfoldable pub sight : Step → List Step → List Step
-sight s seen = if has s seen then seen else seen ++ (s ∷ [])
+sight s seen = when has s seen then seen else seen ++ (s ∷ [])
 
 unfoldable pub sights : List Step → List Step → List Step
 sights [] seen = seen
@@ -90,7 +90,7 @@ steps_seen (v ∷ vs) seen = steps_seen vs (sights (steps_in (parts_of v)) (sigh
 -- a set of steps, written in one order
 unfoldable pub insert_step : Step → List Step → List Step
 insert_step s [] = s ∷ []
-insert_step s (r ∷ rs) = if lt_name (step_code r) (step_code s) then r ∷ insert_step s rs else s ∷ r ∷ rs
+insert_step s (r ∷ rs) = when lt_name (step_code r) (step_code s) then r ∷ insert_step s rs else s ∷ r ∷ rs
 
 unfoldable pub as_set : List Step → List Step
 as_set [] = []
@@ -98,7 +98,7 @@ as_set (s ∷ ss) = insert_step s (as_set ss)
 
 -- struct names in order of first sight; map-mode names as a set; positions up to the longest tuple; variant numbers with names
 abbrev pub children_of : ℕ → List Step → List Step
-children_of kind seen = if eqb kind struct_kind then seen else as_set seen
+children_of kind seen = when eqb kind struct_kind then seen else as_set seen
 
 -- ---- what is said of a place
 pub record Said : Type 0 where
@@ -118,7 +118,7 @@ census options [] lacking vs =
       kind = kind_seen options (kinds_seen vs);
       children = children_of (kind_seen options (kinds_seen vs)) (steps_seen vs []);
     })
-census options (s ∷ steps) lacking vs = if has s (steps_seen vs []) then census options steps (is_lacking options s vs) (below s vs) else none
+census options (s ∷ steps) lacking vs = when has s (steps_seen vs []) then census options steps (is_lacking options s vs) (below s vs) else none
 
 -- censuses are equal when they have the same places and say the same of each
 unfoldable pub SameCensus : ℕ → List Value → List Value → Type 0

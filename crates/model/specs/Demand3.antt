@@ -1,7 +1,7 @@
 -- The words of demand 3: accepted, equal schemas, struct records, a place shown both as struct and as map, records in another order.
 use Rattle.std.specs.Prelude.{Bool, true, false, not, ◌&&◌, ◌||◌, ◌≡◌, ℕ, ◌*◌, ◌≤◌, eqb, length, take}
 use mathlib.Core.List.{List, [], ◌∷◌, flatten}
-use Rattle.logic.specs.Test.{if◌then◌else◌}
+use Rattle.logic.specs.Test.{when◌then◌else◌}
 use Rattle.logic.specs.All.{All}
 use Rattle.datatype.specs.Codes.{struct, map, no_strategy}
 use Rattle.options.specs.Word.{allow_to_string, enums_without_data_as_strings}
@@ -90,7 +90,7 @@ unfoldable mutual
   pub in_name_order_of : ℕ → Field → Field
   in_name_order_of above (mk type nullable strategy number name fs) =
       mk type nullable strategy number name
-      (if is_listed above type strategy then by_name (in_name_order_below type fs) else in_name_order_below type fs)
+      (when is_listed above type strategy then by_name (in_name_order_below type fs) else in_name_order_below type fs)
 
   pub in_name_order_below : ℕ → Fields → Fields
   in_name_order_below above no_fields = no_fields

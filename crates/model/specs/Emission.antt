@@ -2,7 +2,7 @@
 -- Tracer::to_schema).
 use Rattle.std.specs.Prelude.{Bool, true, false, not, ◌&&◌, ◌||◌, List, [], ◌∷◌, ◌++◌, ℕ, zero, suc, ◌+◌, ◌-◌, ◌/◌, ◌%◌, eqb, leb, ltb, length}
 use Rattle.std.proofs.Math.Option.{Option, none, some}
-use Rattle.logic.specs.Test.{if◌then◌else◌}
+use Rattle.logic.specs.Test.{when◌then◌else◌}
 use Rattle.datatype.specs.Codes.{null, utf8, large_utf8, struct, no_strategy, tuple_as_struct, map_as_struct, unknown_variant}
 use Rattle.options.specs.Word.{allow_null_fields, string_dictionary_encoding, enums_without_data_as_strings, list_type, dictionary_type}
 use Rattle.refusal.specs.Number.{null_field, dataless_union, too_many_slots, nullable_root, null_root, root_not_struct}
@@ -25,7 +25,7 @@ mutual
 -- by number
 unfoldable pub insert_variant : Step → Place → Places → Places
 insert_variant s p none_below = below s p none_below
-insert_variant s p (below r q ps) = if ltb (variant_of s) (variant_of r) then below s p (below r q ps) else below r q (insert_variant s p ps)
+insert_variant s p (below r q ps) = when ltb (variant_of s) (variant_of r) then below s p (below r q ps) else below r q (insert_variant s p ps)
 
 unfoldable pub by_number : Places → Places
 by_number none_below = none_below
@@ -39,7 +39,7 @@ unfoldable mutual
   pub place_of : Bool → Tree → Place
   place_of missing (node null kind samples kids) =
       shown (missing || null) kind
-      (if eqb kind union_kind then by_number (places_of kind samples kids) else places_of kind samples kids)
+      (when eqb kind union_kind then by_number (places_of kind samples kids) else places_of kind samples kids)
 
   pub places_of : ℕ → ℕ → Kids → Places
   places_of kind samples no_kids = none_below
@@ -68,15 +68,15 @@ first_of (some refusal) other = some refusal
 unfoldable mutual
   pub walk : ℕ → Place → Option ℕ
   walk options (shown admits kind ps) =
-      if eqb kind null then (if allow_null_fields options then none else some null_field)
-      else if eqb kind union_kind && dataless ps && enums_without_data_as_strings options then none
-      else if eqb kind union_kind && dataless ps && not (allow_null_fields options) then some dataless_union
+      when eqb kind null then (when allow_null_fields options then none else some null_field)
+      else when eqb kind union_kind && dataless ps && enums_without_data_as_strings options then none
+      else when eqb kind union_kind && dataless ps && not (allow_null_fields options) then some dataless_union
       else walks options kind ps
 
   pub walks : ℕ → ℕ → Places → Option ℕ
   walks options kind none_below = none
   walks options kind (below s p ps) =
-      if eqb kind union_kind && leb slot_limit (variant_of s) then some too_many_slots
+      when eqb kind union_kind && leb slot_limit (variant_of s) then some too_many_slots
       else first_of (walk options p) (walks options kind ps)
 
 -- ---- a field of the schema, with all below it: type, nullable, strategy, variant number, name, children
@@ -95,13 +95,13 @@ emits_struct kind = is_struct kind || eqb kind tuple_kind
 -- a string under option 5 is a dictionary
 unfoldable pub type_of : ℕ → ℕ → ℕ
 type_of options kind =
-    if eqb kind sequence_kind then list_type options
-    else if emits_struct kind then struct
-    else if (eqb kind utf8 || eqb kind large_utf8) && string_dictionary_encoding options then dictionary_type options
+    when eqb kind sequence_kind then list_type options
+    else when emits_struct kind then struct
+    else when (eqb kind utf8 || eqb kind large_utf8) && string_dictionary_encoding options then dictionary_type options
     else kind
 
 unfoldable pub strategy_of : ℕ → ℕ
-strategy_of kind = if eqb kind tuple_kind then tuple_as_struct else if eqb kind map_mode_kind then map_as_struct else no_strategy
+strategy_of kind = when eqb kind tuple_kind then tuple_as_struct else when eqb kind map_mode_kind then map_as_struct else no_strategy
 
 -- the fixed names, as byte strings
 abbrev pub element_name : List ℕ
@@ -130,7 +130,7 @@ name_in (mk type nullable strategy number name fs) = name
 -- sorted by name bytes
 unfoldable pub insert_field : Field → Fields → Fields
 insert_field f no_fields = more f no_fields
-insert_field f (more g fs) = if lt_name (name_in g) (name_in f) then more g (insert_field f fs) else more f (more g fs)
+insert_field f (more g fs) = when lt_name (name_in g) (name_in f) then more g (insert_field f fs) else more f (more g fs)
 
 unfoldable pub by_name : Fields → Fields
 by_name no_fields = no_fields
@@ -147,15 +147,15 @@ gaps slot (suc n) fs = more (gap slot) (gaps (slot + 1) n fs)
 -- a map's key and value stand in its entries; map-mode fields are sorted
 unfoldable pub arranged : ℕ → Fields → Fields
 arranged kind fs =
-    if eqb kind map_kind then more (mk struct false no_strategy 0 entries_name fs) no_fields
-    else if eqb kind map_mode_kind then by_name fs
+    when eqb kind map_kind then more (mk struct false no_strategy 0 entries_name fs) no_fields
+    else when eqb kind map_mode_kind then by_name fs
     else fs
 
 -- the field of a place with that name and variant number
 unfoldable mutual
   pub field_of : ℕ → List ℕ → ℕ → Place → Field
   field_of options name number (shown admits kind ps) =
-      if eqb kind union_kind && dataless ps && enums_without_data_as_strings options
+      when eqb kind union_kind && dataless ps && enums_without_data_as_strings options
       then mk (dictionary_type options) admits no_strategy number name no_fields
       else mk (type_of options kind) admits (strategy_of kind) number name (arranged kind (fields_of options kind 0 ps))
 
@@ -163,15 +163,15 @@ unfoldable mutual
   pub fields_of : ℕ → ℕ → ℕ → Places → Fields
   fields_of options kind slot none_below = no_fields
   fields_of options kind slot (below s p ps) =
-      gaps slot (if eqb kind union_kind then variant_of s - slot else 0)
+      gaps slot (when eqb kind union_kind then variant_of s - slot else 0)
       (more (field_of options (name_of s) (variant_of s) p) (fields_of options kind (variant_of s + 1) ps))
 
 -- ---- refusals 15 to 17, of the root's emitted field
 abbrev pub root_fields : ℕ → Field → Result Fields
 root_fields end (mk type nullable strategy number name fs) =
-    if nullable then refused nullable_root end
-    else if eqb type null then refused null_root end
-    else if eqb type struct then accepted fs
+    when nullable then refused nullable_root end
+    else when eqb type null then refused null_root end
+    else when eqb type struct then accepted fs
     else refused root_not_struct end
 
 -- the root's name: the walk never emits it

@@ -2,7 +2,7 @@
 -- with the refusal (4, 5 or 6) and its place stands in the value, and nothing follows it.
 use Rattle.std.specs.Prelude.{Bool, true, false, ◌&&◌, List, [], ◌∷◌, ℕ, zero, suc, ◌+◌, ◌*◌, ◌%◌, eqb, ltb, length, get_or}
 use Rattle.std.proofs.Math.Option.{Option, none, some}
-use Rattle.logic.specs.Test.{if◌then◌else◌}
+use Rattle.logic.specs.Test.{when◌then◌else◌}
 use Rattle.datatype.specs.Codes.{null, boolean, int8, int16, int32, int64, uint8, uint16, uint32, uint64, float32, float64}
 use Rattle.options.specs.Word.{map_as_struct, binary_type}
 use Rattle.refusal.specs.Number.{bad_command, number_of}
@@ -63,7 +63,7 @@ shape_of options text C.Some = follows true
 shape_of options text C.NewtypeStruct = follows false
 shape_of options text C.Sequence = parts sequence_kind 0
 shape_of options text (C.Tuple n) = parts tuple_kind n
-shape_of options text C.Map = parts (if map_as_struct options then map_mode_kind else map_kind) 0
+shape_of options text C.Map = parts (when map_as_struct options then map_mode_kind else map_kind) 0
 shape_of options text C.Struct = parts struct_kind 0
 shape_of options text (C.Field name) = no_value
 shape_of options text C.End = no_value
@@ -80,24 +80,24 @@ pub data Next : Type 0 where
 
 -- a value, with the step to it, or the end
 abbrev pub value_next : List ℕ → Step → ℕ → Read → Next
-value_next commands step at (R.Command command behind) = if eqb (get_or commands at 0) end_byte then ended behind else next step at
+value_next commands step at (R.Command command behind) = when eqb (get_or commands at 0) end_byte then ended behind else next step at
 value_next commands step at (R.Refused refusal place) = bad (number_of refusal) place
 
 -- a field (16) or a key (0D), whose operands are its name, or the end
 abbrev pub field_next : List ℕ → List ℕ → ℕ → Read → Next
 field_next commands text at (R.Command command behind) =
-    if eqb (get_or commands at 0) end_byte then ended behind else next (field (bytes_of text (name_at commands (at + 1)))) behind
+    when eqb (get_or commands at 0) end_byte then ended behind else next (field (bytes_of text (name_at commands (at + 1)))) behind
 field_next commands text at (R.Refused refusal place) = bad (number_of refusal) place
 
 -- before part i of a container of that kind, with so many positions
 unfoldable pub next_part : List ℕ → List ℕ → ℕ → ℕ → ℕ → ℕ → Next
 next_part commands text kind positions i at =
-    if eqb kind sequence_kind then value_next commands element at (read_command commands text at D.ValueOrEnd)
-    else if eqb kind struct_kind then field_next commands text at (read_command commands text at D.FieldOrEnd)
-    else if eqb kind map_mode_kind then field_next commands text at (read_command commands text at D.KeyOrEnd)
-    else if eqb kind map_kind && eqb (i % 2) 0 then value_next commands key at (read_command commands text at D.ValueOrEnd)
-    else if eqb kind map_kind then value_next commands value at (read_command commands text at D.Value)
-    else if ltb i positions then value_next commands (position i) at (read_command commands text at D.Value)
+    when eqb kind sequence_kind then value_next commands element at (read_command commands text at D.ValueOrEnd)
+    else when eqb kind struct_kind then field_next commands text at (read_command commands text at D.FieldOrEnd)
+    else when eqb kind map_mode_kind then field_next commands text at (read_command commands text at D.KeyOrEnd)
+    else when eqb kind map_kind && eqb (i % 2) 0 then value_next commands key at (read_command commands text at D.ValueOrEnd)
+    else when eqb kind map_kind then value_next commands value at (read_command commands text at D.Value)
+    else when ltb i positions then value_next commands (position i) at (read_command commands text at D.Value)
     else ended at
 
 -- ---- what was read, and the offset behind it: none where the reading was cut
@@ -106,7 +106,7 @@ Got A = A × Option ℕ
 
 -- a `some` before a value
 abbrev pub marked : Bool → Value → Value
-marked mark (val at null kind n ps) = val at (if mark then true else null) kind n ps
+marked mark (val at null kind n ps) = val at (when mark then true else null) kind n ps
 marked mark (cut refusal place) = cut refusal place
 
 abbrev pub cut_at : ℕ → ℕ → Got Value

@@ -1,7 +1,7 @@
 -- The tree of places that the values of a batch leave, or the refusal, 4 to 11, that they meet (document 01, "Places"):
 -- Tracer::from_samples with the bound on places.
 use Rattle.std.specs.Prelude.{Bool, true, false, not, ◌&&◌, ◌||◌, List, [], ◌∷◌, ℕ, zero, suc, ◌+◌, eqb, leb, ltb}
-use Rattle.logic.specs.Test.{if◌then◌else◌}
+use Rattle.logic.specs.Test.{when◌then◌else◌}
 use Rattle.datatype.specs.Codes.{null}
 use Rattle.refusal.specs.Number.{too_deep, mismatch, two_names, no_joint, too_many_places}
 use Rattle.text.specs.Name.{dots}
@@ -61,11 +61,11 @@ same_container kind other = eqb kind other || (is_struct kind && is_struct other
 -- kind and mode, two primitive types have their joint
 unfoldable pub meet : ℕ → ℕ → ℕ → ℕ → ℕ → Result ℕ
 meet options depth at kind other =
-    if is_container other && leb depth_limit depth then refused too_deep at
-    else if not (is_container kind || is_container other) then or_refused no_joint at (joint options kind other)
-    else if eqb other null then accepted kind
-    else if eqb kind null then accepted other
-    else if same_container kind other then accepted kind
+    when is_container other && leb depth_limit depth then refused too_deep at
+    else when not (is_container kind || is_container other) then or_refused no_joint at (joint options kind other)
+    else when eqb other null then accepted kind
+    else when eqb kind null then accepted other
+    else when same_container kind other then accepted kind
     else refused mismatch at
 
 -- ---- the places below a place
@@ -80,12 +80,12 @@ has s (r ∷ rs) = same s r || has s rs
 -- the place at a step, unseen where there is none
 unfoldable pub kid_at : Step → Kids → Tree
 kid_at s no_kids = fresh
-kid_at s (kid r held tree kids) = if same s r then tree else kid_at s kids
+kid_at s (kid r held tree kids) = when same s r then tree else kid_at s kids
 
 -- a new place comes last
 unfoldable pub put : Step → Tree → Kids → Kids
 put s tree no_kids = kid s 0 tree no_kids
-put s tree (kid r held other kids) = if same s r then kid r held tree kids else kid r held other (put s tree kids)
+put s tree (kid r held other kids) = when same s r then kid r held tree kids else kid r held other (put s tree kids)
 
 -- another name for the number of a variant that is there (refusal 9)
 abbrev pub renames : Step → Step → Bool
@@ -98,9 +98,9 @@ clashes s (r ∷ rs) = renames s r || clashes s rs
 -- the count of places with this one, which may be there already: refusals 9 and 11
 unfoldable pub room : ℕ → Step → ℕ → Kids → Result ℕ
 room at s places kids =
-    if clashes s (steps_of kids) then refused two_names at
-    else if has s (steps_of kids) then accepted places
-    else if ltb places place_limit then accepted (places + 1)
+    when clashes s (steps_of kids) then refused two_names at
+    else when has s (steps_of kids) then accepted places
+    else when ltb places place_limit then accepted (places + 1)
     else refused too_many_places at
 
 -- ---- the places that a container makes at its own command: a sequence one, a map two, a tuple all its positions where it is the first
@@ -110,9 +110,9 @@ positions_from i (suc n) = position i ∷ positions_from (suc i) n
 
 unfoldable pub made : ℕ → ℕ → ℕ → List Step
 made kind positions before =
-    if eqb kind sequence_kind then element ∷ []
-    else if eqb kind map_kind then key ∷ value ∷ []
-    else if eqb kind tuple_kind && eqb before null then positions_from 0 positions
+    when eqb kind sequence_kind then element ∷ []
+    else when eqb kind map_kind then key ∷ value ∷ []
+    else when eqb kind tuple_kind && eqb before null then positions_from 0 positions
     else []
 
 -- the count of places so far, and what they are

@@ -1,7 +1,7 @@
 -- Tracing without the bound on places, as Tracer::from_samples has none: the same tests but refusal 11, and no count is kept. Demand 2
 -- speaks of it; that it gives what tracing with the bound gives, but for 11, is proved in `equality`.
 use Rattle.std.specs.Prelude.{Bool, true, ◌||◌, List, [], ◌∷◌, ℕ, ◌+◌}
-use Rattle.logic.specs.Test.{if◌then◌else◌}
+use Rattle.logic.specs.Test.{when◌then◌else◌}
 use Rattle.refusal.specs.Number.{two_names}
 use Rattle.model.specs.Result.{Result, accepted, refused, ◌>>=◌}
 use Rattle.model.specs.Kinds.{is_container, Step}
@@ -14,7 +14,7 @@ make_all (s ∷ ss) kids = make_all ss (put s (kid_at s kids) kids)
 
 -- refusal 9
 unfoldable pub allowed : ℕ → Step → Kids → Result Bool
-allowed at s kids = if clashes s (steps_of kids) then refused two_names at else accepted true
+allowed at s kids = when clashes s (steps_of kids) then refused two_names at else accepted true
 
 unfoldable mutual
   pub see : ℕ → ℕ → Value → Tree → Result Tree

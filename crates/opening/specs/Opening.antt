@@ -1,6 +1,6 @@
 -- What is opened before anything below it is read: containers, variants, fields.
 use Rattle.std.specs.Prelude.{◌≡◌, List, ℕ, ◌≤◌}
-use Rattle.logic.specs.Test.{if◌then◌else◌}
+use Rattle.logic.specs.Test.{when◌then◌else◌}
 use Rattle.logic.specs.Slices.{Slice, MutSlice, now_of, at_exit}
 use Rattle.refusal.specs.declared.Refusal.TheVariants as F
 use Rattle.text.specs.declared.Name.{Name}
@@ -65,7 +65,7 @@ of_held (ensuring (E.Refused refusal) t) = opening (O.Refused refusal) t
 -- a name that is not UTF-8 is refused (5)
 unfoldable pub field_held : List ℕ → ℕ → Name → ℕ → List ℕ → Opening
 field_held text place name n t =
-    if is_utf8 (bytes_of text name) then of_held (held text place (S.Field name) n t) else opening (O.Refused F.BadName) t
+    when is_utf8 (bytes_of text name) then of_held (held text place (S.Field name) n t) else opening (O.Refused F.BadName) t
 
 -- by what stands there
 abbrev pub field_opened : List ℕ → ℕ → ℕ → List ℕ → Field → Opening

@@ -1,6 +1,6 @@
 -- The options word, as in document 01's "Options word" and document 02's 4/14.
 use Rattle.std.specs.Prelude.{ℕ, ◌/◌, ◌%◌, ◌^◌, Bool, leb, eqb}
-use Rattle.logic.specs.Test.{if◌then◌else◌}
+use Rattle.logic.specs.Test.{when◌then◌else◌}
 use Rattle.datatype.specs.Codes.{utf8, large_utf8, binary, large_binary, list, large_list, dictionary_utf8, dictionary_large_utf8}
 
 -- whether bit k of the word is set
@@ -60,13 +60,13 @@ abbrev pub edition2 : ℕ → Bool
 edition2 = bit 10
 
 abbrev pub string_type : ℕ → ℕ
-string_type word = if string_as_large_utf8 word then large_utf8 else utf8
+string_type word = when string_as_large_utf8 word then large_utf8 else utf8
 
 abbrev pub binary_type : ℕ → ℕ
-binary_type word = if bytes_as_large_binary word then large_binary else binary
+binary_type word = when bytes_as_large_binary word then large_binary else binary
 
 abbrev pub list_type : ℕ → ℕ
-list_type word = if sequence_as_large_list word then large_list else list
+list_type word = when sequence_as_large_list word then large_list else list
 
 abbrev pub dictionary_type : ℕ → ℕ
-dictionary_type word = if string_as_large_utf8 word then dictionary_large_utf8 else dictionary_utf8
+dictionary_type word = when string_as_large_utf8 word then dictionary_large_utf8 else dictionary_utf8

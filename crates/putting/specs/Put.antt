@@ -1,6 +1,6 @@
 -- Field records and names in the output buffers, each written where there is room.
 use Rattle.std.specs.Prelude.{◌≡◌, Bool, true, false, List, [], ◌∷◌, ◌-◌, ℕ, zero, suc, ◌+◌, ◌/◌, ◌%◌, ◌≤◌, eqb, ltb, length}
-use Rattle.logic.specs.Test.{if◌then◌else◌}
+use Rattle.logic.specs.Test.{when◌then◌else◌}
 use Rattle.logic.specs.Slices.{MutSlice, at_entry, at_exit}
 use Rattle.logic.specs.Buffer.{written}
 use Rattle.datatype.specs.Codes.{null, struct, no_strategy, unknown_variant}
@@ -16,7 +16,7 @@ pub data Put : Type 0 where
 
 unfoldable pub put_bytes : List ℕ → List ℕ → ℕ → Put
 put_bytes bytes buffer at =
-    if ltb (length buffer - at) (length bytes) then put at buffer
+    when ltb (length buffer - at) (length bytes) then put at buffer
     else put (at + length bytes) (written buffer at bytes)
 
 -- these bytes are put into a buffer, and the end behind them answered
@@ -56,7 +56,7 @@ gaps_in slot count (writing i j fields names) = as_writing (put_gaps slot 0 coun
 -- a map's entries
 unfoldable pub entries_in : ℕ → Writing → Writing
 entries_in kind w =
-    if eqb kind map_kind then both (record_of struct false no_strategy 0 (length entries_name) 2) entries_name w
+    when eqb kind map_kind then both (record_of struct false no_strategy 0 (length entries_name) 2) entries_name w
     else w
 
 -- the ends stand inside the buffers

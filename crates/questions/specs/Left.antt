@@ -1,6 +1,6 @@
 -- What a call must leave, where all that it was lent held a pattern.
 use Rattle.std.specs.Prelude.{◌≡◌, Bool, ◌&&◌, List, ◌++◌, ℕ, ◌-◌, leb, length, drop, replicate}
-use Rattle.logic.specs.Test.{if◌then◌else◌}
+use Rattle.logic.specs.Test.{when◌then◌else◌}
 use Rattle.words.specs.Word.{table_words, zeros}
 use Rattle.questions.specs.Question.{number_at}
 
@@ -29,7 +29,7 @@ early refusal = leb 1 refusal && leb refusal 3
 -- a table of so many words: its first 16,384 zero and the others as they were, or all as they were
 unfoldable pub left_table : ℕ → ℕ → List ℕ
 left_table refusal n =
-    if early refusal then replicate n lent_word
+    when early refusal then replicate n lent_word
     else zeros ++ replicate (n - table_words) lent_word
 
 -- refusal, place, field records, name bytes and columns are those of the question

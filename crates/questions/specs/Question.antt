@@ -1,6 +1,6 @@
 -- How a stored question is laid out (vectors/README.md): the header, the commands, the text, and the answer's field records and names.
 use Rattle.std.specs.Prelude.{List, ℕ, ◌+◌, ◌-◌, ◌*◌, min, ltb, length, drop}
-use Rattle.logic.specs.Test.{if◌then◌else◌}
+use Rattle.logic.specs.Test.{when◌then◌else◌}
 use Rattle.files.specs.Bytes.{three_bytes, between}
 
 -- the options word and ten numbers of three bytes
@@ -42,5 +42,5 @@ question_size question = names_from question + number_at question 8
 -- where the question at an offset of the file ends: with the file, if that is cut off
 unfoldable pub question_end : List ℕ → ℕ → ℕ
 question_end vectors at =
-    if ltb (length vectors - at) header_bytes then length vectors
+    when ltb (length vectors - at) header_bytes then length vectors
     else min (length vectors) (at + question_size (drop at vectors))

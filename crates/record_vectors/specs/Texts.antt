@@ -1,6 +1,6 @@
 -- When a stored text and chrono agree.
 use Rattle.std.specs.Prelude.{Bool, ◌&&◌, List, ℕ, ◌+◌, eqb, leb, length, get_or, drop}
-use Rattle.logic.specs.Test.{if◌then◌else◌}
+use Rattle.logic.specs.Test.{when◌then◌else◌}
 use Rattle.chrono.specs.Grammar.{fits}
 use Rattle.chrono.specs.Date.{naive_datetime, utc_datetime, naive_time, naive_date}
 use Rattle.chrono.specs.Text.{text_type}
@@ -14,7 +14,7 @@ guessing_large = 264
 
 -- a matcher's answer as a bit
 unfoldable pub bit_of : Bool → ℕ → ℕ
-bit_of matches weight = if matches then weight else 0
+bit_of matches weight = when matches then weight else 0
 
 -- the four answers
 unfoldable pub matchers_of : List ℕ → ℕ

@@ -1,6 +1,6 @@
 -- The model's tree as the words of the table say it, and the outcome of a flat run.
 use Rattle.std.specs.Prelude.{true, false, List, ◌-◌, ℕ, zero, suc, ◌*◌, ◌/◌, ◌%◌, eqb}
-use Rattle.logic.specs.Test.{if◌then◌else◌}
+use Rattle.logic.specs.Test.{when◌then◌else◌}
 use Rattle.refusal.specs.Number.{number_of}
 use Rattle.text.specs.Name.{bytes_of}
 use Rattle.words.specs.Word.{word}
@@ -15,11 +15,11 @@ use Rattle.leaves.specs.Leaves.{Out, out}
 -- a step by its word and its name: 0 element, 1 key, 2 value, 3 field, then positions and variants by turns
 unfoldable pub step_by : ℕ → List ℕ → Step
 step_by code name =
-    if eqb code 0 then element
-    else if eqb code 1 then key
-    else if eqb code 2 then value
-    else if eqb code field_code then field name
-    else if eqb (code % 2) 0 then position ((code - 4) / 2)
+    when eqb code 0 then element
+    else when eqb code 1 then key
+    else when eqb code 2 then value
+    else when eqb code field_code then field name
+    else when eqb (code % 2) 0 then position ((code - 4) / 2)
     else variant ((code - 5) / 2) name
 
 abbrev pub step_at : List ℕ → List ℕ → ℕ → Step

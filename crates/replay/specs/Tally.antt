@@ -1,6 +1,6 @@
 -- What a program that replays a file counts: how many records there are, and how many of them do not agree.
 use Rattle.std.specs.Prelude.{Bool, List, ℕ, suc, ◌+◌, ltb, length}
-use Rattle.logic.specs.Test.{if◌then◌else◌}
+use Rattle.logic.specs.Test.{when◌then◌else◌}
 use Rattle.logic.specs.Turns.{Turn, again, done, turns}
 use Rattle.files.specs.Bytes.{between}
 use Rattle.replay.specs.Records.{record_end}
@@ -18,8 +18,8 @@ tally_of p = record { records = p.records; differ = p.differ }
 -- a record passed, in a file of so many bytes: where the one at an offset ends, and whether it agrees
 unfoldable pub pass : ℕ → (ℕ → ℕ) → (ℕ → Bool) → Passed → Turn Passed Tally
 pass size ends agrees p =
-    if ltb p.at size
-    then again (record { at = ends p.at; records = p.records + 1; differ = p.differ + (if agrees p.at then 0 else 1) })
+    when ltb p.at size
+    then again (record { at = ends p.at; records = p.records + 1; differ = p.differ + (when agrees p.at then 0 else 1) })
     else done (tally_of p)
 
 -- record after record to the end; there are no more than bytes

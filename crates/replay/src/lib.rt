@@ -4,7 +4,7 @@
 #![tactic(auto)]
 
 ghost use Rattle.std.specs.Prelude.{◌≡◌, ◌≤◌, ◌<◌, length};
-ghost use Rattle.logic.specs.Test.{if◌then◌else◌};
+ghost use Rattle.logic.specs.Test.{when◌then◌else◌};
 ghost use Rattle.replay.specs.Records.{record_end};
 
 // How many records there are, and how many of them differ from what is stored.
@@ -25,7 +25,7 @@ pub fn end_of_record(vectors: &[u8], at: usize) -> usize
 
 // Names a record whose answer is not the stored one, and counts it: 1, or 0 where the two agree. The first is record 0.
 pub fn differs(rt: &impl Print, record: usize, agrees: bool) -> usize
-    ensures { (result ≡ (if agrees then 0 else 1)) × (result ≤ 1) }
+    ensures { (result ≡ (when agrees then 0 else 1)) × (result ≤ 1) }
 {
     if agrees {
         return 0;

@@ -1,6 +1,6 @@
 -- Elements of a sequence that change nothing: the present sample holds one already, and they are of the type that it has.
 use Rattle.std.specs.Prelude.{Bool, true, not, ◌&&◌, List, [], ◌∷◌, ℕ, zero, suc, ◌+◌, eqb, get_or, drop}
-use Rattle.logic.specs.Test.{if◌then◌else◌}
+use Rattle.logic.specs.Test.{when◌then◌else◌}
 use Rattle.words.specs.Word.{word}
 use Rattle.shapes.specs.declared.Step.TheVariants as S
 use Rattle.shapes.specs.Steps.{code_of, no_name, packed_name}
@@ -18,7 +18,7 @@ is_held place child t =
 -- how many bytes there are of one sort
 unfoldable pub run_of : ℕ → List ℕ → ℕ
 run_of byte [] = 0
-run_of byte (b ∷ bs) = if eqb b byte then suc (run_of byte bs) else 0
+run_of byte (b ∷ bs) = when eqb b byte then suc (run_of byte bs) else 0
 
 -- the offset behind such elements
 unfoldable pub behind_run : List ℕ → ℕ → ℕ → ℕ
@@ -34,8 +34,8 @@ are_all commands byte at zero = true
 are_all commands byte at (suc count) = are_all commands byte at count && eqb (get_or commands (at + count) 0) byte
 
 unfoldable pub past_held : List ℕ → ℕ → ℕ → ℕ
-past_held commands kind at = if is_own_byte kind then behind_run commands kind at else at
+past_held commands kind at = when is_own_byte kind then behind_run commands kind at else at
 
 unfoldable pub past_same : List ℕ → ℕ → ℕ → List ℕ → ℕ
 past_same commands at place t =
-    if is_held place (word t place first_word) t then past_held commands (word t (word t place first_word) kind_word) at else at
+    when is_held place (word t place first_word) t then past_held commands (word t (word t place first_word) kind_word) at else at

@@ -1,7 +1,7 @@
 -- All records of a batch at the root (from_samples/mod.rs), which is the one place that there is at first: a value each, read with twenty
 -- levels left.
 use Rattle.std.specs.Prelude.{List, ℕ, ◌+◌, ltb, length}
-use Rattle.logic.specs.Test.{if◌then◌else◌}
+use Rattle.logic.specs.Test.{when◌then◌else◌}
 use Rattle.logic.specs.Turns.{Turn, done, turns}
 use Rattle.places.specs.Layout.{root_place}
 use Rattle.leaves.specs.declared.Traced.TheVariants as T
@@ -13,7 +13,7 @@ level_limit = 20
 
 unfoldable pub record_turn : List ℕ → List ℕ → ℕ → State → Turn State Out
 record_turn commands text options (state i at n t) =
-    if ltb at (length commands) then after_part i (value_at commands text options level_limit at root_place n t) else done (out (T.Next at n) t)
+    when ltb at (length commands) then after_part i (value_at commands text options level_limit at root_place n t) else done (out (T.Next at n) t)
 
 abbrev pub record_stop : State → Out
 record_stop (state i at n t) = out (T.Next at n) t

@@ -6,7 +6,7 @@ use mathlib.Core.List.{List}
 use Prim.Native.Nat.{ℕ, zero, suc, ◌-◌, ◌%◌, ◌<◌, ◌≤◌}
 use native.Mathlib.Omega.{arith}
 use lib.Dec.{eqb}
-use Rattle.logic.specs.Test.{if◌then◌else◌}
+use Rattle.logic.specs.Test.{when◌then◌else◌}
 use Rattle.logic.specs.laws.Test.{neither}
 use Rattle.words.specs.Word.{word}
 use Rattle.model.specs.Kinds.{is_container}
@@ -62,13 +62,13 @@ module _ (options : ℕ) (t : List ℕ) (place : ℕ) (is : Bool) where
   module _ (text : List ℕ) (lacking nullable : Bool) (number : ℕ) (own w : Writing) (n : nullable ≡ (lacking || eqb (word t place null_word) 1))
       (o : own ≡ field_at options text t place nullable number w) where
     pub leaf : (levels : ℕ) → is ≡ is_leaf options t (eqb levels 0) place → is ≡ true → own ≡ emitted_at options text t levels place lacking number w
-    unfolding emitted_at emitted_by if◌then◌else◌
+    unfolding emitted_at emitted_by when◌then◌else◌
     leaf zero e p = rw (sym e ∙ p, ← n) o
     leaf (suc m) e p = rw (sym (rw (some m) at e) ∙ p, ← n) o
 
     pub opened : (levels kind : ℕ) (after : Writing) → is ≡ is_leaf options t (eqb levels 0) place → is ≡ false → kind ≡ word t place kind_word →
         after ≡ fields_below t (emitted_at options text t (levels - 1)) kind place own → after ≡ emitted_at options text t levels place lacking number w
-    unfolding emitted_at emitted_by if◌then◌else◌
+    unfolding emitted_at emitted_by when◌then◌else◌
     opened zero kind after e p k a = absurd (let h : 1 ≤ 0 = some_level zero e p in omega arith)
     opened (suc m) kind after e p k a =
         let l : suc m - 1 ≡ m = omega arith in

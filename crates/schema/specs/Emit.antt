@@ -1,6 +1,6 @@
 -- The second walk: what it writes; and the schema, with refusals 15 to 18.
 use Rattle.std.specs.Prelude.{◌≡◌, Bool, true, false, not, ◌||◌, List, ℕ, zero, suc, ◌*◌, ◌%◌, eqb, ltb, length}
-use Rattle.logic.specs.Test.{if◌then◌else◌}
+use Rattle.logic.specs.Test.{when◌then◌else◌}
 use Rattle.logic.specs.Slices.{Slice, MutSlice, now_of, at_entry, at_exit}
 use Rattle.datatype.specs.Codes.{null, no_strategy}
 use Rattle.options.specs.Word.{dictionary_type}
@@ -25,7 +25,7 @@ field_at options text t place nullable number w =
     let kind = word t place kind_word in
     let name = child_name text t place in
     let own : ℕ → ℕ → ℕ → Writing = λ type strategy children. both (record_of type nullable strategy number (length name) children) name w in
-    if is_dictionary options t place then own (dictionary_type options) no_strategy 0
+    when is_dictionary options t place then own (dictionary_type options) no_strategy 0
     else own (type_of options kind % 256) (strategy_of kind) (field_count t kind place)
 
 -- a writer of the field of a place, which a sample lacks or not, with a variant number
@@ -53,7 +53,7 @@ fields_below t inner kind place w = fields_from t inner kind place child_limit 0
 unfoldable pub emitted_by : ℕ → List ℕ → List ℕ → Bool → (ℕ → ℕ → Writing → Writing) → Writer
 emitted_by options text t flat inner place lacking number w =
     let own = field_at options text t place (lacking || eqb (word t place null_word) 1) number w in
-    if is_leaf options t flat place then own else inner (word t place kind_word) place own
+    when is_leaf options t flat place then own else inner (word t place kind_word) place own
 
 -- with so many levels left
 unfoldable pub emitted_at : ℕ → List ℕ → List ℕ → ℕ → Writer
@@ -81,10 +81,10 @@ as_answered e (writing i j fields names) = answered e fields names
 
 unfoldable pub finished : ℕ → List ℕ → List ℕ → List ℕ → List ℕ → ℕ → ℕ → ℕ → Answered
 finished options text t fields names records bytes below =
-    if eqb (word t root_place null_word) 1 then answered (E.Refused F.NullableRoot) fields names
-    else if eqb (word t root_place kind_word) null then answered (E.Refused F.NullRoot) fields names
-    else if not (emits_struct (word t root_place kind_word)) then answered (E.Refused F.RootNotStruct) fields names
-    else if ltb (length fields) (records * 8) || ltb (length names) bytes then answered (E.Refused F.ShortBuffer) fields names
+    when eqb (word t root_place null_word) 1 then answered (E.Refused F.NullableRoot) fields names
+    else when eqb (word t root_place kind_word) null then answered (E.Refused F.NullRoot) fields names
+    else when not (emits_struct (word t root_place kind_word)) then answered (E.Refused F.RootNotStruct) fields names
+    else when ltb (length fields) (records * 8) || ltb (length names) bytes then answered (E.Refused F.ShortBuffer) fields names
     else as_answered (E.Schema records bytes below)
     (fields_below t (emitted_at options text t level_limit) (word t root_place kind_word) root_place (writing 0 0 fields names))
 

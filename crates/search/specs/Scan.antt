@@ -1,7 +1,7 @@
 -- The field of a place with a name, found among places by number: a place's children stand in ascending order, so that the first of them
 -- by number is the first in first_seen order.
 use Rattle.std.specs.Prelude.{◌≡◌, Bool, not, ◌&&◌, List, ℕ, zero, suc, ◌+◌, ◌*◌, ◌<◌, ◌≤◌, eqb, ltb}
-use Rattle.logic.specs.Test.{if◌then◌else◌}
+use Rattle.logic.specs.Test.{when◌then◌else◌}
 use Rattle.text.specs.declared.Name.{Name}
 use Rattle.words.specs.Word.{word, has_among}
 use Rattle.shapes.specs.Steps.{field_code}
@@ -31,12 +31,12 @@ is_field text place name child t = is_at text field_code name child t && (not (e
 unfoldable pub field_among : List ℕ → ℕ → Name → List ℕ → ℕ → ℕ → ℕ
 field_among text place name t from zero = 0
 field_among text place name t from (suc count) =
-    if is_field text place name from t then from else field_among text place name t (from + 1) count
+    when is_field text place name from t then from else field_among text place name t (from + 1) count
 
 -- where the first of so many groups of sixteen starts, from a place on, in which one has that tag; where they end if none has
 unfoldable pub past_others : ℕ → List ℕ → ℕ → ℕ → ℕ
 past_others tag t from zero = from
-past_others tag t from (suc groups) = if has_among t from many_places tag_word tag then from else past_others tag t (from + many_places) groups
+past_others tag t from (suc groups) = when has_among t from many_places tag_word tag then from else past_others tag t (from + many_places) groups
 
 -- fewer than one in sixteen of that many places up to the last child are children: its position tells how many stand before it
 unfoldable pub is_sparse : ℕ → ℕ → List ℕ → Bool

@@ -1,6 +1,6 @@
 -- The child of a place at a step, found in the words of the table.
 use Rattle.std.specs.Prelude.{Bool, true, false, ◌&&◌, List, ℕ, ◌+◌, eqb, ltb}
-use Rattle.logic.specs.Test.{if◌then◌else◌}
+use Rattle.logic.specs.Test.{when◌then◌else◌}
 use Rattle.logic.specs.Turns.{Turn, again, done, turns}
 use Rattle.text.specs.declared.Name.{Name}
 use Rattle.text.specs.Name.{bytes_of, eq_name}
@@ -19,14 +19,14 @@ Comparable text t name child =
 -- ---- the child at a step, in first_seen order; 0 for none
 unfoldable pub is_at : List ℕ → ℕ → Name → ℕ → List ℕ → Bool
 is_at text code name child t =
-    if eqb (word t child step_word) code
-    then (if eqb code field_code then eq_name (bytes_of text (unpacked_name (word t child name_word))) (bytes_of text name) else true)
+    when eqb (word t child step_word) code
+    then (when eqb code field_code then eq_name (bytes_of text (unpacked_name (word t child name_word))) (bytes_of text name) else true)
     else false
 
 unfoldable pub find_turn : List ℕ → ℕ → Name → List ℕ → ℕ → Turn ℕ ℕ
 find_turn text code name t child =
-    if eqb child 0 then done 0
-    else if is_at text code name child t then done child
+    when eqb child 0 then done 0
+    else when is_at text code name child t then done child
     else again (word t child next_word)
 
 -- from a child on
@@ -47,5 +47,5 @@ child_at text place S.Key n t = find_in text place (code_of S.Key) no_name t
 child_at text place S.Value n t = find_in text place (code_of S.Value) no_name t
 child_at text place (S.Field name) n t = find_in text place field_code name t
 child_at text place (S.Position i) n t =
-    if in_block place i n t then word t place first_word + i else (seek place (code_of (S.Position i)) n t).child
+    when in_block place i n t then word t place first_word + i else (seek place (code_of (S.Position i)) n t).child
 child_at text place (S.Variant number name) n t = (seek place (code_of (S.Variant number name)) n t).child

@@ -3,7 +3,7 @@
 -- in the bits used, and in their parity, for a place has variants or positions. There are 65,536 codes of each parity, one after another,
 -- so sixteen bits tell them apart: at most 17 children are visited.
 use Rattle.std.specs.Prelude.{Bool, ◌&&◌, List, ℕ, ◌/◌, ◌%◌, eqb, ltb}
-use Rattle.logic.specs.Test.{if◌then◌else◌}
+use Rattle.logic.specs.Test.{when◌then◌else◌}
 use Rattle.logic.specs.Turns.{Turn, again, done, turns}
 use Rattle.words.specs.Word.{word}
 use Rattle.shapes.specs.Steps.{field_code}
@@ -16,11 +16,11 @@ is_numbered code = ltb field_code code
 
 -- the link by the lowest bit
 unfoldable pub side_word : ℕ → ℕ
-side_word bits = if eqb (bits % 2) 0 then left_word else right_word
+side_word bits = when eqb (bits % 2) 0 then left_word else right_word
 
 -- a link is followed to a place with a higher number, as all are that were stored; 0 is none
 unfoldable pub follow : ℕ → ℕ → ℕ → List ℕ → ℕ
-follow place field n t = if ltb place (word t place field) && ltb (word t place field) n then word t place field else 0
+follow place field n t = when ltb place (word t place field) && ltb (word t place field) n then word t place field else 0
 
 -- where the search stands: before that link, with so many bits left
 pub data Seeking : Type 0 where
@@ -31,8 +31,8 @@ slot child place field = record { child = child; place = place; field = field }
 
 unfoldable pub seek_at : ℕ → List ℕ → ℕ → ℕ → ℕ → ℕ → Turn Seeking Slot
 seek_at code t bits place field child =
-    if eqb child 0 then done (slot 0 place field)
-    else if eqb (word t child step_word) code then done (slot child place field)
+    when eqb child 0 then done (slot 0 place field)
+    else when eqb (word t child step_word) code then done (slot child place field)
     else again (seeking (bits / 2) child (side_word bits))
 
 unfoldable pub seek_turn : ℕ → ℕ → List ℕ → Seeking → Turn Seeking Slot

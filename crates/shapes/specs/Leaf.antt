@@ -1,6 +1,6 @@
 -- The value at an offset, where it is a primitive.
 use Rattle.std.specs.Prelude.{◌≡◌, Bool, true, not, ◌&&◌, List, ℕ, eqb, ltb}
-use Rattle.logic.specs.Test.{if◌then◌else◌}
+use Rattle.logic.specs.Test.{when◌then◌else◌}
 use Rattle.datatype.specs.Codes.{null, uint32}
 use Rattle.options.specs.declared.TracingOptions.{TracingOptions}
 use Rattle.text.specs.Block.{is_ascii}
@@ -23,7 +23,7 @@ abbrev pub char_byte : ℕ
 char_byte = 0x0C
 
 unfoldable pub plain_kind : ℕ → ℕ
-plain_kind byte = if eqb byte char_byte then uint32 else byte
+plain_kind byte = when eqb byte char_byte then uint32 else byte
 
 -- a type whose code is its command's byte, and not Null
 unfoldable pub is_own_byte : ℕ → Bool

@@ -1,6 +1,6 @@
 -- What a command begins, and what stands before a part of a container (document 01, "Commands and texts"), with names by their operands.
 use Rattle.std.specs.Prelude.{Bool, true, false, not, ◌&&◌, ◌||◌, List, ℕ, ◌+◌, ◌%◌, eqb, leb, ltb, length, get_or}
-use Rattle.logic.specs.Test.{if◌then◌else◌}
+use Rattle.logic.specs.Test.{when◌then◌else◌}
 use Rattle.datatype.specs.Codes.{null, boolean, int8, int16, int32, int64, uint8, uint16, uint32, uint64, float32, float64}
 use Rattle.options.specs.Word.{map_as_struct, binary_type}
 use Rattle.text.specs.Name.{inside, bytes_of}
@@ -23,7 +23,7 @@ use Rattle.shapes.specs.declared.Part.TheVariants as P
 
 -- ---- what a command begins
 abbrev pub map_kind_of : ℕ → ℕ
-map_kind_of options = if map_as_struct options then map_mode_kind else map_kind
+map_kind_of options = when map_as_struct options then map_mode_kind else map_kind
 
 unfoldable pub shape_at : ℕ → List ℕ → Command → Shape
 shape_at options text C.Unit = H.Leaf true null
@@ -61,23 +61,23 @@ is_parted kind = is_struct kind || eqb kind sequence_kind || eqb kind map_kind |
 
 -- ---- what stands before a part of a container
 abbrev pub value_part : List ℕ → Step → ℕ → Read → Part
-value_part commands step at (R.Command command behind) = if eqb (get_or commands at 0) end_byte then P.Ended behind else P.Step step at
+value_part commands step at (R.Command command behind) = when eqb (get_or commands at 0) end_byte then P.Ended behind else P.Step step at
 value_part commands step at (R.Refused refusal place) = P.Refused refusal place
 
 abbrev pub field_part : List ℕ → ℕ → Read → Part
 field_part commands at (R.Command command behind) =
-    if eqb (get_or commands at 0) end_byte then P.Ended behind
+    when eqb (get_or commands at 0) end_byte then P.Ended behind
     else P.Step (S.Field (name_at commands (at + 1))) behind
 field_part commands at (R.Refused refusal place) = P.Refused refusal place
 
 unfoldable pub part_at : List ℕ → List ℕ → ℕ → ℕ → ℕ → ℕ → Part
 part_at commands text kind positions i at =
-    if eqb kind sequence_kind then value_part commands S.Element at (read_command commands text at D.ValueOrEnd)
-    else if eqb kind struct_kind then field_part commands at (read_command commands text at D.FieldOrEnd)
-    else if eqb kind map_mode_kind then field_part commands at (read_command commands text at D.KeyOrEnd)
-    else if eqb kind map_kind && eqb (i % 2) 0 then value_part commands S.Key at (read_command commands text at D.ValueOrEnd)
-    else if eqb kind map_kind then value_part commands S.Value at (read_command commands text at D.Value)
-    else if ltb i positions then value_part commands (S.Position i) at (read_command commands text at D.Value)
+    when eqb kind sequence_kind then value_part commands S.Element at (read_command commands text at D.ValueOrEnd)
+    else when eqb kind struct_kind then field_part commands at (read_command commands text at D.FieldOrEnd)
+    else when eqb kind map_mode_kind then field_part commands at (read_command commands text at D.KeyOrEnd)
+    else when eqb kind map_kind && eqb (i % 2) 0 then value_part commands S.Key at (read_command commands text at D.ValueOrEnd)
+    else when eqb kind map_kind then value_part commands S.Value at (read_command commands text at D.Value)
+    else when ltb i positions then value_part commands (S.Position i) at (read_command commands text at D.Value)
     else P.Ended at
 
 -- ---- what the first bytes tell of a part, before its command is read

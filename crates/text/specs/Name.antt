@@ -1,6 +1,6 @@
 -- Names, as in document 01's "Commands and texts": an offset and a length in the text.
 use Rattle.std.specs.Prelude.{ℕ, suc, ◌+◌, Bool, true, false, ◌&&◌, ◌||◌, List, [], ◌∷◌, leb, ltb, eqb, length, take, drop}
-use Rattle.logic.specs.Test.{if◌then◌else◌}
+use Rattle.logic.specs.Test.{when◌then◌else◌}
 use Rattle.text.specs.declared.Name.{Name}
 
 -- the name's offset plus length does not exceed the text (refusal 5 else)
@@ -32,4 +32,4 @@ dot = 0x2E
 -- a name's own dots, which count for the depth
 unfoldable pub dots : List ℕ → ℕ
 dots [] = 0
-dots (b ∷ x) = if eqb b dot then suc (dots x) else dots x
+dots (b ∷ x) = when eqb b dot then suc (dots x) else dots x

@@ -1,6 +1,6 @@
 -- A name's tag, by which names are told apart before their bytes are compared. Nothing that is promised of the call speaks of it.
 use Rattle.std.specs.Prelude.{ℕ, zero, suc, ◌+◌, ◌*◌, ◌-◌, ◌/◌, ◌%◌, ◌^◌, List, ltb, eqb, length, get_or}
-use Rattle.logic.specs.Test.{if◌then◌else◌}
+use Rattle.logic.specs.Test.{when◌then◌else◌}
 
 -- Equal names have equal tags, and unequal ones nearly never, so that finding a field costs one reading of its name. A tag is below this.
 abbrev pub tag_limit : ℕ
@@ -43,7 +43,7 @@ lane_of bytes at state (suc steps) = mixed_of (lane_of bytes at state steps) (fo
 
 -- the tag of a name of so many bytes, up to three
 unfoldable pub short_tag : List ℕ → ℕ → ℕ
-short_tag bytes n = if eqb n 0 then 0 else joined_of n (get_or bytes 0 0) (get_or bytes (n / 2) 0) (get_or bytes (n - 1) 0)
+short_tag bytes n = when eqb n 0 then 0 else joined_of n (get_or bytes 0 0) (get_or bytes (n / 2) 0) (get_or bytes (n - 1) 0)
 
 -- of four to twelve, which all are among the first four, the middle four and the last four
 unfoldable pub middle_tag : List ℕ → ℕ → ℕ
@@ -59,6 +59,6 @@ long_tag bytes n =
 -- a name's tag
 unfoldable pub tag_of : List ℕ → ℕ
 tag_of bytes =
-    if ltb (length bytes) 4 then short_tag bytes (length bytes)
-    else if ltb 12 (length bytes) then long_tag bytes (length bytes)
+    when ltb (length bytes) 4 then short_tag bytes (length bytes)
+    else when ltb 12 (length bytes) then long_tag bytes (length bytes)
     else middle_tag bytes (length bytes)

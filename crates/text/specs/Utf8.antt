@@ -2,7 +2,7 @@
 use Rattle.std.specs.Prelude.{◌≡◌, ℕ, Bool, true, false, ◌&&◌, List, [], ◌∷◌, ◌++◌, leb}
 use Rattle.std.proofs.Math.Option.{Option, none, some}
 use Rattle.std.proofs.Math.ListN.{get_elem?}
-use Rattle.logic.specs.Test.{if◌then◌else◌}
+use Rattle.logic.specs.Test.{when◌then◌else◌}
 
 infix 70 ◌to◌
 -- a range of bytes, its first and its last
@@ -31,7 +31,7 @@ within (low to high) byte = leb low byte && leb byte high
 unfoldable pub due_in : List (List Range) → ℕ → Option (List Range)
 due_in [] byte = none
 due_in ([] ∷ rows) byte = due_in rows byte
-due_in ((range ∷ due) ∷ rows) byte = if within range byte then some due else due_in rows byte
+due_in ((range ∷ due) ∷ rows) byte = when within range byte then some due else due_in rows byte
 
 -- whether the bytes are what is still due of a sequence, and whole sequences after it
 unfoldable pub reads : List Range → List ℕ → Bool

@@ -1,7 +1,7 @@
 -- The ways through the walk: what the definitions give where the code's tests came out so.
 use Rattle.std.proofs.Common.{◌≡◌, ℕ, zero, suc, ◌-◌, ◌<◌, ◌≤◌, Bool, true, false, not, ◌&&◌, eqb, List, sym, refl, ◌∙◌, arith, eq-eqb, ne_eqb, le-leb}
 use borrow.Author.Tests.{lt-leb, not-true, not-false}
-use Rattle.logic.specs.Test.{if◌then◌else◌}
+use Rattle.logic.specs.Test.{when◌then◌else◌}
 use Rattle.datatype.specs.Codes.{null}
 use Rattle.options.specs.Word.{allow_null_fields, enums_without_data_as_strings}
 use Rattle.refusal.specs.declared.Refusal.{Refusal}
@@ -53,47 +53,47 @@ module _ (text t : List ℕ) (inner : ℕ → Walked) (kind place records names 
 -- ---- a map's entries
 module _ (text t : List ℕ) (inner : ℕ → Walked) (kind place : ℕ) (answer : Walked) where
   pub of_map : kind ≡ map_kind → answer ≡ children_from text t inner kind place child_limit 1 7 0 0 (next_child t false kind place 0) → answer ≡ children_below text t inner kind place
-  unfolding if◌then◌else◌
+  unfolding when◌then◌else◌
   of_map e a = rw (eq-eqb kind map_kind e) a
 
   pub of_other : (kind ≡ map_kind → ⊥) → answer ≡ children_from text t inner kind place child_limit 0 0 0 0 (next_child t false kind place 0) → answer ≡ children_below text t inner kind place
-  unfolding if◌then◌else◌
+  unfolding when◌then◌else◌
   of_other n a = rw (ne_eqb kind map_kind n) a
 
 -- ---- a place, by its kind
 module _ (options : ℕ) (text t : List ℕ) (place kind : ℕ) (k : kind ≡ word t place kind_word) where
   module _ (u : kind ≡ null) (allowed : Bool) (a : allowed ≡ allow_null_fields options) where
     pub unknown : (levels : ℕ) → allowed ≡ true → W.Below 0 0 0 ≡ walked options text t levels place
-    unfolding walked walked_by if◌then◌else◌
+    unfolding walked walked_by when◌then◌else◌
     unknown zero p = rw (← k, eq-eqb kind null u, sym a ∙ p)
     unknown (suc m) p = rw (← k, eq-eqb kind null u, sym a ∙ p)
 
     pub null_field_lem : (levels : ℕ) → allowed ≡ false → W.Refused F.NullField ≡ walked options text t levels place
-    unfolding walked walked_by if◌then◌else◌
+    unfolding walked walked_by when◌then◌else◌
     null_field_lem zero p = rw (← k, eq-eqb kind null u, sym a ∙ p)
     null_field_lem (suc m) p = rw (← k, eq-eqb kind null u, sym a ∙ p)
 
   module _ (u : kind ≡ null → ⊥) where
     pub primitive : (levels : ℕ) → kind < sequence_kind → W.Below 0 0 0 ≡ walked options text t levels place
-    unfolding walked walked_by if◌then◌else◌
+    unfolding walked walked_by when◌then◌else◌
     primitive zero h = rw (← k, ne_eqb kind null u, lt-leb sequence_kind kind h)
     primitive (suc m) h = rw (← k, ne_eqb kind null u, lt-leb sequence_kind kind h)
 
     module _ (h : sequence_kind ≤ kind) where
       pub no_level : (levels : ℕ) → levels ≡ 0 → W.Below 0 0 0 ≡ walked options text t levels place
-      unfolding walked walked_by if◌then◌else◌
+      unfolding walked walked_by when◌then◌else◌
       no_level zero e = rw (← k, ne_eqb kind null u, le-leb sequence_kind kind h)
       no_level (suc m) e = absurd (omega arith)
 
       module _ (x : kind ≡ union_kind) (flat : Bool) (d : flat ≡ dataless_at t place) (f : flat ≡ true) (strings : Bool) (s : strings ≡ enums_without_data_as_strings options) where
         pub as_strings : (levels : ℕ) → (levels ≡ 0 → ⊥) → strings ≡ true → W.Below 0 0 0 ≡ walked options text t levels place
-        unfolding walked walked_by if◌then◌else◌
+        unfolding walked walked_by when◌then◌else◌
         as_strings zero n p = absurd (n refl)
         as_strings (suc m) n p = rw (← k, ne_eqb kind null u, le-leb sequence_kind kind h, eq-eqb kind union_kind x, sym d ∙ f, sym s ∙ p)
 
         pub dataless_union_lem : (levels : ℕ) (allowed : Bool) → (levels ≡ 0 → ⊥) → strings ≡ false → allowed ≡ allow_null_fields options →
             not allowed ≡ true → W.Refused F.DatalessUnion ≡ walked options text t levels place
-        unfolding walked walked_by if◌then◌else◌
+        unfolding walked walked_by when◌then◌else◌
         dataless_union_lem zero allowed n p a q = absurd (n refl)
         dataless_union_lem (suc m) allowed n p a q = rw (← k, ne_eqb kind null u, le-leb sequence_kind kind h, eq-eqb kind union_kind x, sym d ∙ f, sym s ∙ p, sym a ∙ not-true allowed q)
 
@@ -116,7 +116,7 @@ module _ (options : ℕ) (t : List ℕ) (kind place : ℕ) where
 
   pub opened : (text : List ℕ) (levels : ℕ) (answer : Walked) → kind ≡ word t place kind_word → (kind ≡ null → ⊥) → sequence_kind ≤ kind → (levels ≡ 0 → ⊥) → Opens options t kind place →
       answer ≡ children_below text t (walked options text t (levels - 1)) kind place → answer ≡ walked options text t levels place
-  unfolding walked walked_by if◌then◌else◌
+  unfolding walked walked_by when◌then◌else◌
   opened text zero answer k u h n o e = absurd (n refl)
   opened text (suc m) answer k u h n o e =
       let l : suc m - 1 ≡ m = omega arith in

@@ -1,6 +1,6 @@
 -- The first walk: refusals 12 to 14, and how many field records, name bytes and columns there are below a place.
 use Rattle.std.specs.Prelude.{ℕ, zero, suc, ◌+◌, ◌-◌, ◌%◌, ◌^◌, Bool, true, false, not, ◌&&◌, ◌||◌, List, length, ◌==◌, nat_eq, nat_le}
-use Rattle.logic.specs.Test.{if◌then◌else◌}
+use Rattle.logic.specs.Test.{when◌then◌else◌}
 use Rattle.datatype.specs.Codes.{null}
 use Rattle.options.specs.Word.{allow_null_fields, enums_without_data_as_strings}
 use Rattle.refusal.specs.declared.Refusal.TheVariants as F
@@ -37,11 +37,11 @@ sum_of a b = (a + b) % 2 ^ 32
 
 -- the columns of the field of a place of that kind, with so many records and columns below it: a Struct with none is no column
 abbrev pub columns_of : ℕ → ℕ → ℕ → ℕ
-columns_of kind records below = if records == 0 then (if emits_struct kind then 0 else 1) else below
+columns_of kind records below = when records == 0 then (when emits_struct kind then 0 else 1) else below
 
 -- the slots never seen before a child of a union
 unfoldable pub gaps_at : ℕ → List ℕ → ℕ → ℕ → ℕ
-gaps_at kind t slot child = if kind == union_kind && nat_le slot (variant_at t child) then variant_at t child - slot else 0
+gaps_at kind t slot child = when kind == union_kind && nat_le slot (variant_at t child) then variant_at t child - slot else 0
 
 -- the slot behind a child's
 abbrev pub slot_behind : List ℕ → ℕ → ℕ
@@ -84,15 +84,15 @@ children_from text t inner kind place (suc left) records names below slot child 
 abbrev pub children_below : List ℕ → List ℕ → (ℕ → Walked) → ℕ → ℕ → Walked
 children_below text t inner kind place =
     children_from text t inner kind place child_limit
-    (if nat_eq kind map_kind then 1 else 0) (if nat_eq kind map_kind then length entries_name else 0) 0 0 (next_child t false kind place 0)
+    (when nat_eq kind map_kind then 1 else 0) (when nat_eq kind map_kind then length entries_name else 0) 0 0 (next_child t false kind place 0)
 
 -- a place: refusals 12 and 13, and what stands below it; `flat` where no level is left, and a reader of its children
 unfoldable pub walked_by : ℕ → List ℕ → List ℕ → Bool → (ℕ → Walked) → ℕ → Walked
 walked_by options text t flat inner place =
-    if word t place kind_word == null then (if allow_null_fields options then W.Below 0 0 0 else W.Refused F.NullField)
-    else if not (is_container (word t place kind_word)) || flat then W.Below 0 0 0
-    else if word t place kind_word == union_kind && dataless_at t place && enums_without_data_as_strings options then W.Below 0 0 0
-    else if word t place kind_word == union_kind && dataless_at t place && not (allow_null_fields options) then W.Refused F.DatalessUnion
+    when word t place kind_word == null then (when allow_null_fields options then W.Below 0 0 0 else W.Refused F.NullField)
+    else when not (is_container (word t place kind_word)) || flat then W.Below 0 0 0
+    else when word t place kind_word == union_kind && dataless_at t place && enums_without_data_as_strings options then W.Below 0 0 0
+    else when word t place kind_word == union_kind && dataless_at t place && not (allow_null_fields options) then W.Refused F.DatalessUnion
     else children_below text t inner (word t place kind_word) place
 
 -- with so many levels left

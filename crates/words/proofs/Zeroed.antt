@@ -8,7 +8,7 @@ use borrow.Author.Tests.{lt-ltb, le-ltb, le-leb, lt-leb, ltb-true, ltb-false, eq
 use lib.Dec.{eqb, leb, ltb}
 use lib.ListN.{length, get_or, set, length-set}
 use lib.Seq.{get_or-set_same, get_or-set_other}
-use Rattle.logic.specs.Test.{if◌then◌else◌}
+use Rattle.logic.specs.Test.{when◌then◌else◌}
 use Rattle.logic.specs.laws.Test.{cases}
 use Rattle.words.specs.Word.{table_places, table_words, row_words, plane_words, gap_words, IsTable, row_word, zeros, zeroed_where, orders_from, orders_end, zeroed_in, cleared_in, cleared_to}
 use Rattle.words.specs.laws.Word.{where_length, where_at, where_is, where_zeros}
@@ -16,7 +16,7 @@ use Rattle.words.specs.laws.Word.{where_length, where_at, where_is, where_zeros}
 -- ---- from an index on
 module _ (t : List ℕ) (a : ℕ) where
   pub in_none : t ≡ zeroed_in t a a
-  unfolding zeroed_in if◌then◌else◌
+  unfolding zeroed_in when◌then◌else◌
   in_none =
       where_is (λ j. leb a j && ltb j a) t t refl (λ j _.
       cases (ltb j a)
@@ -24,7 +24,7 @@ module _ (t : List ℕ) (a : ℕ) where
       (λ c. rw (le-leb a j (ltb-false j a c), c) refl))
 
   pub in_more : (i b : ℕ) (u : List ℕ) → u ≡ zeroed_in t a i → a ≤ i → i < b → b ≤ length t → set u i 0 ≡ zeroed_in t a (i + 1)
-  unfolding zeroed_in if◌then◌else◌
+  unfolding zeroed_in when◌then◌else◌
   in_more i b u e l m o =
       let z : List ℕ = zeroed_in t a i in
       let g : length z ≡ length t = where_length (λ j. leb a j && ltb j i) t in
@@ -52,24 +52,24 @@ in_all_lem t u n e =
 -- how many words of it: the planes 7 and 8, behind the gaps 6 and 7, are those with links that putting children in order stores
 module _ (k n : ℕ) (m : n ≤ table_places) (b : k < row_words) where
   pub in_last : k ≡ row_words - 1 → (gap_words ≡ cleared_in k n) × (k * plane_words + gap_words ≤ table_words)
-  unfolding cleared_in if◌then◌else◌
+  unfolding cleared_in when◌then◌else◌
   in_last e = (rw (eq-eqb k (row_words - 1) e) refl, omega arith)
 
   module _ (e : k ≡ row_words - 1 → ⊥) where
     pub in_orders : 6 ≤ k → k < 8 → (plane_words ≡ cleared_in k n) × (k * plane_words + plane_words ≤ table_words)
-    unfolding cleared_in row_word if◌then◌else◌
+    unfolding cleared_in row_word when◌then◌else◌
     in_orders c d = (rw (ne_eqb k (row_words - 1) e, le-leb 7 (k + 1) (omega arith), lt-ltb (k + 1) 9 (omega arith)) refl, omega (arith, e))
 
     pub in_before : k < 6 → (gap_words + n ≡ cleared_in k n) × (k * plane_words + (gap_words + n) ≤ table_words)
-    unfolding cleared_in row_word if◌then◌else◌
+    unfolding cleared_in row_word when◌then◌else◌
     in_before c = (rw (ne_eqb k (row_words - 1) e, lt-leb 7 (k + 1) (omega arith)) refl, omega (arith, e))
 
     pub in_behind : 8 ≤ k → (gap_words + n ≡ cleared_in k n) × (k * plane_words + (gap_words + n) ≤ table_words)
-    unfolding cleared_in row_word if◌then◌else◌
+    unfolding cleared_in row_word when◌then◌else◌
     in_behind c = (rw (ne_eqb k (row_words - 1) e, le-leb 7 (k + 1) (omega arith), le-ltb (k + 1) 9 (omega arith)) refl, omega (arith, e))
 
 in_inside : (k n : ℕ) → n ≤ table_places → cleared_in k n ≤ plane_words
-unfolding cleared_in if◌then◌else◌
+unfolding cleared_in when◌then◌else◌
 in_inside k n l =
     cases (eqb k (row_words - 1)) (λ a. rw a (omega arith))
     (λ a. cases (leb (row_word orders_from) (k + 1) && ltb (k + 1) (row_word orders_end)) (λ c. rw (a, c) (omega arith)) (λ c. rw (a, c) (omega arith)))
@@ -83,8 +83,8 @@ planes_to t n k = zeroed_where (is_done n k) t
 
 -- a word once one more plane is done
 turn : (n k i x : ℕ) → n ≤ table_places →
-    (if leb (k * plane_words) i && ltb i (k * plane_words + cleared_in k n) then 0 else if is_done n k i then 0 else x) ≡ (if is_done n (k + 1) i then 0 else x)
-unfolding if◌then◌else◌
+    (when leb (k * plane_words) i && ltb i (k * plane_words + cleared_in k n) then 0 else when is_done n k i then 0 else x) ≡ (when is_done n (k + 1) i then 0 else x)
+unfolding when◌then◌else◌
 turn n k i x l =
     let q : ℕ = i / plane_words in
     let p : ℕ = i % plane_words in
@@ -105,7 +105,7 @@ turn n k i x l =
 
 module _ (t : List ℕ) (n : ℕ) where
   pub planes_none : t ≡ planes_to t n 0
-  unfolding planes_to if◌then◌else◌
+  unfolding planes_to when◌then◌else◌
   planes_none = where_is (is_done n 0) t t refl (λ i _. rw (le-ltb (i / plane_words) 0 (omega arith)) refl)
 
   pub planes_more : (k m : ℕ) (u v : List ℕ) → n ≤ table_places → u ≡ planes_to t n k → m ≡ cleared_in k n → v ≡ zeroed_in u (k * plane_words) (k * plane_words + m) →
@@ -118,7 +118,7 @@ module _ (t : List ℕ) (n : ℕ) where
       where_at now z i ∙ rw (where_at (is_done n k) t i) (turn n k i (get_or t i 0) l)))
 
   pub planes_all : (k : ℕ) (u : List ℕ) → IsTable t → row_words ≤ k → u ≡ planes_to t n k → u ≡ cleared_to t n
-  unfolding planes_to cleared_to if◌then◌else◌
+  unfolding planes_to cleared_to when◌then◌else◌
   planes_all k u table l e =
       rw e (where_is _ t (planes_to t n k) (where_length (is_done n k) t) (λ i m.
       where_at (is_done n k) t i ∙ rw (lt-ltb (i / plane_words) k (omega arith)) refl))

@@ -2,7 +2,7 @@
 -- last stored." What is read and stored here is what `link` and `set_link` read and store.
 use Rattle.std.specs.Prelude.{◌≡◌, refl, true, List, ℕ, ◌+◌, ◌*◌, ◌<◌}
 use Rattle.std.proofs.Common.{arith}
-use Rattle.logic.specs.Test.{if◌then◌else◌}
+use Rattle.logic.specs.Test.{when◌then◌else◌}
 use Rattle.words.specs.Word.{link_limit, IsTable, IsRow, in_each, is_link, row_word, part_of, with_part, word, with_word}
 use Rattle.words.specs.laws.Word.{word_same, word_other, length_with, link_end}
 
@@ -28,5 +28,5 @@ stored t place field to table row link short = record {
 -- links 6 and 7 share word 6 of a row: 5 is stored in one, then 9 in the other, and both are read
 both_kept : (row_word 6 ≡ row_word 7) × (with_part 7 (with_part 6 0 5) 9 ≡ 9 * link_limit + 5) ×
     (part_of 6 (9 * link_limit + 5) ≡ 5) × (part_of 7 (9 * link_limit + 5) ≡ 9)
-unfolding row_word part_of with_part if◌then◌else◌
+unfolding row_word part_of with_part when◌then◌else◌
 both_kept = (refl, refl, refl, refl)

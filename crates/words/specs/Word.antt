@@ -1,7 +1,7 @@
 -- The part of the work table that is lent to the tracer, and the words of a place in it. How a word is found is said here alone: what
 -- stands above speaks of a place and a word of it, and goes by the laws.
 use Rattle.std.specs.Prelude.{◌≡◌, Bool, false, ◌&&◌, ◌||◌, List, [], ◌∷◌, ℕ, zero, suc, ◌+◌, ◌-◌, ◌*◌, ◌/◌, ◌%◌, ◌^◌, ◌<◌, eqb, leb, ltb, length, get_or, set, replicate}
-use Rattle.logic.specs.Test.{if◌then◌else◌}
+use Rattle.logic.specs.Test.{when◌then◌else◌}
 
 -- it has so many places
 abbrev pub table_places : ℕ
@@ -55,8 +55,8 @@ has_word place field = ltb place table_places && ltb field place_words
 -- the word of the row that it is or, of a link, in which it stands
 unfoldable pub row_word : ℕ → ℕ
 row_word field =
-    if ltb field links_from then field
-    else if ltb field links_end then links_from + (field - links_from) / 2
+    when ltb field links_from then field
+    else when ltb field links_end then links_from + (field - links_from) / 2
     else field - (links_end - links_from) / 2
 
 -- Where that stands. The words of all places at one number of the row stand one after another, a plane, so that the tags of eight places
@@ -70,7 +70,7 @@ gap_words = 64
 
 unfoldable pub plane_index : ℕ → ℕ → ℕ
 plane_index row place =
-    if eqb row 0 then place / gap_words * plane_words + place % gap_words
+    when eqb row 0 then place / gap_words * plane_words + place % gap_words
     else (row - 1) * plane_words + gap_words + place
 
 abbrev pub index_of : ℕ → ℕ → ℕ
@@ -82,19 +82,19 @@ is_lower field = eqb (field % 2) 0
 
 -- a place's word, read from that word of the row: all of it, or the half that is the link
 unfoldable pub part_of : ℕ → ℕ → ℕ
-part_of field w = if is_link field then (if is_lower field then w % link_limit else w / link_limit) else w
+part_of field w = when is_link field then (when is_lower field then w % link_limit else w / link_limit) else w
 
 -- that word of the row with a place's word stored, the other link as it was. What is too large for a lower link is cut off, so that the
 -- upper one stays whatever is stored; code stores only what has room.
 unfoldable pub with_part : ℕ → ℕ → ℕ → ℕ
 with_part field w value =
-    if is_link field
-    then (if is_lower field then w / link_limit * link_limit + value % link_limit else value * link_limit + w % link_limit)
+    when is_link field
+    then (when is_lower field then w / link_limit * link_limit + value % link_limit else value * link_limit + w % link_limit)
     else value
 
 -- word `field` of a place, and 0 where the table has none
 unfoldable pub word : List ℕ → ℕ → ℕ → ℕ
-word table place field = if has_word place field then part_of field (get_or table (index_of place field) 0) else 0
+word table place field = when has_word place field then part_of field (get_or table (index_of place field) 0) else 0
 
 -- one of so many places, from one on, has that value as that word
 unfoldable pub has_among : List ℕ → ℕ → ℕ → ℕ → ℕ → Bool
@@ -104,7 +104,7 @@ has_among table from (suc count) field value = has_among table from count field 
 -- the table with that word stored, if it has it
 unfoldable pub with_word : List ℕ → ℕ → ℕ → ℕ → List ℕ
 with_word table place field value =
-    if has_word place field
+    when has_word place field
     then set table (index_of place field) (with_part field (get_or table (index_of place field) 0) value)
     else table
 
@@ -116,7 +116,7 @@ zeros = replicate table_words 0
 -- those whose index passes a test, the others as they were
 unfoldable pub zeroed_where : (ℕ → Bool) → List ℕ → List ℕ
 zeroed_where test [] = []
-zeroed_where test (w ∷ ws) = (if test 0 then 0 else w) ∷ zeroed_where (λ i. test (suc i)) ws
+zeroed_where test (w ∷ ws) = (when test 0 then 0 else w) ∷ zeroed_where (λ i. test (suc i)) ws
 
 -- those from one index up to another
 unfoldable pub zeroed_in : List ℕ → ℕ → ℕ → List ℕ
@@ -138,8 +138,8 @@ is_order field = leb orders_from field && ltb field orders_end
 -- gap is no plane.
 unfoldable pub cleared_in : ℕ → ℕ → ℕ
 cleared_in gap count =
-    if eqb gap (row_words - 1) then gap_words
-    else if leb (row_word orders_from) (gap + 1) && ltb (gap + 1) (row_word orders_end) then plane_words
+    when eqb gap (row_words - 1) then gap_words
+    else when leb (row_word orders_from) (gap + 1) && ltb (gap + 1) (row_word orders_end) then plane_words
     else gap_words + count
 
 -- the table with the places below `count` zeroed, the gaps, and those planes

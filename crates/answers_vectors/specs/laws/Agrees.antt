@@ -3,7 +3,7 @@ use Rattle.std.specs.Prelude.{◌≡◌, refl, Bool, true, false, List, ◌↔�
 use Rattle.std.proofs.Math.Path.{sym, ap}
 use Rattle.std.proofs.Common.{subst, ◌∙◌, arith, eqb-true, eq-eqb, le-leb}
 use Rattle.std.proofs.lemmas.Bool.{lt-leb}
-use Rattle.logic.specs.Test.{if◌then◌else◌}
+use Rattle.logic.specs.Test.{when◌then◌else◌}
 use Rattle.logic.specs.laws.Test.{both, same_test}
 use Rattle.logic.specs.laws.Flag.{if_either}
 use Rattle.text.specs.laws.Name.{eq_name_true, eq_name_refl}
@@ -149,7 +149,7 @@ module _ (vectors : List ℕ) (all : Tally) where
       ≡ all
 
   pub question_on : (at records differ behind : ℕ) (flag : Bool) (one : ℕ) → at < length vectors → behind ≡ question_end vectors at →
-      flag ≡ agrees (between at behind vectors) → one ≡ (if flag then 0 else 1) → RestGives at records differ → RestGives behind (records + 1) (differ + one)
+      flag ≡ agrees (between at behind vectors) → one ≡ (when flag then 0 else 1) → RestGives at records differ → RestGives behind (records + 1) (differ + one)
   question_on at records differ behind flag one h en ef eo e =
       tally_on (length vectors) (question_end vectors) _ (later vectors) at records differ behind flag one all h en (ef ∙ rw en) eo e
 

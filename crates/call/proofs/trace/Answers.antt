@@ -9,7 +9,7 @@ use lib.Dec.{ltb}
 use lib.ListN.{length, take, drop}
 use lib.Seq.{length-take-le}
 use borrow.Author.Tests.{ltb-false}
-use Rattle.logic.specs.Test.{if◌then◌else◌}
+use Rattle.logic.specs.Test.{when◌then◌else◌}
 use Rattle.logic.specs.laws.Test.{neither}
 use Rattle.options.specs.Word.{unknown_bit}
 use Rattle.refusal.specs.declared.Refusal.TheVariants as F
@@ -38,23 +38,23 @@ module _ (options word : ℕ) (commands text t fields names : List ℕ) (made : 
   given = answer (batch options commands text) (lent t fields names)
 
   unknown_option_lem : unknown ≡ true → answer_by (O.Refused F.UnknownOption 0) (lent t fields names) ≡ given
-  unfolding answer if◌then◌else◌
+  unfolding answer when◌then◌else◌
   unknown_option_lem e = rw (← made, ← u, e) refl
 
   module _ (known : unknown ≡ false) where
     short_table_lem : length t < table_words → answer_by (O.Refused F.ShortTable 0) (lent t fields names) ≡ given
-    unfolding answer if◌then◌else◌
+    unfolding answer when◌then◌else◌
     short_table_lem s = rw (← made, ← u, known, lt-ltb (length t) table_words s) refl
 
     module _ (room : table_words ≤ length t) (long : Bool) (l : long ≡ (ltb input_limit (length commands) || ltb input_limit (length text))) where
       long_input_lem : long ≡ true → answer_by (O.Refused F.LongInput 0) (lent t fields names) ≡ given
-      unfolding answer if◌then◌else◌
+      unfolding answer when◌then◌else◌
       long_input_lem e = rw (← made, ← u, known, le-ltb (length t) table_words room, ← l, e) refl
 
       traced : (o : Outcome) (ended records written : List ℕ) → long ≡ false →
           answer_by o (lent ended records written) ≡ answer_of (batch word commands text) (lent (take table_words t) fields names) (schema_of (batch word commands text)) →
           answer_by o (lent (ended ++ drop table_words t) records written) ≡ given
-      unfolding answer if◌then◌else◌
+      unfolding answer when◌then◌else◌
       traced o ended records written e q =
           rw (← made, ← u, known, le-ltb (length t) table_words room, ← l, e)
           (lent_is_answer t room o (batch word commands text) ended fields names records written (schema_of (batch word commands text)) q)

@@ -7,7 +7,7 @@ use Rattle.std.proofs.Math.Bool.{true, false}
 use Rattle.std.proofs.lemmas.Bool.{false≢true}
 use Rattle.std.proofs.Math.Option.{Option, none, some}
 use native.Mathlib.Omega.{arith}
-use Rattle.logic.specs.Test.{if◌then◌else◌}
+use Rattle.logic.specs.Test.{when◌then◌else◌}
 use Rattle.refusal.specs.Number.{number_of, short_buffer}
 use Rattle.words.specs.Word.{table_words, IsTable, is_order, cleared_to, zeros}
 use Rattle.words.specs.laws.Word.{cleared_zeros}
@@ -78,8 +78,8 @@ abbrev Stands : {A : Type 0} → ℕ → Result A → Type 0
 Stands end (accepted a) = Unit {0}
 Stands end (refused number place) = place ≡ end
 
-if_stands : {A : Type 0} (end : ℕ) (t : Bool) (a b : Result A) → Stands end a → Stands end b → Stands end (if t then a else b)
-unfolding if◌then◌else◌
+if_stands : {A : Type 0} (end : ℕ) (t : Bool) (a b : Result A) → Stands end a → Stands end b → Stands end (when t then a else b)
+unfolding when◌then◌else◌
 if_stands end true a b h k = h
 if_stands end false a b h k = k
 
@@ -116,10 +116,10 @@ module _ (options : ℕ) (commands text t fields names : List ℕ) (bytes : Byte
 
   -- a schema that fits both buffers, or does not
   fits_or_not : (schema : Fields) (isLong : Bool) (a : Answered) →
-      a ≡ (if isLong then answered (E.Refused F.ShortBuffer) fields names
+      a ≡ (when isLong then answered (E.Refused F.ShortBuffer) fields names
       else answered (E.Schema (count_in schema) (length (names_in schema)) (columns_in schema)) (written (records_in schema) fields) (written (names_in schema) names)) →
-      ended (as_given (length commands) a) ≡ (if isLong then turned_down short_buffer (length commands) (zeroed (lent t fields names)) else with_schema schema (lent t fields names))
-  unfolding if◌then◌else◌
+      ended (as_given (length commands) a) ≡ (when isLong then turned_down short_buffer (length commands) (zeroed (lent t fields names)) else with_schema schema (lent t fields names))
+  unfolding when◌then◌else◌
   fits_or_not schema true a e = rw (e, zeros_are) refl
   fits_or_not schema false a e = rw (e, zeros_are) refl
 
@@ -171,13 +171,13 @@ module _ (t : List ℕ) (long : table_words ≤ length t) where
   widened_by (O.Refused refusal place) u fields names = refl
 
   widened_of : (b : M.Batch) (fields names : List ℕ) (r : Result Fields) → widened (answer_of b (lent (take table_words t) fields names) r) ≡ answer_of b (lent t fields names) r
-  unfolding answer_of if◌then◌else◌
+  unfolding answer_of when◌then◌else◌
   widened_of b fields names (refused refusal place) = rw (cleared_part table_words t) refl
   widened_of b fields names (accepted schema) = go (is_short schema (lent t fields names))
     where
-      go : (short : Bool) → widened (if short then turned_down short_buffer (length b.commands)
+      go : (short : Bool) → widened (when short then turned_down short_buffer (length b.commands)
           (zeroed (lent (take table_words t) fields names)) else with_schema schema (lent (take table_words t) fields names))
-          ≡ (if short then turned_down short_buffer (length b.commands) (zeroed (lent t fields names)) else with_schema schema (lent t fields names))
+          ≡ (when short then turned_down short_buffer (length b.commands) (zeroed (lent t fields names)) else with_schema schema (lent t fields names))
       go true = rw (cleared_part table_words t) refl
       go false = rw (cleared_part table_words t) refl
 

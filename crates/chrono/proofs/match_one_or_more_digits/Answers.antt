@@ -7,7 +7,7 @@ use native.Mathlib.Omega.{arith}
 use lib.ListN.{drop}
 use borrow.Author.Rules.{rules}
 use borrow.Author.Tests.{eq-eqb, ne_eqb}
-use Rattle.logic.specs.Test.{if◌then◌else◌}
+use Rattle.logic.specs.Test.{when◌then◌else◌}
 use Rattle.chrono.specs.declared.Matched.TheVariants.{Rest, No}
 use Rattle.chrono.specs.Grammar.{many}
 use Rattle.chrono.specs.Scan.{run, scan}
@@ -15,11 +15,11 @@ use Rattle.chrono.proofs.match_one_or_more_digits.Goals as goal
 
 module _ (t : ℕ → Bool) (s : List ℕ) (i end : ℕ) (e : end ≡ i + run t (drop i s)) where
   many_none : end ≡ i → No ≡ scan (many t) s i
-  unfolding scan if◌then◌else◌
+  unfolding scan when◌then◌else◌
   many_none f = let z : run t (drop i s) ≡ 0 = omega arith in rw (eq-eqb (run t (drop i s)) 0 z)
 
   many_some : (end ≡ i → ⊥) → Rest end ≡ scan (many t) s i
-  unfolding scan if◌then◌else◌
+  unfolding scan when◌then◌else◌
   many_some f =
       let z : run t (drop i s) ≡ 0 → ⊥ = λ z. f (omega arith) in
       rw (ne_eqb (run t (drop i s)) 0 z) (ap Rest e)

@@ -1,6 +1,6 @@
 -- Texts that are dates and times, and some that are none. No proof cites them: they show that the grammars take what document 01 says.
 use Rattle.std.specs.Prelude.{◌≡◌, refl, true, false, List, [], ◌∷◌, ◌++◌, ℕ, ◌+◌, ◌^◌}
-use Rattle.logic.specs.Test.{if◌then◌else◌}
+use Rattle.logic.specs.Test.{when◌then◌else◌}
 use Rattle.datatype.specs.Codes.{large_utf8, timestamp_utc}
 use Rattle.chrono.specs.Grammar.{fits, leads, leads_many}
 use Rattle.chrono.specs.Date.{blank, minus, dot, 0', 9', colon, T', Z', naive_date, naive_time, naive_datetime, utc_datetime}
@@ -74,9 +74,9 @@ guessing = 30 + 2 ^ 8
 
 -- P9: it is a string; P10: with Z it is a UTC datetime
 pub blank_string : text_type guessing (day ++ blank ∷ clock) ≡ large_utf8
-unfolding text_type first_fit if◌then◌else◌ fits leads leads_many
+unfolding text_type first_fit when◌then◌else◌ fits leads leads_many
 blank_string = refl
 
 pub Z-utc : text_type guessing (day ++ blank ∷ clock ++ Z' ∷ []) ≡ timestamp_utc
-unfolding text_type first_fit if◌then◌else◌ fits leads leads_many
+unfolding text_type first_fit when◌then◌else◌ fits leads leads_many
 Z-utc = refl

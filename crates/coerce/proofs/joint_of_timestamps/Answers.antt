@@ -7,7 +7,7 @@ use mathlib.Core.List.{List, [], ◌∷◌}
 use Prim.Native.Nat.{ℕ}
 use types.Run.{OneOf, miss}
 use denote.Enum.Declared.{tag_of}
-use Rattle.logic.specs.Test.{if◌then◌else◌}
+use Rattle.logic.specs.Test.{when◌then◌else◌}
 use Rattle.datatype.specs.contracts.DataType.{the_type}
 use Rattle.datatype.specs.declared.Zone.{Zone}
 use Rattle.datatype.specs.declared.Zone.TheVariants as Z
@@ -52,29 +52,29 @@ other_type D.Union h = refl
 
 module _ (word : ℕ) (t u : DataType) where
   no_first : OneOf others (tag_of the_type t) → none ≡ joint_of_timestamps word (code_of t) (code_of u)
-  unfolding joint_of_timestamps if◌then◌else◌
+  unfolding joint_of_timestamps when◌then◌else◌
   no_first h = rw (other_type t h)
 
   no_second : OneOf others (tag_of the_type u) → none ≡ joint_of_timestamps word (code_of t) (code_of u)
-  unfolding joint_of_timestamps if◌then◌else◌
+  unfolding joint_of_timestamps when◌then◌else◌
   no_second h = rw (other_type u h, and-false (is_timestamp (code_of t)))
 
   module _ (x y : Zone) (p : t ≡ D.Timestamp x) (q : u ≡ D.Timestamp y) where
     naive : x ≡ Z.Naive → y ≡ Z.Naive → some (code_of (D.Timestamp x)) ≡ joint_of_timestamps word (code_of t) (code_of u)
-    unfolding joint_of_timestamps if◌then◌else◌
+    unfolding joint_of_timestamps when◌then◌else◌
     naive e f = rw (p, q, e, f)
 
     utc : x ≡ Z.Utc → y ≡ Z.Utc → some (code_of (D.Timestamp x)) ≡ joint_of_timestamps word (code_of t) (code_of u)
-    unfolding joint_of_timestamps if◌then◌else◌
+    unfolding joint_of_timestamps when◌then◌else◌
     utc e f = rw (p, q, e, f)
 
     module _ (s : ℕ) (g : s ≡ string_type word) where
       naive_utc : x ≡ Z.Naive → y ≡ Z.Utc → some s ≡ joint_of_timestamps word (code_of t) (code_of u)
-      unfolding joint_of_timestamps if◌then◌else◌
+      unfolding joint_of_timestamps when◌then◌else◌
       naive_utc e f = rw (p, q, e, f, g)
 
       utc_naive : x ≡ Z.Utc → y ≡ Z.Naive → some s ≡ joint_of_timestamps word (code_of t) (code_of u)
-      unfolding joint_of_timestamps if◌then◌else◌
+      unfolding joint_of_timestamps when◌then◌else◌
       utc_naive e f = rw (p, q, e, f, g)
 
 pub returns-in_default : goal.returns-in_default

@@ -7,7 +7,7 @@ use Prim.Native.Nat.{ℕ, ◌+◌, ◌-◌, ◌≤◌}
 use native.Mathlib.Omega.{arith}
 use lib.Dec.{eqb, leb}
 use lib.ListN.{get_or}
-use Rattle.logic.specs.Test.{if◌then◌else◌}
+use Rattle.logic.specs.Test.{when◌then◌else◌}
 use Rattle.logic.specs.laws.Test.{both}
 use Rattle.logic.specs.laws.Table.{every, every_row, row_at}
 use Rattle.datatype.specs.declared.DataType.{DataType}
@@ -45,7 +45,7 @@ table =
     []
 
 rule : (a b : ℕ) → Numbers a b → code_of (get_or (get_or table (a - int8) []) (b - int8) Null) ≡ number_joint a b
-unfolding table every_row every number_joint if◌then◌else◌
+unfolding table every_row every number_joint when◌then◌else◌
 rule a b (p, q, r, s) =
     let x : int8 + (a - int8) ≡ a = omega arith in
     let y : int8 + (b - int8) ≡ b = omega arith in

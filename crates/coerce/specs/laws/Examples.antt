@@ -1,7 +1,7 @@
 -- Worked examples of the joint in edition 2 (document 02, 4/14), each computed: what a wrong definition would break.
 use Rattle.std.specs.Prelude.{◌≡◌, refl, List, [], ◌∷◌, ℕ, ◌+◌}
 use Rattle.std.proofs.Math.Option.{Option, none, some}
-use Rattle.logic.specs.Test.{if◌then◌else◌}
+use Rattle.logic.specs.Test.{when◌then◌else◌}
 use Rattle.logic.specs.Maybe.{and_then}
 use Rattle.datatype.specs.Codes.{int8, int32, int64, uint8, uint16, uint32, uint64, float32, float64, utf8}
 use Rattle.coerce.specs.Joint.{number_joint, joint_of_numbers, joint_with_string, joint_of_timestamps, joint_of_unequal, joint}
@@ -19,7 +19,7 @@ to_string = 1024 + 64 + 128
 
 -- types one after the other
 unfoldable pub types : ℕ → List ℕ → Option ℕ
-unfolding if◌then◌else◌ and_then number_joint joint_of_numbers joint_with_string joint_of_timestamps joint_of_unequal joint joined_from
+unfolding when◌then◌else◌ and_then number_joint joint_of_numbers joint_with_string joint_of_timestamps joint_of_unequal joint joined_from
 types = joined
 
 -- integers join among themselves, a char being a UInt32, and floats too

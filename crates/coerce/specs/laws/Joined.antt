@@ -9,7 +9,7 @@ use mathlib.Core.List.{List, [], ◌∷◌}
 use Prim.Native.Nat.{ℕ, ◌≤◌, ◌<◌}
 use Rattle.std.proofs.Math.Dec.{eqb}
 use Rattle.std.proofs.lemmas.Bool.{not-true}
-use Rattle.logic.specs.Test.{if◌then◌else◌}
+use Rattle.logic.specs.Test.{when◌then◌else◌}
 use Rattle.logic.specs.laws.Test.{cases, if_passed, if_failed}
 use Rattle.logic.specs.laws.Flag.{if_either}
 use Rattle.logic.specs.All.{All, has}
@@ -34,16 +34,16 @@ joined word = joined_from word null
 
 -- a Null changes nothing
 pub joint_null : (word t : ℕ) → joint word t null ≡ some t
-unfolding joint if◌then◌else◌
+unfolding joint when◌then◌else◌
 joint_null word t = cases (eqb t null) (λ e. rw (e, eqb-true t null e)) (λ e. rw e)
 
 pub null_joint : (word t : ℕ) → joint word null t ≡ some t
-unfolding joint if◌then◌else◌
+unfolding joint when◌then◌else◌
 null_joint word t = refl
 
 -- equal types stay
 pub joint_same : (word t : ℕ) → joint word t t ≡ some t
-unfolding joint if◌then◌else◌
+unfolding joint when◌then◌else◌
 joint_same word t = cases (eqb t null) (λ e. rw e) (λ e. rw (e, eq-eqb t t refl))
 
 -- the joint is one of the two types, a wide number type or the string type
@@ -69,7 +69,7 @@ joint_below n word a b u h p q e =
 
 -- the Nulls observed change nothing
 pub joined_non_null : (word t : ℕ) (xs : List ℕ) → joined_from word t (non_null xs) ≡ joined_from word t xs
-unfolding joined_from non_null and_then if◌then◌else◌
+unfolding joined_from non_null and_then when◌then◌else◌
 joined_non_null word t [] = refl
 joined_non_null word t (x ∷ xs) =
     cases (eqb x null)
@@ -85,19 +85,19 @@ joined_absorbed word t (x ∷ xs) h = rw h.0 (joined_absorbed word t xs h.1)
 -- ---- the census
 
 pub all_non_null : (P : ℕ → Type 0) (codes : List ℕ) → All P codes → All P (non_null codes)
-unfolding non_null if◌then◌else◌
+unfolding non_null when◌then◌else◌
 all_non_null P [] h = tt
 all_non_null P (t ∷ ts) h = cases (eqb t null) (λ e. rw e (all_non_null P ts h.1)) (λ e. rw e (h.0, all_non_null P ts h.1))
 
 pub non_null_all : (codes : List ℕ) → All (λ t. eqb t null ≡ false) (non_null codes)
-unfolding non_null if◌then◌else◌
+unfolding non_null when◌then◌else◌
 non_null_all [] = tt
 non_null_all (t ∷ ts) = cases (eqb t null) (λ e. rw e (non_null_all ts)) (λ e. rw e (e, non_null_all ts))
 
 -- several types are told by three families
 pub same_several : (string : ℕ) (xs ys : List ℕ) → has is_string_or_timestamp xs ≡ has is_string_or_timestamp ys → has is_float xs ≡ has is_float ys →
     has is_signed_or_float xs ≡ has is_signed_or_float ys → several_seen string xs ≡ several_seen string ys
-unfolding several_seen if◌then◌else◌
+unfolding several_seen when◌then◌else◌
 same_several string xs ys p q r =
     cases (has is_float ys)
     (λ e. rw (p, q, e))

@@ -8,7 +8,7 @@ use Rattle.std.proofs.Math.Bool.{true, false}
 use Rattle.std.specs.Bool.{beq}
 use Rattle.std.proofs.lemmas.Bool.{false≢true}
 use Rattle.std.proofs.Math.Option.{Option, none, some}
-use Rattle.logic.specs.Test.{if◌then◌else◌}
+use Rattle.logic.specs.Test.{when◌then◌else◌}
 use Rattle.logic.specs.laws.Test.{both, cases, if_passed}
 use Rattle.logic.specs.All.{has}
 use Rattle.logic.specs.Maybe.{and_then, same_maybe}
@@ -21,13 +21,13 @@ use Rattle.coerce.specs.Census.{is_other, is_string_or_timestamp, several_seen}
 
 -- every type that a value can show is among these: those before the dictionaries, and of the string types only the options' own
 unfoldable pub fitting : ℕ → ℕ → Bool
-fitting string t = ltb t dictionary_utf8 && (if is_string t then eqb t string else true)
+fitting string t = ltb t dictionary_utf8 && (when is_string t then eqb t string else true)
 
 abbrev pub Fits : ℕ → ℕ → Type 0
 Fits word t = fitting (string_type word) t ≡ true
 
 pub null_fits : (word : ℕ) → Fits word null
-unfolding fitting if◌then◌else◌
+unfolding fitting when◌then◌else◌
 null_fits word = refl
 
 -- a word for each setting of coerce_numbers, string_as_large_utf8 and the edition
@@ -41,7 +41,7 @@ plain true true true = 1096
 
 module _ (word : ℕ) (off : allow_to_string word ≡ false) where
   alike : (c l e : Bool) → coerce_numbers word ≡ c → string_as_large_utf8 word ≡ l → edition2 word ≡ e → (a b : ℕ) → joint word a b ≡ joint (plain c l e) a b
-  unfolding joint joint_of_unequal joint_of_numbers joint_with_string joint_of_timestamps if◌then◌else◌
+  unfolding joint joint_of_unequal joint_of_numbers joint_with_string joint_of_timestamps when◌then◌else◌
   alike false false e p q r a b = simp (p, q, off)
   alike false true e p q r a b = simp (p, q, off)
   alike true false false p q r a b = simp (p, q, r, off)
@@ -50,7 +50,7 @@ module _ (word : ℕ) (off : allow_to_string word ≡ false) where
   alike true true true p q r a b = simp (p, q, r, off)
 
   alike_string : (c l e : Bool) → string_as_large_utf8 word ≡ l → string_type word ≡ string_type (plain c l e)
-  unfolding if◌then◌else◌
+  unfolding when◌then◌else◌
   alike_string false false e q = rw q
   alike_string false true e q = rw q
   alike_string true false false q = rw q
@@ -76,7 +76,7 @@ settled rule t word off =
 
 -- the test passes at every type below n that fits
 for_fitting : ℕ → ℕ → (ℕ → Bool) → Bool
-for_fitting string n p = all_below n (λ t. if fitting string t then p t else true)
+for_fitting string n p = all_below n (λ t. when fitting string t then p t else true)
 
 -- and at every type that fits
 for_all : ℕ → (ℕ → Bool) → Bool
@@ -85,12 +85,12 @@ for_all string p = for_fitting string dictionary_utf8 p
 
 for_fitting_lem : (string n : ℕ) (p : ℕ → Bool) → for_fitting string n p ≡ true → (t : ℕ) → t < n → fitting string t ≡ true → p t ≡ true
 unfolding for_fitting
-for_fitting_lem string n p e t h f = sym (if_passed true f) ∙ below_at n (λ t. if fitting string t then p t else true) e t h
+for_fitting_lem string n p e t h f = sym (if_passed true f) ∙ below_at n (λ t. when fitting string t then p t else true) e t h
 
 for_all_lem : (string : ℕ) (p : ℕ → Bool) → for_all string p ≡ true → (t : ℕ) → fitting string t ≡ true → p t ≡ true
 unfolding for_all fitting
 for_all_lem string p e t f =
-    both (ltb t dictionary_utf8) (if is_string t then eqb t string else true) f λ below own.
+    both (ltb t dictionary_utf8) (when is_string t then eqb t string else true) f λ below own.
     for_fitting_lem string dictionary_utf8 p e t (ltb-true t dictionary_utf8 below) f
 
 -- what the test says of the joint, where there is one
@@ -109,7 +109,7 @@ swaps joint string =
     same_maybe (and_then (joint t a) (λ u. joint u b)) (and_then (joint t b) (λ u. joint u a))
 
 swaps_hold : (c l e : Bool) → under swaps (plain c l e) ≡ true
-unfolding for_all for_fitting all_below fitting same_maybe and_then joint joint_of_unequal joint_of_numbers number_joint joint_with_string joint_of_timestamps if◌then◌else◌
+unfolding for_all for_fitting all_below fitting same_maybe and_then joint joint_of_unequal joint_of_numbers number_joint joint_with_string joint_of_timestamps when◌then◌else◌
 swaps_hold false false e = refl
 swaps_hold false true e = refl
 swaps_hold true false false = refl
@@ -136,10 +136,10 @@ joins joint string =
     (shows is_string_or_timestamp a b u &&
     (shows is_float a b u &&
     (shows is_signed_or_float a b u &&
-    (if takes_in a b u then eqb u (several_seen string (u ∷ [])) else true)))))
+    (when takes_in a b u then eqb u (several_seen string (u ∷ [])) else true)))))
 
 joins_hold : (c l e : Bool) → under joins (plain c l e) ≡ true
-unfolding for_all for_fitting on_some all_below fitting same_maybe several_seen has joint joint_of_unequal joint_of_numbers number_joint joint_with_string joint_of_timestamps if◌then◌else◌
+unfolding for_all for_fitting on_some all_below fitting same_maybe several_seen has joint joint_of_unequal joint_of_numbers number_joint joint_with_string joint_of_timestamps when◌then◌else◌
 joins_hold false false e = refl
 joins_hold false true e = refl
 joins_hold true false false = refl

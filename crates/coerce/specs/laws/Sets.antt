@@ -9,7 +9,7 @@ use Rattle.std.proofs.lemmas.Bool.{false≢true, not-false}
 use Rattle.std.proofs.Math.Option.{Option, none, some, none-ne-some}
 use mathlib.Core.List.{List, [], ◌∷◌}
 use Prim.Native.Nat.{ℕ, ◌≤◌}
-use Rattle.logic.specs.Test.{if◌then◌else◌}
+use Rattle.logic.specs.Test.{when◌then◌else◌}
 use Rattle.logic.specs.laws.Test.{both, cases, neither}
 use Rattle.logic.specs.laws.Flag.{if_either}
 use Rattle.logic.specs.All.{All, has}
@@ -36,7 +36,7 @@ one_seen x y xs ys s e =
     (sym same, rw same rest)
 
 pub type_seen_same : (word : ℕ) (xs ys : List ℕ) → Same xs ys → type_seen word xs ≡ type_seen word ys
-unfolding type_seen has if◌then◌else◌
+unfolding type_seen has when◌then◌else◌
 type_seen_same word [] [] s = refl
 type_seen_same word [] (y ∷ ys) s = absurd (false≢true (s (λ t. true)))
 type_seen_same word (x ∷ xs) [] s = absurd (false≢true (sym (s (λ t. true))))
@@ -49,7 +49,7 @@ type_seen_same word (x ∷ xs) (y ∷ ys) s =
 
 -- Nulls aside they hold the same too
 has_non_null : (p : ℕ → Bool) (ts : List ℕ) → has p (non_null ts) ≡ has (λ t. is_other null t && p t) ts
-unfolding non_null has if◌then◌else◌
+unfolding non_null has when◌then◌else◌
 has_non_null p [] = refl
 has_non_null p (t ∷ ts) = cases (eqb t null) (λ e. rw e (has_non_null p ts)) (λ e. rw (e, has_non_null p ts))
 
@@ -58,7 +58,7 @@ same_non_null xs ys s p = has_non_null p xs ∙ s (λ t. is_other null t && p t)
 
 -- in edition 2 a float and an integer have no joint
 apart : (word : ℕ) → edition2 word ≡ true → (a b : ℕ) → is_float a ≡ true → is_integer b ≡ true → joint word a b ≡ none
-unfolding joint joint_of_unequal joint_of_numbers if◌then◌else◌
+unfolding joint joint_of_unequal joint_of_numbers when◌then◌else◌
 apart word second a b f i =
     both (leb float32 a) (leb a float64) f λ above below.
     both (leb int8 b) (leb b uint64) i λ low high.

@@ -7,7 +7,7 @@ use mathlib.Core.Bool.{Bool, true, false, not}
 use mathlib.Core.List.{List}
 use Prim.Native.Nat.{ℕ, ◌+◌, ◌-◌, ◌*◌, ◌<◌, ◌≤◌}
 use lib.ListN.{length, get_or}
-use Rattle.logic.specs.Test.{if◌then◌else◌}
+use Rattle.logic.specs.Test.{when◌then◌else◌}
 use Rattle.refusal.specs.declared.Refusal.TheVariants as F
 use Rattle.commands.specs.declared.Command.{Command}
 use Rattle.commands.specs.declared.Due.{Due}
@@ -18,18 +18,18 @@ use Rattle.commands.specs.laws.Counted.{among_is}
 use Rattle.commands.proofs.read_command.Goals as goal
 
 none_left : (commands text : List ℕ) (at : ℕ) (due : Due) → length commands ≤ at → R.Refused F.BadCommand at ≡ read_command commands text at due
-unfolding read_command bad_command if◌then◌else◌
+unfolding read_command bad_command when◌then◌else◌
 none_left commands text at due h = rw (le-leb _ _ h)
 
 module _ (commands text : List ℕ) (at : ℕ) (due : Due) (byte : ℕ) (is : byte ≡ get_or commands at 0) (left : at < length commands) where
   unknown : 28 ≤ byte → R.Refused F.BadCommand at ≡ read_command commands text at due
-  unfolding read_command bad_command if◌then◌else◌
+  unfolding read_command bad_command when◌then◌else◌
   unknown h = rw (← is, lt-leb _ _ left, le-leb _ _ h)
 
 module _ (commands text : List ℕ) (at : ℕ) (due : Due) (byte : ℕ) (is : byte ≡ get_or commands at 0) (count : ℕ) (left : at < length commands)
     (known : byte < 28) (counts : count ≡ operands (form_of byte)) where
   cut_off : length commands - at < 1 + 2 * count → R.Refused F.BadCommand at ≡ read_command commands text at due
-  unfolding read_command bad_command if◌then◌else◌
+  unfolding read_command bad_command when◌then◌else◌
   cut_off h =
       let short : length commands < at + width (form_of byte) = omega arith in
       rw (← is, lt-leb _ _ left, lt-leb _ _ known, lt-ltb _ _ short)
@@ -44,7 +44,7 @@ module _ (commands text : List ℕ) (at : ℕ) (due : Due) (byte : ℕ) (is : by
       rw (← is, lt-leb _ _ left, lt-leb _ _ known, le-ltb _ _ long, stood)
 
   misplaced : not admitted ≡ true → R.Refused F.BadCommand at ≡ read_command commands text at due
-  unfolding read_command if◌then◌else◌
+  unfolding read_command when◌then◌else◌
   misplaced h = rw (by_standing, h)
 
   placed : not admitted ≡ false → bad_command commands at due ≡ false
@@ -57,16 +57,16 @@ module _ (commands text : List ℕ) (at : ℕ) (due : Due) {byte : ℕ} (is : by
   by_name_lem = rw (← is, named, counts, among_is)
 
   misnamed : bad ≡ true → R.Refused F.BadName at ≡ read_command commands text at due
-  unfolding read_command if◌then◌else◌
+  unfolding read_command when◌then◌else◌
   misnamed h = rw (stands_there, by_name_lem, h)
 
   module _ {key : Bool} (well-named : bad ≡ false) (keyed : key ≡ bad_key due byte) where
     no_key : key ≡ true → R.Refused F.BadKey at ≡ read_command commands text at due
-    unfolding read_command if◌then◌else◌
+    unfolding read_command when◌then◌else◌
     no_key h = rw (stands_there, by_name_lem, well-named, ← is, ← keyed, h)
 
     read : {command : Command} → key ≡ false → command ≡ made (form_of byte) commands (at + 1) → R.Command command (at + (1 + 2 * count)) ≡ read_command commands text at due
-    unfolding read_command if◌then◌else◌
+    unfolding read_command when◌then◌else◌
     read h e = rw (stands_there, by_name_lem, well-named, ← is, ← keyed, h, e, counts)
 
 pub returns-then-commands-at : goal.returns-then-commands-at

@@ -8,7 +8,7 @@ use Rattle.std.proofs.lemmas.Bool.{false≢true}
 use Rattle.std.proofs.Math.Option.{Option, none, some}
 use borrow.Author.Tests.{leb-true, leb-false, lt-leb, ltb-false, le-ltb, eqb-true, not-false}
 use Rattle.std.proofs.Math.ListN.{length, get_or, get_or-map}
-use Rattle.logic.specs.Test.{if◌then◌else◌}
+use Rattle.logic.specs.Test.{when◌then◌else◌}
 use Rattle.logic.specs.laws.Test.{cases, both, neither}
 use Rattle.logic.specs.laws.Flag.{if_either}
 use Rattle.text.specs.declared.Name.{Name}
@@ -109,8 +109,8 @@ made_name byte commands at =
     sym (get_or-map (λ (form : Form). name_of (made form commands at)) forms byte (plain C.Unit)) ∙ get_or-map (λ (form : Form). name_in form commands at) forms byte (plain C.Unit)
 
 -- a choice that gives something else than its first side went on
-went_on : {A P : Type 0} (test : Bool) (a b x : A) → (if test then a else b) ≡ x → (a ≡ x → ⊥) → (test ≡ false → b ≡ x → P) → P
-unfolding if◌then◌else◌
+went_on : {A P : Type 0} (test : Bool) (a b x : A) → (when test then a else b) ≡ x → (a ≡ x → ⊥) → (test ≡ false → b ≡ x → P) → P
+unfolding when◌then◌else◌
 went_on true a b x e n k = absurd (n e)
 went_on false a b x e n k = k refl e
 
@@ -189,11 +189,11 @@ module _ (commands text : List ℕ) (at : ℕ) (due : Due) (byte : ℕ) (is : ge
 
   pub read_made : bad_name text (name_in (form_of byte) commands (at + 1)) ≡ false → bad_key due byte ≡ false →
       read_command commands text at due ≡ R.Command (made (form_of byte) commands (at + 1)) (at + width (form_of byte))
-  unfolding read_command if◌then◌else◌
+  unfolding read_command when◌then◌else◌
   read_made n k = rw (whole, is, n, k)
 
   pub read_misnamed : bad_name text (name_in (form_of byte) commands (at + 1)) ≡ true → read_command commands text at due ≡ R.Refused F.BadName at
-  unfolding read_command if◌then◌else◌
+  unfolding read_command when◌then◌else◌
   read_misnamed n = rw (whole, is, n)
 
 -- where no end stands, a field that is due is one (16), and a key under map_as_struct is text (0D), with the name behind the byte

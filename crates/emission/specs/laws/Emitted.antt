@@ -5,7 +5,7 @@ use Rattle.std.proofs.Math.Path.{refl}
 use Rattle.std.proofs.Common.{sym, arith}
 use Rattle.std.proofs.Math.Bool.{false}
 use Rattle.std.proofs.Math.Option.{none, some}
-use Rattle.logic.specs.Test.{if◌then◌else◌}
+use Rattle.logic.specs.Test.{when◌then◌else◌}
 use Rattle.datatype.specs.Codes.{null, struct}
 use Rattle.refusal.specs.Number.{nullable_root, null_root, root_not_struct}
 use Rattle.equality.specs.laws.Base.{not_refused}
@@ -24,28 +24,25 @@ use Rattle.walk.specs.declared.Walked.TheVariants as W
 use Rattle.walk.specs.Walk.{walked}
 use Rattle.schema.specs.Emit.{Answered, level_limit, finished, on_walked, to_schema_at}
 use Rattle.emission.specs.laws.order.Arranged.{Orders, FitS}
-use Rattle.emission.specs.laws.order.Links.{orders}
-use Rattle.emission.specs.laws.tree.Fit.{fit}
 use Rattle.emission.specs.laws.firstwalk.Places.{many_s}
 use Rattle.emission.specs.laws.firstwalk.Children.{fields_of_field}
 use Rattle.emission.specs.laws.firstwalk.Walk.{Sane, SaneIn, WalkSays, first_walk}
 use Rattle.emission.specs.laws.secondwalk.Words.{Neat, NeatIn}
-use Rattle.emission.specs.laws.secondwalk.Neat.{neat}
 use Rattle.emission.specs.laws.secondwalk.Root.{finishes}
 use Rattle.emission.specs.Emits.{Finishes, Emits}
 
 -- the root's fields, where they are accepted
-accepted_if : (t : Bool) (fs : Fields) (refusal place : ℕ) (r : Result Fields) (schema : Fields) → accepted schema ≡ (if t then refused refusal place else r) → accepted schema ≡ r
-unfolding if◌then◌else◌
+accepted_if : (t : Bool) (fs : Fields) (refusal place : ℕ) (r : Result Fields) (schema : Fields) → accepted schema ≡ (when t then refused refusal place else r) → accepted schema ≡ r
+unfolding when◌then◌else◌
 accepted_if true fs refusal place r schema e = not_refused (sym e)
 accepted_if false fs refusal place r schema e = e
 
 root_fields_lem : (end : ℕ) (f : Field) (schema : Fields) → accepted schema ≡ root_fields end f → schema ≡ fields_of_field f
-unfolding if◌then◌else◌
+unfolding when◌then◌else◌
 root_fields_lem end (mk type nullable strategy number name fs) schema e =
     last (eqb type struct) (accepted_if (eqb type null) fs null_root end _ schema (accepted_if nullable fs nullable_root end _ schema e))
   where
-    last : (t : Bool) → accepted schema ≡ (if t then accepted fs else refused root_not_struct end) → schema ≡ fs
+    last : (t : Bool) → accepted schema ≡ (when t then accepted fs else refused root_not_struct end) → schema ≡ fs
     last true q = cc
     last false q = not_refused (sym q)
 

@@ -2,7 +2,7 @@
 use Rattle.std.specs.Prelude.{◌≡◌, refl, Bool, true, false, ◌&&◌, ◌||◌, List, ℕ, eqb}
 use Rattle.std.proofs.Common.{sym, ◌∙◌, true≢false, eqb-true}
 use Rattle.std.proofs.lemmas.Bool.{false≢true}
-use Rattle.logic.specs.Test.{if◌then◌else◌}
+use Rattle.logic.specs.Test.{when◌then◌else◌}
 use Rattle.logic.specs.laws.Test.{cases}
 use Rattle.datatype.specs.Codes.{null, utf8, large_utf8, struct}
 use Rattle.options.specs.Word.{string_dictionary_encoding, string_as_large_utf8, sequence_as_large_list, enums_without_data_as_strings, list_type, dictionary_type}
@@ -10,15 +10,15 @@ use Rattle.model.specs.Kinds.{sequence_kind, union_kind}
 use Rattle.model.specs.Emission.{shown, Places, dataless, Field, mk, emits_struct, type_of, field_of}
 
 dictionary_type_lem : (options : ℕ) → (eqb (dictionary_type options) null ≡ false) × (eqb (dictionary_type options) struct ≡ false)
-unfolding if◌then◌else◌
+unfolding when◌then◌else◌
 dictionary_type_lem options = cases (string_as_large_utf8 options) (λ e. rw e (refl, refl)) (λ e. rw e (refl, refl))
 
 list_type_lem : (options : ℕ) → (eqb (list_type options) null ≡ false) × (eqb (list_type options) struct ≡ false)
-unfolding if◌then◌else◌
+unfolding when◌then◌else◌
 list_type_lem options = cases (sequence_as_large_list options) (λ e. rw e (refl, refl)) (λ e. rw e (refl, refl))
 
 type_null : (options k : ℕ) → eqb (type_of options k) null ≡ eqb k null
-unfolding type_of if◌then◌else◌
+unfolding type_of when◌then◌else◌
 type_null options k =
     cases (eqb k sequence_kind) (λ e. let z : k ≡ sequence_kind = eqb-true k sequence_kind e in rw e ((list_type_lem options).0 ∙ rw z refl)) (λ e. rw e (
     cases (emits_struct k) (λ f. rw f (sym (struct_null f))) (λ f. rw f (
@@ -31,7 +31,7 @@ type_null options k =
     text_null f = cases (eqb k null) (λ z. absurd (false≢true (let w : k ≡ null = eqb-true k null z in rw w at f))) (λ z. z)
 
 type_struct : (options k : ℕ) → eqb (type_of options k) struct ≡ emits_struct k
-unfolding type_of if◌then◌else◌
+unfolding type_of when◌then◌else◌
 type_struct options k =
     cases (eqb k sequence_kind) (λ e. let z : k ≡ sequence_kind = eqb-true k sequence_kind e in rw e ((list_type_lem options).1 ∙ rw z refl)) (λ e. rw e (
     cases (emits_struct k) (λ f. rw f refl) (λ f. rw f (
@@ -45,7 +45,7 @@ abbrev pub Typed : Bool → ℕ → Field → Type 0
 Typed b k (mk type nullable strategy number name fs) = (nullable ≡ b) × (eqb type null ≡ eqb k null) × (eqb type struct ≡ emits_struct k)
 
 pub field_type : (options : ℕ) (name : List ℕ) (number : ℕ) (b : Bool) (k : ℕ) (ps : Places) → Typed b k (field_of options name number (shown b k ps))
-unfolding field_of if◌then◌else◌
+unfolding field_of when◌then◌else◌
 field_type options name number b k ps =
     cases (eqb k union_kind && dataless ps && enums_without_data_as_strings options)
     (λ d. let z : k ≡ union_kind = eqb-true k union_kind (first (eqb k union_kind) (dataless ps) (enums_without_data_as_strings options) d) in

@@ -2,7 +2,7 @@
 use Rattle.std.specs.Prelude.{◌≡◌, refl, Bool, true, false, not, ◌&&◌, ◌||◌, List, [], ◌∷◌, ℕ, zero, suc}
 use Rattle.std.proofs.Common.{sym, ap, ◌∙◌, true≢false, arith}
 use Rattle.std.proofs.lemmas.Bool.{false≢true}
-use Rattle.logic.specs.Test.{if◌then◌else◌}
+use Rattle.logic.specs.Test.{when◌then◌else◌}
 use Rattle.logic.specs.laws.Test.{same_test}
 use Rattle.text.specs.laws.Name.{eq_name_true, eq_name_refl}
 use Rattle.model.specs.Result.{Result, accepted, refused, ◌>>=◌}
@@ -22,8 +22,8 @@ pub not_refused : {A P : Type 0} {n at : ℕ} {a : A} → refused n at ≡ accep
 not_refused e = absurd (let z : ◌≡◌ {A = ℕ} 0 1 = cc in omega arith)
 
 -- ---- tests
-pub if_ap : {A B : Type 0} (f : A → B) (t : Bool) (a b : A) → f (if t then a else b) ≡ (if t then f a else f b)
-unfolding if◌then◌else◌
+pub if_ap : {A B : Type 0} (f : A → B) (t : Bool) (a b : A) → f (when t then a else b) ≡ (when t then f a else f b)
+unfolding when◌then◌else◌
 if_ap f true a b = refl
 if_ap f false a b = refl
 
@@ -97,12 +97,12 @@ pub same_sym : (s r : Step) → same s r ≡ same r s
 same_sym s r = same_test (same s r) (same r s) (λ e. rw (same_true s r e) (same_refl r)) (λ e. rw (same_true r s e) (same_refl s))
 
 -- what holds of both of a choice, or of two choices by one test
-pub choice : {A : Type 0} (P : A → Type 0) (t : Bool) {a b : A} → (t ≡ true → P a) → (t ≡ false → P b) → P (if t then a else b)
-unfolding if◌then◌else◌
+pub choice : {A : Type 0} (P : A → Type 0) (t : Bool) {a b : A} → (t ≡ true → P a) → (t ≡ false → P b) → P (when t then a else b)
+unfolding when◌then◌else◌
 choice P true f g = f refl
 choice P false f g = g refl
 
-pub choices : {A : Type 0} (R : A → A → Type 0) (t : Bool) {a b c d : A} → R a c → R b d → R (if t then a else b) (if t then c else d)
-unfolding if◌then◌else◌
+pub choices : {A : Type 0} (R : A → A → Type 0) (t : Bool) {a b c d : A} → R a c → R b d → R (when t then a else b) (when t then c else d)
+unfolding when◌then◌else◌
 choices R true p q = p
 choices R false p q = q

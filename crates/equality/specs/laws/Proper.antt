@@ -1,7 +1,7 @@
 -- What reading guarantees of values, and tracing of places: kinds are those that the options let a batch show, and steps those of their
 -- container.
 use Rattle.std.specs.Prelude.{Bool, true, not, ◌&&◌, ◌||◌, List, [], ◌∷◌, ℕ, suc, eqb, ltb}
-use Rattle.logic.specs.Test.{if◌then◌else◌}
+use Rattle.logic.specs.Test.{when◌then◌else◌}
 use Rattle.datatype.specs.Codes.{binary, large_binary, dictionary_utf8}
 use Rattle.options.specs.Word.{string_type, binary_type}
 use Rattle.coerce.specs.Joint.{is_string}
@@ -19,7 +19,7 @@ is_binary kind = eqb kind binary || eqb kind large_binary
 -- a type that some text or value can show under the options
 abbrev pub type_fits : ℕ → ℕ → Bool
 type_fits options kind =
-    ltb kind dictionary_utf8 && (if is_string kind then eqb kind (string_type options) else if is_binary kind then eqb kind (binary_type options) else true)
+    ltb kind dictionary_utf8 && (when is_string kind then eqb kind (string_type options) else when is_binary kind then eqb kind (binary_type options) else true)
 
 abbrev pub kind_fits : ℕ → ℕ → Bool
 kind_fits options kind = is_container_kind kind || type_fits options kind
@@ -35,7 +35,7 @@ part_fits kind i (variant number name) = eqb kind union_kind && eqb i 0
 
 -- a tuple has all its positions, and a union's value its one variant
 abbrev pub end_fits : ℕ → ℕ → ℕ → Bool
-end_fits kind positions i = if eqb kind tuple_kind then eqb i positions else if eqb kind union_kind then eqb i 1 else true
+end_fits kind positions i = when eqb kind tuple_kind then eqb i positions else when eqb kind union_kind then eqb i 1 else true
 
 unfoldable mutual
   pub is_proper : ℕ → Value → Bool

@@ -1,7 +1,7 @@
 -- `add` appends a child, gives it its tag and enters it into the search tree, where there is room.
 use Rattle.std.proofs.Common.{◌≡◌, ℕ, ◌+◌, ◌<◌, ◌≤◌, List, rules, le-leb}
 use borrow.Author.Tests.{lt-leb}
-use Rattle.logic.specs.Test.{if◌then◌else◌}
+use Rattle.logic.specs.Test.{when◌then◌else◌}
 use Rattle.refusal.specs.declared.Refusal.TheVariants as F
 use Rattle.text.specs.declared.Name.{Name}
 use Rattle.text.specs.Name.{bytes_of}
@@ -18,13 +18,13 @@ use Rattle.growth.proofs.add.Goals as goal
 
 module _ (text t : List ℕ) (n place code : ℕ) (name : Name) where
   full : place_limit ≤ n → ensuring (E.Refused F.TooManyPlaces) t ≡ ensured_by text place code name n t 0
-  unfolding ensured_by if◌then◌else◌
+  unfolding ensured_by when◌then◌else◌
   full m = rw (le-leb place_limit n m)
 
   module _ (u v x w : List ℕ) (tag position : ℕ) (room : n < place_limit) (i : position ≡ position_in place t) (a : u ≡ appended place code name n t)
       (b : tag ≡ tag_of (bytes_of text name)) (d : v ≡ with_word u n tag_word tag) (g : x ≡ with_word v n position_word position) (f : w ≡ entered place code n x) where
     new : ensuring (E.Child n (n + 1)) w ≡ ensured_by text place code name n t 0
-    unfolding ensured_by tagged if◌then◌else◌
+    unfolding ensured_by tagged when◌then◌else◌
     new = rw (lt-leb place_limit n room, f, g, i, d, b, a)
 
     sound : Ready text t n place → Good text name → name.length < 65536 → Sound text w (n + 1)

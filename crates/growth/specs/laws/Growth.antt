@@ -5,7 +5,7 @@ use Rattle.std.proofs.Common.{ap, sym, ◌∙◌, le_refl}
 use Rattle.std.proofs.lemmas.Bool.{false≢true}
 use native.Mathlib.Omega.{arith}
 use borrow.Author.Tests.{eqb-true, eqb-false, ne_eqb}
-use Rattle.logic.specs.Test.{if◌then◌else◌}
+use Rattle.logic.specs.Test.{when◌then◌else◌}
 use Rattle.logic.specs.laws.Test.{cases}
 use Rattle.logic.specs.laws.Flag.{if_either}
 use Rattle.text.specs.declared.Name.{Name}
@@ -46,13 +46,13 @@ sound_touched text t u n place child e h s =
 
 -- and entered into the search tree
 pub sound_entered : (text t u : List ℕ) (n place code : ℕ) → u ≡ entered place code n t → place < n → IsRow n → Sound text t (n + 1) → Sound text u (n + 1)
-unfolding entered if◌then◌else◌
+unfolding entered when◌then◌else◌
 sound_entered text t u n place code e h m s =
     let ends = seek_ends code n t (λ w. is_plain w ≡ true) refl refl refl place h (omega arith) in
     let l = ends.here in
     rw e (if_either (λ x. Sound text x (n + 1)) (is_numbered code) (sound_plain text t (n + 1) _ _ n ends.link (omega (arith, l)) s) s)
 
-pub length_either : (test : Bool) (x y : List ℕ) (n : ℕ) → length x ≡ n → length y ≡ n → length (if test then x else y) ≡ n
+pub length_either : (test : Bool) (x y : List ℕ) (n : ℕ) → length x ≡ n → length y ≡ n → length (when test then x else y) ≡ n
 length_either test x y n e d = if_either (λ z. length z ≡ n) test e d
 
 length_linked : (place child : ℕ) (t : List ℕ) → length (linked place child t) ≡ length t
@@ -73,7 +73,7 @@ module _ (q f v : ℕ) (e : is_aside f ≡ true) (place child : ℕ) (t : List �
   swap u p g w d = with_swap u q f p g v w (aside g d p)
 
   linked_aside : linked place child (with_word t q f v) ≡ with_word (linked place child t) q f v
-  unfolding linked if◌then◌else◌
+  unfolding linked when◌then◌else◌
   linked_aside =
       rw (word_other t q f v place first_word (aside first_word refl place), word_other t q f v place last_word (aside last_word refl place))
       (cases (word t place first_word == 0)
@@ -215,7 +215,7 @@ module _ (text t : List ℕ) (n place : ℕ) (ready : Ready text t n place) (roo
     chained q f l o = chain q f l ∙ word_other (linked place n t) place last_word n q f o
 
     is_appended : Appended t after place n
-    unfolding appended linked if◌then◌else◌
+    unfolding appended linked when◌then◌else◌
     is_appended =
         record {
           parent = parent_appended;
@@ -242,7 +242,7 @@ module _ (text t : List ℕ) (n place : ℕ) (ready : Ready text t n place) (roo
 
     -- places that are not made yet are as they were
     far : (q f : ℕ) → n < q → word after q f ≡ word t q f
-    unfolding appended linked if◌then◌else◌
+    unfolding appended linked when◌then◌else◌
     far q f l =
         let b : place < n = ready.here in
         let k : word t place last_word < n = links.last place (is_place text t n place ready) in
@@ -312,7 +312,7 @@ module _ (text t : List ℕ) (n place : ℕ) (step : Step) where
 
   -- it is the child found, or place n
   ensured_says : (P : ℕ → ℕ → Type 0) → ((sought ≢ 0) → P sought n) → P n (n + 1) → OnChild P (ensured text place step n t)
-  unfolding ensured ensured_by confirmed if◌then◌else◌
+  unfolding ensured ensured_by confirmed when◌then◌else◌
   ensured_says P found new =
       cases (sought == 0)
       (λ e. rw e (if_either (OnChild P) (nat_le place_limit n) tt new))

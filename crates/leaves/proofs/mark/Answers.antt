@@ -1,5 +1,5 @@
 -- `mark` stores the mark of a `some`.
-use Rattle.logic.specs.Test.{if◌then◌else◌}
+use Rattle.logic.specs.Test.{when◌then◌else◌}
 use borrow.Author.Rules.{rules}
 use borrow.Author.Tests.{ne_eqb}
 use mathlib.Core.Path.{◌≡◌, refl}
@@ -11,11 +11,11 @@ use Rattle.leaves.specs.Marks.{some_byte, marked}
 use Rattle.leaves.proofs.mark.Goals as goal
 
 of_some : (byte place : ℕ) (t u : List ℕ) → byte ≡ some_byte → u ≡ with_word t place null_word 1 → u ≡ marked byte place t
-unfolding marked if◌then◌else◌
+unfolding marked when◌then◌else◌
 of_some byte place t u e d = rw (e, d) refl
 
 of_other : (byte place : ℕ) (t : List ℕ) → (byte ≡ some_byte → ⊥) → t ≡ marked byte place t
-unfolding marked if◌then◌else◌
+unfolding marked when◌then◌else◌
 of_other byte place t e = rw (ne_eqb byte some_byte e) refl
 
 pub returns-then-byte-eq-SOME : goal.returns-then-byte-eq-SOME

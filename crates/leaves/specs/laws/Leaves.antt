@@ -12,7 +12,7 @@ use Rattle.kinds.specs.Meeting.{meeting}
 use Rattle.leaves.specs.declared.Traced.TheVariants as T
 use Rattle.leaves.specs.Leaves.{Out, out, on_met, stored, observed, is_known}
 use borrow.Author.Tests.{eqb-true, eq-eqb, ne_eqb, lt-leb, ltb-true, not-true}
-use Rattle.logic.specs.Test.{if◌then◌else◌}
+use Rattle.logic.specs.Test.{when◌then◌else◌}
 use Rattle.logic.specs.laws.Test.{both}
 use Rattle.coerce.specs.laws.Joined.{joint_same}
 use Rattle.model.specs.Kinds.{sequence_kind}
@@ -51,12 +51,12 @@ module _ (is_null : Bool) (before kind : ℕ) where
 
 -- a type meets itself, and is stored where it stood
 meets_itself : (options levels kind : ℕ) → kind < sequence_kind → M.Kind kind ≡ meeting options levels kind kind
-unfolding meeting if◌then◌else◌
+unfolding meeting when◌then◌else◌
 meets_itself options levels kind h = rw (lt-leb sequence_kind kind h, joint_same options kind) refl
 
 pub observed_again : (options kind levels here behind place n : ℕ) (t : List ℕ) → word t place kind_word ≡ kind → kind < sequence_kind →
     out (T.Next behind n) t ≡ observed options false kind levels here behind place n t
-unfolding stored if◌then◌else◌
+unfolding stored when◌then◌else◌
 observed_again options kind levels here behind place n t e h =
     observe_kind options levels kind kind place t (M.Kind kind) (sym e) (meets_itself options levels kind h) false here behind n kind t refl (sym (rw e at (with_word_lem t place kind_word)))
 

@@ -5,7 +5,7 @@ use Rattle.std.proofs.Math.Path.{sym}
 use Rattle.std.proofs.Common.{◌∙◌, le_refl, arith}
 use borrow.Author.Tests.{ltb-true, lt-ltb, le-ltb}
 use Rattle.std.proofs.Math.ListN.{length}
-use Rattle.logic.specs.Test.{if◌then◌else◌}
+use Rattle.logic.specs.Test.{when◌then◌else◌}
 use Rattle.logic.specs.Turns.{Turn, again, done}
 use Rattle.logic.specs.laws.Turns.{Says, Falls, holds, goes_on, ends}
 use Rattle.leaves.specs.Marks.{Chain, chain, is_mark, past_turn, past_marks, marked, some_byte}
@@ -21,8 +21,8 @@ use Rattle.leaves.specs.declared.Traced.TheVariants as T
 use Rattle.leaves.specs.Leaves.{Out, out, on_met, stored, observed, SoundTraced}
 
 -- ---- the marks before a value
-pub turn_has : {S R : Type 0} (P : S → Type 0) (Q : R → Type 0) (t : Bool) (a b : Turn S R) → (t ≡ true → Says P Q a) → (t ≡ false → Says P Q b) → Says P Q (if t then a else b)
-unfolding if◌then◌else◌
+pub turn_has : {S R : Type 0} (P : S → Type 0) (Q : R → Type 0) (t : Bool) (a b : Turn S R) → (t ≡ true → Says P Q a) → (t ≡ false → Says P Q b) → Says P Q (when t then a else b)
+unfolding when◌then◌else◌
 turn_has P Q true a b p q = p refl
 turn_has P Q false a b p q = q refl
 
@@ -65,16 +65,16 @@ module _ (commands : List ℕ) (place here : ℕ) (t : List ℕ) (r : Chain) (wh
   past_goes s u e = sym (goes_on (past_turn commands place) (λ s. s) (left_chain commands) (past_falls commands place) (length commands + 1) (chain here t) (chain s u) (omega arith) e) ∙ whole
 
   pub past_cut : length commands ≤ here → chain here t ≡ r
-  unfolding past_turn if◌then◌else◌
+  unfolding past_turn when◌then◌else◌
   past_cut h = past_ends (chain here t) (rw (le-ltb here (length commands) h) refl)
 
   module _ (inside : here < length commands) (byte : ℕ) (b : byte ≡ get_or commands here 0) (is : Bool) (m : is ≡ is_mark byte) where
     pub past_mark : (u : List ℕ) → is ≡ true → u ≡ marked byte place t → past_marks commands (here + 1) place u ≡ r
-    unfolding past_turn if◌then◌else◌
+    unfolding past_turn when◌then◌else◌
     past_mark u e s = past_goes (here + 1) u (rw (lt-ltb here (length commands) inside, ← b, ← m, e, s) refl)
 
     pub past_other : is ≡ false → chain here t ≡ r
-    unfolding past_turn if◌then◌else◌
+    unfolding past_turn when◌then◌else◌
     past_other e = past_ends (chain here t) (rw (lt-ltb here (length commands) inside, ← b, ← m, e) refl)
 
 module _ (text t : List ℕ) (n place : ℕ) (ready : Ready text t n place) where

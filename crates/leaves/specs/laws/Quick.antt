@@ -6,7 +6,7 @@ use Rattle.std.proofs.Math.Bool.{true, false}
 use borrow.Author.Tests.{eqb-true, eq-eqb, ne_eqb, ltb-true}
 use Rattle.std.proofs.Math.Dec.{eqb}
 use Rattle.std.proofs.Math.ListN.{length, get_or}
-use Rattle.logic.specs.Test.{if◌then◌else◌}
+use Rattle.logic.specs.Test.{when◌then◌else◌}
 use Rattle.logic.specs.laws.Test.{cases, both}
 use Rattle.datatype.specs.Codes.{null}
 use Rattle.coerce.specs.laws.Joined.{joint_null}
@@ -36,7 +36,7 @@ same_fits commands at place t same most s e h =
 
 module _ (options : ℕ) (commands text : List ℕ) (at place : ℕ) (t : List ℕ) where
   pub quick_same : (same : Bool) → same ≡ same_at commands at place t → same ≡ true → chain (at + 1) t ≡ quick_at options commands text at place t
-  unfolding same_at quick_at if◌then◌else◌
+  unfolding same_at quick_at when◌then◌else◌
   quick_same same s e =
       both (ltb at (length commands) && eqb (get_or commands at 0) (word t place kind_word)) (is_own_byte (word t place kind_word)) (sym s ∙ e) λ p own.
       both (ltb at (length commands)) (eqb (get_or commands at 0) (word t place kind_word)) p λ l b.
@@ -51,25 +51,25 @@ module _ (options : ℕ) (commands text : List ℕ) (at place : ℕ) (t : List �
 
     module _ (is_null : Bool) (kind behind : ℕ) (v : leaf ≡ O.Value is_null kind behind) where
       pub quick_null : (u : List ℕ) → is_null ≡ true → u ≡ with_word t place null_word 1 → chain behind u ≡ quick_at options commands text at place t
-      unfolding quick_at if◌then◌else◌
+      unfolding quick_at when◌then◌else◌
       quick_null u e d = rw (← l, v, e, d) refl
 
       module _ (before : ℕ) (b : before ≡ word t place kind_word) (e : is_null ≡ false) where
         pub quick_known : before ≡ kind → chain behind t ≡ quick_at options commands text at place t
-        unfolding quick_at if◌then◌else◌
+        unfolding quick_at when◌then◌else◌
         quick_known k = rw (← l, v, e, ← b, eq-eqb before kind k) refl
 
         pub quick_changes : (before ≡ kind → ⊥) → chain 0 t ≡ quick_at options commands text at place t
-        unfolding quick_at if◌then◌else◌
+        unfolding quick_at when◌then◌else◌
         quick_changes k = rw (← l, v, e, ← b, ne_eqb before kind k) refl
 
 -- ---- a null meets what is there, and leaves it so
 meets_null : (options levels kind : ℕ) → M.Kind kind ≡ meeting options levels kind null
-unfolding meeting if◌then◌else◌
+unfolding meeting when◌then◌else◌
 meets_null options levels kind = cases (is_container kind) (λ e. rw e refl) (λ e. rw (e, joint_null options kind) refl)
 
 observed_null : (options levels here behind place n : ℕ) (t : List ℕ) → out (T.Next behind n) (with_word t place null_word 1) ≡ observed options true null levels here behind place n t
-unfolding stored if◌then◌else◌
+unfolding stored when◌then◌else◌
 observed_null options levels here behind place n t =
     observe_kind options levels (word t place kind_word) null place t (M.Kind (word t place kind_word)) refl (meets_null options levels (word t place kind_word))
     true here behind n (word t place kind_word) (with_word t place null_word 1) refl (sym (ap (λ (x : List ℕ). with_word x place null_word 1) (with_word_lem t place kind_word)))
@@ -88,7 +88,7 @@ module _ (options : ℕ) (commands text : List ℕ) (at place n : ℕ) (t : List
 
   by_value : (is_null : Bool) (kind next : ℕ) → leaf_at options commands text at ≡ O.Value is_null kind next → LeafThere options commands text at is_null kind next →
       chain behind u ≡ quick_leaf place t (O.Value is_null kind next) → Quick options commands text at place n t behind u
-  unfolding if◌then◌else◌
+  unfolding when◌then◌else◌
   by_value true kind next l there e =
       let b : next ≡ behind = cc in
       let d : with_word t place null_word 1 ≡ u = cc in
@@ -127,7 +127,7 @@ module _ (options : ℕ) (commands text : List ℕ) (at place n : ℕ) (t : List
 -- where nothing is passed the table is as it was
 module _ (options : ℕ) (commands text : List ℕ) (at place : ℕ) (t u : List ℕ) where
   none_by : (leaf : Leaf) → leaf ≡ leaf_at options commands text at → chain 0 u ≡ quick_leaf place t leaf → u ≡ t
-  unfolding if◌then◌else◌
+  unfolding when◌then◌else◌
   none_by (O.Value true kind behind) l e =
       let b : 0 ≡ behind = cc in
       let there : at < behind = leaf_above options commands text at kind behind true (leaf_there options commands text at _ l true kind behind refl) in

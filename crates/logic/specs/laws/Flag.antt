@@ -1,7 +1,7 @@
 -- What a flag that holds a test tells of `&&` and `||`, as code tests them one side after the other.
 use Rattle.std.specs.Prelude.{◌≡◌, Bool, true, false, ◌&&◌, ◌||◌}
 use Rattle.std.proofs.Common.{sym, ◌∙◌}
-use Rattle.logic.specs.Test.{if◌then◌else◌}
+use Rattle.logic.specs.Test.{when◌then◌else◌}
 
 -- a test, by the flag that holds it
 pub flagged : (flag test outcome : Bool) → flag ≡ test → flag ≡ outcome → test ≡ outcome
@@ -20,7 +20,7 @@ pub or_failed : (s t r : Bool) → s ≡ false → r ≡ t → r ≡ (s || t)
 or_failed s t r p e = rw p e
 
 -- what holds of both choices holds of the one taken
-pub if_either : {A : Type 0} (P : A → Type 0) (t : Bool) {a b : A} → P a → P b → P (if t then a else b)
-unfolding if◌then◌else◌
+pub if_either : {A : Type 0} (P : A → Type 0) (t : Bool) {a b : A} → P a → P b → P (when t then a else b)
+unfolding when◌then◌else◌
 if_either P true pa pb = pa
 if_either P false pa pb = pb

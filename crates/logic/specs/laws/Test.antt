@@ -2,22 +2,22 @@
 use Rattle.std.specs.Prelude.{◌≡◌, refl, Bool, true, false, ◌&&◌, ◌||◌}
 use Rattle.std.proofs.Common.{sym, ap, ◌∙◌, true≢false}
 use Rattle.std.proofs.lemmas.Bool.{false≢true}
-use Rattle.logic.specs.Test.{if◌then◌else◌}
+use Rattle.logic.specs.Test.{when◌then◌else◌}
 
 -- what a choice gives where its test passed, or failed
-pub if_passed : {A : Type 0} {t : Bool} {a : A} (b : A) → t ≡ true → (if t then a else b) ≡ a
-unfolding if◌then◌else◌
+pub if_passed : {A : Type 0} {t : Bool} {a : A} (b : A) → t ≡ true → (when t then a else b) ≡ a
+unfolding when◌then◌else◌
 if_passed b e = rw e
 
-pub if_failed : {A : Type 0} {t : Bool} (a : A) {b : A} → t ≡ false → (if t then a else b) ≡ b
-unfolding if◌then◌else◌
+pub if_failed : {A : Type 0} {t : Bool} (a : A) {b : A} → t ≡ false → (when t then a else b) ≡ b
+unfolding when◌then◌else◌
 if_failed a e = rw e
 
 -- the same from a flag that holds the test
-pub chosen : {A : Type 0} (flag test : Bool) (a b : A) → flag ≡ test → flag ≡ true → a ≡ (if test then a else b)
+pub chosen : {A : Type 0} (flag test : Bool) (a b : A) → flag ≡ test → flag ≡ true → a ≡ (when test then a else b)
 chosen flag test a b e p = sym (if_passed b (sym e ∙ p))
 
-pub other : {A : Type 0} (flag test : Bool) (a b : A) → flag ≡ test → flag ≡ false → b ≡ (if test then a else b)
+pub other : {A : Type 0} (flag test : Bool) (a b : A) → flag ≡ test → flag ≡ false → b ≡ (when test then a else b)
 other flag test a b e p = sym (if_failed a (sym e ∙ p))
 
 -- case analysis on a test, with its outcome at hand

@@ -2,7 +2,7 @@
 use Rattle.std.specs.Prelude.{◌≡◌, refl, true, false, List, [], ◌∷◌, ◌++◌, ℕ, replicate}
 use Rattle.std.proofs.Math.Option.{Option, some}
 use Rattle.std.proofs.Common.{arith}
-use Rattle.logic.specs.Test.{if◌then◌else◌}
+use Rattle.logic.specs.Test.{when◌then◌else◌}
 use Rattle.logic.specs.All.{has}
 use Rattle.datatype.specs.Codes.{uint8, struct, map, no_strategy}
 use Rattle.refusal.specs.Number.{too_deep, no_joint, null_root, null_field}
@@ -28,7 +28,7 @@ refusal_of (refused refusal place) = refusal ∷ place ∷ []
 
 -- the schema of a batch
 unfoldable pub schema_in : ℕ → List ℕ → List ℕ → Result E.Fields
-unfolding if◌then◌else◌ eq_name dots same schema_of U.within U.due_in U.reads U.fits C.form_of C.operands C.made C.name_in C.bad_command C.bad_name C.read_command R.shape_of R.next_part R.records_from R.values R.read_value R.read_shape R.read_parts T.meet T.steps_of T.has T.kid_at T.put T.clashes T.room T.made T.make T.holds T.tally T.observe_all T.trace T.observe T.observe_parts E.insert_variant E.by_number E.dataless_from E.type_of E.strategy_of E.insert_field E.by_name E.gaps E.arranged E.to_schema E.place_of E.places_of E.walk E.walks E.field_of E.fields_of J.number_joint J.joint_of_numbers J.joint_with_string J.joint_of_timestamps J.joint_of_unequal J.joint
+unfolding when◌then◌else◌ eq_name dots same schema_of U.within U.due_in U.reads U.fits C.form_of C.operands C.made C.name_in C.bad_command C.bad_name C.read_command R.shape_of R.next_part R.records_from R.values R.read_value R.read_shape R.read_parts T.meet T.steps_of T.has T.kid_at T.put T.clashes T.room T.made T.make T.holds T.tally T.observe_all T.trace T.observe T.observe_parts E.insert_variant E.by_number E.dataless_from E.type_of E.strategy_of E.insert_field E.by_name E.gaps E.arranged E.to_schema E.place_of E.places_of E.walk E.walks E.field_of E.fields_of J.number_joint J.joint_of_numbers J.joint_with_string J.joint_of_timestamps J.joint_of_unequal J.joint
 schema_in options commands text = schema_of (record { options = options; commands = commands; text = text })
 
 -- the refusal of a batch and its place, or 0 and 0
@@ -101,7 +101,7 @@ second_edition = refl
 
 -- what the census says of the field `a`
 unfoldable pub said : List ℕ → Option S.Said
-unfolding has if◌then◌else◌ eq_name lt_name same U.within U.due_in U.reads U.fits C.form_of C.operands C.made C.name_in C.bad_command C.bad_name C.read_command R.shape_of R.next_part R.records_from R.values R.read_value R.read_shape R.read_parts T.has T.holds Y.several_seen Y.type_seen Y.non_null S.parts_at S.below S.standing S.any_null S.samples S.holders S.kinds_seen S.container_seen S.kind_seen S.fixed_steps S.steps_in S.sight S.sights S.steps_seen S.insert_step S.as_set S.census
+unfolding has when◌then◌else◌ eq_name lt_name same U.within U.due_in U.reads U.fits C.form_of C.operands C.made C.name_in C.bad_command C.bad_name C.read_command R.shape_of R.next_part R.records_from R.values R.read_value R.read_shape R.read_parts T.has T.holds Y.several_seen Y.type_seen Y.non_null S.parts_at S.below S.standing S.any_null S.samples S.holders S.kinds_seen S.container_seen S.kind_seen S.fixed_steps S.steps_in S.sight S.sights S.steps_seen S.insert_step S.as_set S.census
 said commands = S.census 30 (field (97 ∷ []) ∷ []) false (R.values 30 commands (97 ∷ []))
 
 -- of two records the first has the field and the second has not: null is admitted there, since fewer samples of its struct hold it than exist
@@ -111,7 +111,7 @@ lacking_null = refl
 
 -- ---- which commands need places
 unfoldable pub needing : ℕ → List ℕ → List ℕ
-unfolding if◌then◌else◌ eq_name dots same C.form_of C.operands C.made C.name_in C.bad_command C.bad_name C.read_command R.shape_of R.next_part R.records_from R.values R.read_value R.read_shape R.read_parts T.meet T.steps_of T.has T.kid_at T.put T.clashes T.made T.holds T.tally N.make_all N.allowed N.see N.see_parts B.needed B.needs B.needs_in B.needs_all J.number_joint J.joint_of_numbers J.joint_with_string J.joint_of_timestamps J.joint_of_unequal J.joint
+unfolding when◌then◌else◌ eq_name dots same C.form_of C.operands C.made C.name_in C.bad_command C.bad_name C.read_command R.shape_of R.next_part R.records_from R.values R.read_value R.read_shape R.read_parts T.meet T.steps_of T.has T.kid_at T.put T.clashes T.made T.holds T.tally N.make_all N.allowed N.see N.see_parts B.needed B.needs B.needs_in B.needs_all J.number_joint J.joint_of_numbers J.joint_with_string J.joint_of_timestamps J.joint_of_unequal J.joint
 needing options commands = B.needs_all options (R.values options commands []) T.fresh
 
 -- a tuple of two and one of three: the first needs both its positions at its own command, the second its third at that position's value
@@ -148,18 +148,18 @@ ba name = pair name (leaf (98 ∷ [])) (leaf (97 ∷ []))
 
 -- a struct's fields in two orders are the same, below a map's value too
 pub struct_reordered : in_name_order (alone (ba (115 ∷ []))) ≡ in_name_order (alone (ab (115 ∷ [])))
-unfolding in_name_order in_name_order_of E.by_name E.insert_field lt_name if◌then◌else◌
+unfolding in_name_order in_name_order_of E.by_name E.insert_field lt_name when◌then◌else◌
 struct_reordered = refl
 
 pub below_map_reordered : in_name_order (map_of (leaf E.key_name) (ba E.value_name)) ≡ in_name_order (map_of (leaf E.key_name) (ab E.value_name))
-unfolding in_name_order in_name_order_of E.by_name E.insert_field lt_name if◌then◌else◌
+unfolding in_name_order in_name_order_of E.by_name E.insert_field lt_name when◌then◌else◌
 below_map_reordered = refl
 
 -- a map's key and value in two orders are not: each stands as it was
 pub map_kept : in_name_order (map_of (leaf E.value_name) (leaf E.key_name)) ≡ map_of (leaf E.value_name) (leaf E.key_name)
-unfolding in_name_order in_name_order_of E.by_name E.insert_field lt_name if◌then◌else◌
+unfolding in_name_order in_name_order_of E.by_name E.insert_field lt_name when◌then◌else◌
 map_kept = refl
 
 pub map_not_reordered : in_name_order (map_of (leaf E.key_name) (leaf E.value_name)) ≡ in_name_order (map_of (leaf E.value_name) (leaf E.key_name)) → ⊥
-unfolding in_name_order in_name_order_of E.by_name E.insert_field lt_name if◌then◌else◌
+unfolding in_name_order in_name_order_of E.by_name E.insert_field lt_name when◌then◌else◌
 map_not_reordered e = let z : ◌≡◌ {A = ℕ} 0 1 = cc in omega arith

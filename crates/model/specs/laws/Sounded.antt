@@ -2,7 +2,7 @@
 use Rattle.std.specs.Prelude.{◌≡◌, refl, Bool, true, not, ◌&&◌, ◌||◌, List, [], ◌∷◌, map, ℕ, zero, suc, ◌*◌, leb, ltb, length}
 use Rattle.std.proofs.Common.{ap, ◌∙◌, arith, le-ltb, leb-true}
 use Rattle.std.proofs.lemmas.Bool.{not-true}
-use Rattle.logic.specs.Test.{if◌then◌else◌}
+use Rattle.logic.specs.Test.{when◌then◌else◌}
 use Rattle.logic.specs.laws.Test.{both, neither}
 use Rattle.logic.specs.All.{All}
 use Rattle.options.specs.Word.{unknown_bit}
@@ -43,7 +43,7 @@ written_told E.no_fields buffer = refl
 written_told (E.more f fs) buffer = first_written (E.count_in (E.more f fs)) f fs buffer
 
 outcome_told : (b : Batch) (lent : Buffers) → Roomy lent → (r : Result E.Fields) → has_room r ≡ true → outcome (answer_of b lent r) ≡ told r
-unfolding answer_of if◌then◌else◌
+unfolding answer_of when◌then◌else◌
 outcome_told b lent roomy (refused number place) h = refl
 outcome_told b lent roomy (accepted schema) h =
     both (leb (E.count_in schema) most_records) (leb (length (E.names_in schema)) most_bytes) h λ a c.
@@ -60,7 +60,7 @@ abbrev is_taken : Batch → Bool
 is_taken b = not (unknown_bit b.options || ltb input_limit (length b.commands) || ltb input_limit (length b.text))
 
 answer_told : (b : Batch) (lent : Buffers) → Roomy lent → is_taken b ≡ true → has_room (schema_of b) ≡ true → outcome (answer b lent) ≡ told (schema_of b)
-unfolding answer if◌then◌else◌
+unfolding answer when◌then◌else◌
 answer_told b lent roomy t h =
     neither (unknown_bit b.options || ltb input_limit (length b.commands)) (ltb input_limit (length b.text)) (not-true _ t) λ a text.
     neither (unknown_bit b.options) (ltb input_limit (length b.commands)) a λ known commands.
@@ -74,7 +74,7 @@ abbrev given : Sounding → Bool × List ℕ
 given s = (true, s.gives)
 
 table : map computed soundings ≡ map given soundings
-unfolding soundings if◌then◌else◌ eq_name dots text_type first_fit same schema_of U.within U.due_in U.reads U.fits G.leads_many G.leads G.fits J.number_joint J.joint_of_numbers J.joint_with_string J.joint_of_timestamps J.joint_of_unequal J.joint C.form_of C.operands C.made C.name_in C.bad_command C.bad_name C.read_command R.shape_of R.next_part R.records_from R.values R.read_value R.read_shape R.read_parts T.meet T.steps_of T.has T.kid_at T.put T.clashes T.room T.made T.make T.holds T.tally T.observe_all T.trace T.observe T.observe_parts E.insert_variant E.by_number E.dataless_from E.type_of E.strategy_of E.insert_field E.by_name E.gaps E.arranged E.to_schema E.place_of E.places_of E.walk E.walks E.field_of E.fields_of E.records_of E.records_in E.names_of E.names_in E.count_of E.count_in
+unfolding soundings when◌then◌else◌ eq_name dots text_type first_fit same schema_of U.within U.due_in U.reads U.fits G.leads_many G.leads G.fits J.number_joint J.joint_of_numbers J.joint_with_string J.joint_of_timestamps J.joint_of_unequal J.joint C.form_of C.operands C.made C.name_in C.bad_command C.bad_name C.read_command R.shape_of R.next_part R.records_from R.values R.read_value R.read_shape R.read_parts T.meet T.steps_of T.has T.kid_at T.put T.clashes T.room T.made T.make T.holds T.tally T.observe_all T.trace T.observe T.observe_parts E.insert_variant E.by_number E.dataless_from E.type_of E.strategy_of E.insert_field E.by_name E.gaps E.arranged E.to_schema E.place_of E.places_of E.walk E.walks E.field_of E.fields_of E.records_of E.records_in E.names_of E.names_in E.count_of E.count_in
 table = refl
 
 abbrev pub Sounds : Sounding → Type 0

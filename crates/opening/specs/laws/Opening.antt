@@ -4,7 +4,7 @@ use Rattle.std.proofs.Math.Path.{refl}
 use Rattle.std.proofs.Common.{sym, ◌∙◌, le_refl, arith}
 use Rattle.std.proofs.lemmas.Bool.{false≢true}
 use borrow.Author.Tests.{ne_eqb}
-use Rattle.logic.specs.Test.{if◌then◌else◌}
+use Rattle.logic.specs.Test.{when◌then◌else◌}
 use Rattle.logic.specs.laws.Test.{cases}
 use Rattle.refusal.specs.declared.Refusal.{Refusal}
 use Rattle.refusal.specs.declared.Refusal.TheVariants as F
@@ -73,16 +73,16 @@ module _ (text t u : List ℕ) (n place : ℕ) (step : Step) (did : Ensured) (d 
 -- ---- a field held
 module _ (text t : List ℕ) (n place : ℕ) (name : Name) where
   pub field_bad : (good : Bool) → good ≡ is_utf8 (bytes_of text name) → good ≡ false → opening (O.Refused F.BadName) t ≡ field_held text place name n t
-  unfolding field_held if◌then◌else◌
+  unfolding field_held when◌then◌else◌
   field_bad good g e = rw (← g, e) refl
 
   module _ (good : is_utf8 (bytes_of text name) ≡ true) (u : List ℕ) (did : Ensured) (d : ensuring did u ≡ ensured text place (S.Field name) n t) where
     pub field_child : (child m : ℕ) (v : List ℕ) → did ≡ E.Child child m → v ≡ touched place child u → opening (O.Child child m) v ≡ field_held text place name n t
-    unfolding field_held held if◌then◌else◌
+    unfolding field_held held when◌then◌else◌
     field_child child m v e h = rw (good, ← d, e, h) refl
 
     pub field_full : (refusal : Refusal) → did ≡ E.Refused refusal → opening (O.Refused refusal) u ≡ field_held text place name n t
-    unfolding field_held held if◌then◌else◌
+    unfolding field_held held when◌then◌else◌
     field_full refusal e = rw (good, ← d, e) refl
 
   -- a new one
@@ -104,7 +104,7 @@ module _ (text t : List ℕ) (n place : ℕ) (name : Name) where
     stands_there = rw f (find_stands text t n field_code name ready.sound _ (first_below text t n place _ ready.sound ready.here refl) (rw f at z))
 
     field_found : ensuring (E.Child child n) t ≡ ensured text place (S.Field name) n t
-    unfolding ensured ensured_by confirmed child_at is_at if◌then◌else◌
+    unfolding ensured ensured_by confirmed child_at is_at when◌then◌else◌
     field_found =
         cases (eqb (word t child step_word) field_code)
         (λ e. let same = rw e at stands_there in rw (← f, ne_eqb child 0 z, same) refl)

@@ -1,7 +1,7 @@
 -- Laws of reading a place: a step comes back from its word and its name, names end inside the text, links are places.
 use Rattle.std.specs.Prelude.{◌≡◌, refl, List, ℕ, ◌+◌, ◌*◌, ◌%◌, ◌<◌, eqb, ltb}
 use Rattle.std.proofs.Common.{sym, ap, arith, eq-eqb, ne_eqb, ltb-true}
-use Rattle.logic.specs.Test.{if◌then◌else◌}
+use Rattle.logic.specs.Test.{when◌then◌else◌}
 use Rattle.logic.specs.laws.Test.{cases}
 use Rattle.logic.specs.laws.Flag.{if_either}
 use Rattle.words.specs.Word.{IsRow, word}
@@ -35,7 +35,7 @@ HasName given (S.Variant number name) = name ≡ given
 
 -- it comes back from its word and the name given, where its number is of 16 bits
 pub step_back_lem : (given : Name) (s : Step) → number_of s < 65536 → HasName given s → step_of (code_of s) given ≡ s
-unfolding step_of if◌then◌else◌
+unfolding step_of when◌then◌else◌
 step_back_lem given S.Element l h = refl
 step_back_lem given S.Key l h = refl
 step_back_lem given S.Value l h = refl
@@ -87,5 +87,5 @@ module _ (text t : List ℕ) (child : ℕ) where
 
 -- ---- a link leads to a place
 pub link_below : (t : List ℕ) (place field : ℕ) → IsRow (link_at t place field)
-unfolding link_at if◌then◌else◌
+unfolding link_at when◌then◌else◌
 link_below t place field = cases (ltb (word t place field) place_limit) (λ e. rw e (ltb-true (word t place field) place_limit e)) (λ e. rw e (omega arith))

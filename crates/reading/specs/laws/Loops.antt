@@ -6,7 +6,7 @@ use Rattle.std.proofs.Common.{◌∙◌, arith}
 use Rattle.std.proofs.Math.Bool.{true, false}
 use Prim.Native.Nat.{◌-◌, ℕ, zero, suc, ◌+◌, ◌%◌, ◌<◌, ◌≤◌}
 use borrow.Author.Tests.{lt-ltb, le-ltb, eqb-true, ne_eqb}
-use Rattle.logic.specs.Test.{if◌then◌else◌}
+use Rattle.logic.specs.Test.{when◌then◌else◌}
 use Rattle.logic.specs.laws.Test.{cases}
 use Rattle.logic.specs.Turns.{Turn, again, done, after, turns}
 use Rattle.logic.specs.laws.Turns.{goes_on, ends}
@@ -160,7 +160,7 @@ module _ (commands text : List ℕ) (options levels place at n : ℕ) (t : List 
 
 -- a part that is a value stands at the step given
 step_given : (commands : List ℕ) (at : ℕ) (step : Step) (answer : Read) (other : Step) (value : ℕ) → value_part commands step at answer ≡ P.Step other value → other ≡ step
-unfolding if◌then◌else◌
+unfolding when◌then◌else◌
 step_given commands at step (R.Command command behind) other value e =
     cases (eqb (get_or commands at 0) end_byte)
     (λ q. let d : P.Ended behind ≡ P.Step other value = rw q at e in let z : ◌≡◌ {A = ℕ} 0 1 = cc in absurd (omega arith))
@@ -178,7 +178,7 @@ pub position_unnamed : (i : ℕ) → Unnamed (S.Position i)
 position_unnamed i = record { name = refl; field = λ e. omega arith }
 
 pub entry_unnamed : (commands text : List ℕ) (i at : ℕ) (part : Part) → part ≡ part_at commands text map_kind 0 i at → (step : Step) (value : ℕ) → part ≡ P.Step step value → Unnamed step
-unfolding part_at if◌then◌else◌
+unfolding part_at when◌then◌else◌
 entry_unnamed commands text i at part p step value s =
     cases (eqb (i % 2) 0)
     (λ q. part_unnamed commands at S.Key (read_command commands text at D.ValueOrEnd) part (rw q at p) (record { name = refl; field = λ e. omega arith }) step value s)
@@ -199,9 +199,9 @@ module _ (commands text : List ℕ) (options levels place at n : ℕ) (t : List 
   by_child name (ensuring (E.Child child m) v) = refl
   by_child name (ensuring (E.Refused refusal) v) = refl
 
-  by_name_lem : (name : Name) (good : Bool) → on_part text inner place 0 at n t (if good then P.Step (S.Field name) (at + 5) else P.Refused F.BadName at)
-      ≡ after_opened name (if good then of_held (held text place (S.Field name) n t) else opening (O.Refused F.BadName) t)
-  unfolding part_read if◌then◌else◌
+  by_name_lem : (name : Name) (good : Bool) → on_part text inner place 0 at n t (when good then P.Step (S.Field name) (at + 5) else P.Refused F.BadName at)
+      ≡ after_opened name (when good then of_held (held text place (S.Field name) n t) else opening (O.Refused F.BadName) t)
+  unfolding part_read when◌then◌else◌
   by_name_lem name true = by_child name (held text place (S.Field name) n t)
   by_name_lem name false = refl
 
@@ -314,11 +314,11 @@ module _ (commands text : List ℕ) (options levels kind place at n : ℕ) (t : 
 -- ---- the values of a tuple
 module _ (commands text : List ℕ) (positions i at : ℕ) where
   pub position_part : (part : Part) → i < positions → part ≡ value_part commands (S.Position i) at (read_command commands text at D.Value) → part ≡ part_at commands text tuple_kind positions i at
-  unfolding if◌then◌else◌
+  unfolding when◌then◌else◌
   position_part part h e = rw (tuple_part commands text positions i at, lt-ltb i positions h) e
 
   pub positions_end : positions ≤ i → P.Ended at ≡ part_at commands text tuple_kind positions i at
-  unfolding if◌then◌else◌
+  unfolding when◌then◌else◌
   positions_end h = rw (tuple_part commands text positions i at, le-ltb i positions h) refl
 
 -- ---- the parts of a container by its kind

@@ -3,7 +3,7 @@ use Rattle.std.specs.Prelude.{◌≡◌, Bool, true, List, ◌-◌, ℕ, zero, s
 use Rattle.std.proofs.Math.Path.{refl}
 use Rattle.std.proofs.Common.{sym, ap, ◌∙◌, arith}
 use Rattle.std.proofs.lemmas.Bool.{lt-leb}
-use Rattle.logic.specs.Test.{if◌then◌else◌}
+use Rattle.logic.specs.Test.{when◌then◌else◌}
 use Rattle.datatype.specs.Codes.{null}
 use Rattle.refusal.specs.declared.Refusal.{Refusal}
 use Rattle.refusal.specs.declared.Refusal.TheVariants as F
@@ -148,7 +148,7 @@ module _ (commands text : List ℕ) (options at place n : ℕ) (t : List ℕ) (h
     leaf_parted levels = rw (leaf_is.read, leaf_is.shape) refl
 
     any_level : (levels lower : ℕ) → observed options is_null kind levels here behind place n u ≡ observed options is_null kind lower here behind place n u
-    unfolding observed meeting if◌then◌else◌
+    unfolding observed meeting when◌then◌else◌
     any_level levels lower = rw (lt-leb sequence_kind kind leaf_is.below) refl
 
     pub value_leaf : (levels lower : ℕ) (o : Out) → o ≡ observed options is_null kind levels here behind place n u → o ≡ value_at commands text options lower at place n t

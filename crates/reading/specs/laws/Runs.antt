@@ -10,7 +10,7 @@ use Rattle.std.proofs.Math.Dec.{eqb}
 use Rattle.std.proofs.Math.ListN.{length, get_or, drop, length-drop}
 use Rattle.std.proofs.Math.Numerals.{add-one}
 use Rattle.std.proofs.Math.Nat.{add-zero}
-use Rattle.logic.specs.Test.{if◌then◌else◌}
+use Rattle.logic.specs.Test.{when◌then◌else◌}
 use Rattle.logic.specs.laws.Test.{cases, both}
 use Rattle.logic.specs.Turns.{done, after, turns}
 use Rattle.text.specs.Name.{eq_name}
@@ -42,7 +42,7 @@ use Rattle.runs.specs.Runs.{behind_run, is_held, past_held, past_same, run_of}
 
 own_observed : (options kind levels here behind place n : ℕ) (t : List ℕ) → is_own_byte kind ≡ true → word t place kind_word ≡ kind →
     out (T.Next behind n) t ≡ observed options (eqb kind 0) (plain_kind kind) levels here behind place n t
-unfolding plain_kind if◌then◌else◌
+unfolding plain_kind when◌then◌else◌
 own_observed options kind levels here behind place n t own e =
     let small : kind < char_byte = (own_known kind own).1 in
     rw (ne_eqb kind char_byte (λ q. omega arith), ne_eqb kind 0 (own_known kind own).0) (observed_again options kind levels here behind place n t e (omega arith))
@@ -67,11 +67,11 @@ module _ (place : ℕ) (t : List ℕ) (held : is_held place (word t place first_
       )
 
   held_touched : t ≡ touched place (word t place first_word) t
-  unfolding touched if◌then◌else◌ child
+  unfolding touched when◌then◌else◌ child
   held_touched = rw (eq-eqb (word t child mark_word) (word t place samples_word) held_known.3) refl
 
   held_turn : (text : List ℕ) → find_turn text (code_of S.Element) no_name t child ≡ done child
-  unfolding find_turn is_at if◌then◌else◌
+  unfolding find_turn is_at when◌then◌else◌
   held_turn text = rw (ne_eqb child 0 held_known.0, held_known.1) refl
 
   held_found : (text : List ℕ) → find_from text (code_of S.Element) no_name t child ≡ child
@@ -79,11 +79,11 @@ module _ (place : ℕ) (t : List ℕ) (held : is_held place (word t place first_
   held_found text = ap (after (λ s. turns (find_turn text (code_of S.Element) no_name t) (λ c. 0) place_limit s)) (held_turn text)
 
   held_confirmed : (text : List ℕ) (n : ℕ) → confirmed text no_name child n t ≡ E.Child child n
-  unfolding confirmed eq_name if◌then◌else◌
+  unfolding confirmed eq_name when◌then◌else◌
   held_confirmed text n = rw held_known.2 refl
 
   held_ensured : (text : List ℕ) (n : ℕ) → ensuring (E.Child (word t place first_word) n) t ≡ ensured text place S.Element n t
-  unfolding ensured ensured_by child_at if◌then◌else◌ child
+  unfolding ensured ensured_by child_at when◌then◌else◌ child
   held_ensured text n = rw (held_found text, ne_eqb child 0 held_known.0, held_confirmed text n) refl
 
 -- ---- a run of them
@@ -97,7 +97,7 @@ module _ (commands text : List ℕ) (options levels place n : ℕ) (t : List ℕ
     small = (own_known kind own).1
 
     is_step : P.Step S.Element at ≡ part_at commands text sequence_kind 0 0 at
-    unfolding part_at if◌then◌else◌
+    unfolding part_at when◌then◌else◌
     is_step = let h : kind < char_byte = small in rw (bare_read commands text at kind D.ValueOrEnd byte inside (before_text kind (omega arith)) refl, byte, ne_eqb kind end_byte (λ q. omega arith)) refl
 
     element : out (T.Next (at + 1) n) t ≡ part_read text (readers commands text options levels) S.Element at at place n t
@@ -115,7 +115,7 @@ module _ (commands text : List ℕ) (options levels place n : ℕ) (t : List ℕ
         (T.Next (at + 1) n) t element (at + 1) n refl
 
   same_run : (xs : List ℕ) (at : ℕ) → drop at commands ≡ xs → rest (at + run_of kind xs) ≡ rest at
-  unfolding run_of if◌then◌else◌
+  unfolding run_of when◌then◌else◌
   same_run [] at e = rw add-zero refl
   same_run (b ∷ bs) at e =
       let inside : at < length commands = omega (arith, length-drop at commands, ap length e) in
@@ -132,7 +132,7 @@ module _ (commands text : List ℕ) (options levels place at n : ℕ) (t : List 
   left a = parts_from commands text (readers commands text options levels) sequence_kind 0 place 0 a n t
 
   past_rest : left (past_same commands at place t) ≡ left at
-  unfolding past_same past_held behind_run if◌then◌else◌
+  unfolding past_same past_held behind_run when◌then◌else◌
   past_rest =
       cases (is_held place (word t place first_word) t)
       (λ held. cases (is_own_byte (word t (word t place first_word) kind_word))

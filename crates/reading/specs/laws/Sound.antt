@@ -5,7 +5,7 @@ use Rattle.std.specs.Prelude.{refl, true, List, ◌-◌, ℕ, zero, suc, ◌+◌
 use Rattle.std.proofs.lemmas.Bool.{false≢true}
 use Rattle.std.proofs.Common.{le_refl, ne_eqb, leb-false}
 use native.Mathlib.Omega.{arith}
-use Rattle.logic.specs.Test.{if◌then◌else◌}
+use Rattle.logic.specs.Test.{when◌then◌else◌}
 use Rattle.logic.specs.laws.Test.{cases}
 use Rattle.refusal.specs.declared.Refusal.{Refusal}
 use Rattle.refusal.specs.declared.Refusal.TheVariants as F
@@ -77,7 +77,7 @@ all_held n text place step t = go (ensured text place step n t) (ensured_more te
 
 -- a container where no level is left
 too_deep_lem : (options kind other : ℕ) → is_container other ≡ true → meeting options 0 kind other ≡ M.Refused F.TooDeep
-unfolding meeting if◌then◌else◌
+unfolding meeting when◌then◌else◌
 too_deep_lem options kind other e = rw e refl
 
 parted_container : (kind : ℕ) → is_parted kind ≡ true → is_container kind ≡ true

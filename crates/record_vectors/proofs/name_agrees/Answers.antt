@@ -9,7 +9,7 @@ use native.Mathlib.Omega.{arith}
 use lib.Dec.{eqb}
 use lib.ListN.{length, get_or, take, drop, length-drop}
 use lib.Seq.{take_all}
-use Rattle.logic.specs.Test.{if◌then◌else◌}
+use Rattle.logic.specs.Test.{when◌then◌else◌}
 use Rattle.logic.specs.laws.Test.{if_passed, if_failed}
 use Rattle.text.specs.Utf8.{is_utf8}
 use Rattle.record_vectors.specs.Names.{name_agrees}
@@ -25,7 +25,7 @@ long stored some h = rw (le-leb 1 (length stored) (omega (arith, some)), lt-leb 
 
 module _ (stored : List ℕ) (some : length stored ≡ 0 → ⊥) (few : length stored ≤ 256) (flag : Bool)
     (told : flag ≡ is_utf8 (take (length stored - 1) (drop 1 stored))) where
-  byte : (n : ℕ) → (if is_utf8 (drop 1 stored) then 1 else 0) ≡ n → eqb (get_or stored 0 0) n ≡ name_agrees stored
+  byte : (n : ℕ) → (when is_utf8 (drop 1 stored) then 1 else 0) ≡ n → eqb (get_or stored 0 0) n ≡ name_agrees stored
   unfolding name_agrees
   byte n e = rw (le-leb 1 (length stored) (omega (arith, some)), le-leb (length stored) 256 few, e)
 

@@ -2,7 +2,7 @@
 use Rattle.std.specs.Prelude.{◌≡◌, Bool, List, ℕ, suc, ◌+◌, ◌-◌, ◌<◌, ◌≤◌, ltb, length}
 use Rattle.std.proofs.Math.Path.{sym}
 use Rattle.std.proofs.Common.{subst, ◌∙◌, arith, lt-ltb, le-ltb, ltb-true, ltb-false}
-use Rattle.logic.specs.Test.{if◌then◌else◌}
+use Rattle.logic.specs.Test.{when◌then◌else◌}
 use Rattle.logic.specs.laws.Test.{if_passed, if_failed, cases}
 use Rattle.logic.specs.Turns.{again, done}
 use Rattle.logic.specs.laws.Turns.{Falls, goes_on, ends}
@@ -16,7 +16,7 @@ module _ (size : ℕ) (end : ℕ → ℕ) (agrees : ℕ → Bool) (later : (at :
   left p = size - p.at
 
   abbrev next : Passed → Passed
-  next p = record { at = end p.at; records = p.records + 1; differ = p.differ + (if agrees p.at then 0 else 1) }
+  next p = record { at = end p.at; records = p.records + 1; differ = p.differ + (when agrees p.at then 0 else 1) }
 
   within : (p : Passed) → p.at < size → pass size end agrees p ≡ again (next p)
   unfolding pass
@@ -41,7 +41,7 @@ module _ (size : ℕ) (end : ℕ → ℕ) (agrees : ℕ → Bool) (later : (at :
     here = record { at = at; records = records; differ = differ }
 
     -- within the file there is one more
-    pub tally_on : (behind : ℕ) (flag : Bool) (one : ℕ) (all : Tally) → at < size → behind ≡ end at → flag ≡ agrees at → one ≡ (if flag then 0 else 1) →
+    pub tally_on : (behind : ℕ) (flag : Bool) (one : ℕ) (all : Tally) → at < size → behind ≡ end at → flag ≡ agrees at → one ≡ (when flag then 0 else 1) →
         tally_from size end agrees here ≡ all → tally_from size end agrees (record { at = behind; records = records + 1; differ = differ + one }) ≡ all
     unfolding tally_from
     tally_on behind flag one all h en ef eo e =
@@ -65,7 +65,7 @@ module _ (agrees : List ℕ → Bool) (vectors : List ℕ) (all : Tally) where
       ≡ all
 
   pub record_on : (at records differ behind : ℕ) (flag : Bool) (one : ℕ) → at < length vectors → behind ≡ record_end vectors at →
-      flag ≡ agrees (between (at + 1) behind vectors) → one ≡ (if flag then 0 else 1) → RestGives at records differ →
+      flag ≡ agrees (between (at + 1) behind vectors) → one ≡ (when flag then 0 else 1) → RestGives at records differ →
       RestGives behind (records + 1) (differ + one)
   record_on at records differ behind flag one h en ef eo e =
       tally_on (length vectors) (record_end vectors) _ (record_later vectors) at records differ behind flag one all h en (ef ∙ rw en) eo e

@@ -5,7 +5,7 @@ use Rattle.std.proofs.Common.{sym, ◌∙◌, drop_of_length-le, drop-cons, add-
 use Prim.Native.Nat.{ℕ, zero, suc, ◌+◌, ◌<◌, ◌≤◌}
 use native.Mathlib.Omega.{arith}
 use borrow.Author.Tests.{eq-eqb, ne_eqb, eqb-true}
-use Rattle.logic.specs.Test.{if◌then◌else◌}
+use Rattle.logic.specs.Test.{when◌then◌else◌}
 use Rattle.logic.specs.laws.Test.{both}
 use Rattle.logic.specs.laws.Flag.{if_either}
 use Rattle.words.specs.Word.{word}
@@ -37,20 +37,20 @@ module _ (place child : ℕ) (t : List ℕ) where
 -- ---- the ways past elements that change nothing
 module _ (commands : List ℕ) (kind at : ℕ) (own : Bool) (is : own ≡ is_own_byte kind) where
   pub held_run : (r : ℕ) → own ≡ true → r ≡ behind_run commands kind at → r ≡ past_held commands kind at
-  unfolding past_held if◌then◌else◌
+  unfolding past_held when◌then◌else◌
   held_run r e p = rw (← is, e) p
 
   pub held_none : own ≡ false → at ≡ past_held commands kind at
-  unfolding past_held if◌then◌else◌
+  unfolding past_held when◌then◌else◌
   held_none e = rw (← is, e) refl
 
 module _ (commands : List ℕ) (at place : ℕ) (t : List ℕ) (child : ℕ) (c : child ≡ word t place first_word) (held : Bool) (h : held ≡ is_held place child t) where
   pub none_held : held ≡ false → at ≡ past_same commands at place t
-  unfolding past_same if◌then◌else◌
+  unfolding past_same when◌then◌else◌
   none_held e = rw (← c, ← h, e) refl
 
   pub one_held : (type r : ℕ) → held ≡ true → type ≡ word t child kind_word → r ≡ past_held commands type at → r ≡ past_same commands at place t
-  unfolding past_same if◌then◌else◌
+  unfolding past_same when◌then◌else◌
   one_held type r e k p = rw (← c, ← h, e, ← k) p
 
 -- ---- the loop over a run: what is left of it gives the same as the whole
@@ -64,11 +64,11 @@ module _ (commands : List ℕ) (byte here r : ℕ) (whole : behind_run commands 
     front = rw add-one (drop-cons commands here 0 inside)
 
     pub run_other : (b : ℕ) → b ≡ get_or commands here 0 → (b ≡ byte → ⊥) → here ≡ r
-    unfolding behind_run run_of if◌then◌else◌
+    unfolding behind_run run_of when◌then◌else◌
     run_other b is d = rw (front, ← is, ne_eqb b byte d, add-zero) at whole
 
     pub run_more : (b : ℕ) → b ≡ get_or commands here 0 → b ≡ byte → behind_run commands byte (here + 1) ≡ r
-    unfolding behind_run run_of if◌then◌else◌
+    unfolding behind_run run_of when◌then◌else◌
     run_more b is e = let shift : here + 1 + run_of byte (drop (here + 1) commands) ≡ here + suc (run_of byte (drop (here + 1) commands)) =
         omega arith in shift ∙ (rw (front, ← is, eq-eqb b byte e) at whole)
 

@@ -12,7 +12,7 @@ use Rattle.leaves.specs.laws.Marks.{turn_has}
 use Rattle.reading.specs.laws.Progress.{after_falls, left_state, readers_on}
 use Rattle.reading.specs.laws.Loops.{moved_at}
 use Rattle.std.proofs.Math.Path.{sym}
-use Rattle.logic.specs.Test.{if◌then◌else◌}
+use Rattle.logic.specs.Test.{when◌then◌else◌}
 use Rattle.refusal.specs.declared.Refusal.{Refusal}
 use Rattle.leaves.specs.declared.Traced.{Traced}
 use Rattle.leaves.specs.declared.Traced.TheVariants as T
@@ -31,14 +31,14 @@ module _ (commands text : List ℕ) (options : ℕ) where
 
 module _ (commands text : List ℕ) (options at n : ℕ) (t : List ℕ) (r : Out) (whole : records_at commands text options at n t ≡ r) where
   pub records_end : length commands ≤ at → out (T.Next at n) t ≡ r
-  unfolding records_at record_turn if◌then◌else◌
+  unfolding records_at record_turn when◌then◌else◌
   records_end h =
       sym (ends (record_turn commands text options) record_stop (left_state commands) (records_fall commands text options) (length commands + 1) (state 0 at n t) (out (T.Next at n) t) (omega arith)
       (rw (le-ltb at (length commands) h) refl)) ∙ whole
 
   module _ (inside : at < length commands) (traced : Traced) (u : List ℕ) (q : out traced u ≡ value_at commands text options level_limit at 0 n t) where
     pub records_stopped : (refusal : Refusal) (offset : ℕ) → traced ≡ T.Refused refusal offset → out (T.Refused refusal offset) u ≡ r
-    unfolding records_at record_turn if◌then◌else◌
+    unfolding records_at record_turn when◌then◌else◌
     records_stopped refusal offset e =
         sym (ends (record_turn commands text options) record_stop (left_state commands) (records_fall commands text options) (length commands + 1)
         (state 0 at n t) (out (T.Refused refusal offset) u) (omega arith)
@@ -46,7 +46,7 @@ module _ (commands text : List ℕ) (options at n : ℕ) (t : List ℕ) (r : Out
 
     module _ (behind m : ℕ) (e : traced ≡ T.Next behind m) where
       pub records_more : records_at commands text options behind m u ≡ r
-      unfolding records_at record_turn if◌then◌else◌
+      unfolding records_at record_turn when◌then◌else◌
       records_more =
           sym (goes_on (record_turn commands text options) record_stop (left_state commands) (records_fall commands text options) (length commands + 1) (state 0 at n t) (state 0 behind m u) (omega arith)
           (rw (lt-ltb at (length commands) inside, ← q, e) refl)) ∙ whole

@@ -2,7 +2,7 @@
 use borrow.Author.Rules.{rules}
 use mathlib.Core.Path.{◌≡◌, refl, sym, ◌∙◌}
 use mathlib.Core.List.{List}
-use Prim.Native.Nat.{ℕ, ◌+◌, ◌-◌, ◌<◌, ◌≤◌}
+use Prim.Native.Nat.{ℕ, ◌+◌, ◌<◌, ◌≤◌}
 use native.Mathlib.Nat.{max-eq_left, max-eq_right}
 use native.Mathlib.Numerals.{add-one}
 use native.Mathlib.Omega.{arith}
@@ -37,8 +37,9 @@ loop-place-preserved c =
     let inv = c.loop-place.invariant in
     let link = c.link-last.ensures in
     elim c.if-newest-last.branch [
-      then-newest-last w ↦ (omega arith, w.newest-is ∙ newer _ _ _ _ inv.1 link.0 w.if-newest-last.true, omega arith)
-    | else-newest-last w ↦ (omega arith, w.newest-is ∙ older _ _ _ _ inv.1 link.0 w.if-newest-last.false, omega arith) ]
+      | then-newest-last w ↦ (omega arith, w.newest-is ∙ newer _ _ _ _ inv.1 link.0 w.if-newest-last.true, omega arith)
+      | else-newest-last w ↦ (omega arith, w.newest-is ∙ older _ _ _ _ inv.1 link.0 w.if-newest-last.false, omega arith)
+    ]
 
 pub returns : goal.returns
 returns c = (all _ _ _ c.loop-place.invariant.1 (omega arith), omega arith)

@@ -6,7 +6,7 @@ use mathlib.Core.Bool.{Bool, true, false, not}
 use mathlib.Core.List.{List}
 use Prim.Native.Nat.{ℕ, ◌*◌, ◌<◌, ◌≤◌}
 use lib.ListN.{length}
-use Rattle.logic.specs.Test.{if◌then◌else◌}
+use Rattle.logic.specs.Test.{when◌then◌else◌}
 use Rattle.datatype.specs.Codes.{null}
 use Rattle.refusal.specs.declared.Refusal.TheVariants as F
 use Rattle.words.specs.Word.{word}
@@ -19,34 +19,34 @@ use Rattle.schema.proofs.finish.Goals as goal
 
 module _ (options : ℕ) (text t fields names : List ℕ) (records bytes below kind seen : ℕ) (k : kind ≡ word t root_place kind_word) (u : seen ≡ word t root_place null_word) where
   nullable_root_lem : seen ≡ 1 → answered (E.Refused F.NullableRoot) fields names ≡ finished options text t fields names records bytes below
-  unfolding finished if◌then◌else◌
+  unfolding finished when◌then◌else◌
   nullable_root_lem e = rw (← u, eq-eqb seen 1 e)
 
   module _ (n : seen ≡ 1 → ⊥) where
     null_root_lem : kind ≡ null → answered (E.Refused F.NullRoot) fields names ≡ finished options text t fields names records bytes below
-    unfolding finished if◌then◌else◌
+    unfolding finished when◌then◌else◌
     null_root_lem e = rw (← u, ne_eqb seen 1 n, ← k, eq-eqb kind null e)
 
     module _ (m : kind ≡ null → ⊥) (root : Bool) (r : root ≡ emits_struct kind) where
       no_struct : not root ≡ true → answered (E.Refused F.RootNotStruct) fields names ≡ finished options text t fields names records bytes below
-      unfolding finished if◌then◌else◌
+      unfolding finished when◌then◌else◌
       no_struct p = rw (← u, ne_eqb seen 1 n, ← k, ne_eqb kind null m, sym r ∙ not-true root p)
 
       -- against the buffers
       module _ (s : not root ≡ false) (needed : ℕ) (d : needed ≡ records) where
         short_fields : length fields < needed * 8 → answered (E.Refused F.ShortBuffer) fields names ≡ finished options text t fields names records bytes below
-        unfolding finished if◌then◌else◌
+        unfolding finished when◌then◌else◌
         short_fields h = rw (← u, ne_eqb seen 1 n, ← k, ne_eqb kind null m, sym r ∙ not-false root s, ← d, lt-ltb (length fields) (needed * 8) h)
 
         module _ (g : needed * 8 ≤ length fields) (many : ℕ) (b : many ≡ bytes) where
           short_names : length names < many → answered (E.Refused F.ShortBuffer) fields names ≡ finished options text t fields names records bytes below
-          unfolding finished if◌then◌else◌
+          unfolding finished when◌then◌else◌
           short_names h =
               rw (← u, ne_eqb seen 1 n, ← k, ne_eqb kind null m, sym r ∙ not-false root s, ← d, le-ltb (length fields) (needed * 8) g, ← b, lt-ltb (length names) many h)
 
           emitted : (i j : ℕ) (out named : List ℕ) → many ≤ length names → writing i j out named ≡ fields_below t (emitted_at options text t level_limit) kind root_place (writing 0 0 fields names) →
               answered (E.Schema records bytes below) out named ≡ finished options text t fields names records bytes below
-          unfolding finished if◌then◌else◌
+          unfolding finished when◌then◌else◌
           emitted i j out named h e =
               rw (← u, ne_eqb seen 1 n, ← k, ne_eqb kind null m, sym r ∙ not-false root s, ← d, le-ltb (length fields) (needed * 8) g, ← b, le-ltb (length names) many h, ← e)
 

@@ -5,7 +5,7 @@ use mathlib.Core.Bool.{Bool, true, false}
 use mathlib.Core.List.{List}
 use Prim.Native.Nat.{ℕ, ◌%◌}
 use lib.ListN.{length}
-use Rattle.logic.specs.Test.{if◌then◌else◌}
+use Rattle.logic.specs.Test.{when◌then◌else◌}
 use Rattle.datatype.specs.declared.DataType.{DataType}
 use Rattle.datatype.specs.declared.Strategy.{Strategy}
 use Rattle.datatype.specs.Codes.{code_of, no_strategy, strategy_code}
@@ -24,14 +24,14 @@ module _ (options : ℕ) (text t : List ℕ) (place : ℕ) (nullable : Bool) (nu
   of_dictionary : (type : DataType) (code strategy : ℕ) → is ≡ true → code_of type ≡ dictionary_type options → code ≡ code_of type → strategy ≡ no_strategy →
       put next records ≡ put_bytes (record_of code nullable strategy number size 0) fields i →
       writing next named records bytes ≡ field_at options text t place nullable number (writing i j fields names)
-  unfolding field_at both if◌then◌else◌
+  unfolding field_at both when◌then◌else◌
   of_dictionary type code strategy p e f s r = rw (sym d ∙ p, ← l, ← (f ∙ e), ← (rw s at r), ← q)
 
   of_kind : (kind code strategy count : ℕ) (how : Strategy) → is ≡ false → kind ≡ word t place kind_word → code ≡ type_of options kind % 256 →
       strategy_code how ≡ strategy_of kind → strategy ≡ strategy_code how → count ≡ field_count t kind place →
       put next records ≡ put_bytes (record_of code nullable strategy number size count) fields i →
       writing next named records bytes ≡ field_at options text t place nullable number (writing i j fields names)
-  unfolding field_at both if◌then◌else◌
+  unfolding field_at both when◌then◌else◌
   of_kind kind code strategy count how p k e s c n r = rw (sym d ∙ p, ← k, ← l, ← e, ← (c ∙ s), ← n, ← r, ← q)
 
 pub returns-then-is_dictionary : goal.returns-then-is_dictionary

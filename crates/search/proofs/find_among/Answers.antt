@@ -6,7 +6,7 @@ use mathlib.Core.Bool.{Bool, true, false, not}
 use mathlib.Core.List.{List}
 use Prim.Native.Nat.{ℕ, suc, ◌+◌, ◌-◌, ◌<◌, ◌≤◌}
 use native.Mathlib.Omega.{arith}
-use Rattle.logic.specs.Test.{if◌then◌else◌}
+use Rattle.logic.specs.Test.{when◌then◌else◌}
 use Rattle.text.specs.declared.Name.{Name}
 use Rattle.text.specs.Name.{bytes_of}
 use Rattle.text.specs.Tag.{tag_of}
@@ -34,11 +34,11 @@ module _ (text t : List ℕ) (place : ℕ) (name : Name) (end child r : ℕ) (wh
     one_more = omega arith
 
     found : at ≡ true → child ≡ r
-    unfolding field_among if◌then◌else◌
+    unfolding field_among when◌then◌else◌
     found e = rw (one_more, ← at_there, e) at whole
 
     onward : at ≡ false → field_among text place name t (child + 1) (end - (child + 1)) ≡ r
-    unfolding field_among if◌then◌else◌
+    unfolding field_among when◌then◌else◌
     onward e = rw (one_more, ← at_there, e) at whole
 
   ended : end ≤ child → 0 ≡ r

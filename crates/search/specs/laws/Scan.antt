@@ -6,7 +6,7 @@ use Rattle.std.proofs.lemmas.Bool.{false≢true}
 use Prim.Native.Nat.{ℕ, zero, suc, ◌+◌, ◌%◌, ◌<◌, ◌≤◌}
 use native.Mathlib.Omega.{arith}
 use borrow.Author.Tests.{eq-eqb, ne_eqb, eqb-true, eqb-false, ltb-true, ltb-false, not-true}
-use Rattle.logic.specs.Test.{if◌then◌else◌}
+use Rattle.logic.specs.Test.{when◌then◌else◌}
 use Rattle.logic.specs.laws.Test.{cases, both}
 use Rattle.text.specs.declared.Name.{Name}
 use Rattle.text.specs.Name.{bytes_of, eq_name}
@@ -61,7 +61,7 @@ module _ (text t : List ℕ) (place : ℕ) (name : Name) (tag child : ℕ) (tagg
 
   pub tagged_named : (known : ℕ) (own : Name) (same : Bool) → tagged ≡ true → known ≡ word t child name_word → own ≡ unpacked_name known →
       same ≡ eq_name (bytes_of text own) (bytes_of text name) → same ≡ is_field text place name child t
-  unfolding is_tagged is_at if◌then◌else◌
+  unfolding is_tagged is_at when◌then◌else◌
   tagged_named known own same p a b d =
       both _ (eqb (word t child step_word) field_code) (sym is ∙ p) λ rest step.
       both _ (eqb (word t child parent_word) place) rest λ first parent.
@@ -165,7 +165,7 @@ module _ (text t : List ℕ) (n place : ℕ) (name : Name) (s : Sound text t n) 
   among = field_among text place name t
 
   pub passed_among : (count from : ℕ) → PassedTo from → among from count ≡ 0 → PassedTo (from + count)
-  unfolding field_among if◌then◌else◌
+  unfolding field_among when◌then◌else◌
   passed_among zero from p e = let k : from ≡ from + 0 = omega arith in rw k at p
   passed_among (suc count) from p e =
       cases (is_field text place name from t)
@@ -173,7 +173,7 @@ module _ (text t : List ℕ) (n place : ℕ) (name : Name) (s : Sound text t n) 
       (λ a. let k : from + 1 + count ≡ from + suc count = omega arith in rw k at (passed_among count (from + 1) (passed_more from p a) (rw a at e)))
 
   pub found_among : (count from : ℕ) → PassedTo from → (among from count ≡ 0 → ⊥) → among from count ≡ whole
-  unfolding field_among if◌then◌else◌
+  unfolding field_among when◌then◌else◌
   found_among zero from p z = absurd (z refl)
   found_among (suc count) from p z =
       cases (is_field text place name from t)
@@ -183,7 +183,7 @@ module _ (text t : List ℕ) (n place : ℕ) (name : Name) (s : Sound text t n) 
   module _ (tag : ℕ) (e : tag ≡ tag_of (bytes_of text name)) where
     -- none of them is the field if none has the tag
     pub none_among : (count from : ℕ) → ((i : ℕ) → i < count → word t (from + i) tag_word ≡ tag → ⊥) → 0 ≡ among from count
-    unfolding field_among if◌then◌else◌
+    unfolding field_among when◌then◌else◌
     none_among zero from h = refl
     none_among (suc count) from h =
         let k : from + 0 ≡ from = omega arith in
@@ -191,7 +191,7 @@ module _ (text t : List ℕ) (n place : ℕ) (name : Name) (s : Sound text t n) 
         (none_among count (from + 1) (λ i l. let k : from + suc i ≡ from + 1 + i = omega arith in rw k at (h (suc i) (omega arith))))
 
     pub passed_others : (groups from : ℕ) → PassedTo from → PassedTo (past_others tag t from groups)
-    unfolding past_others if◌then◌else◌
+    unfolding past_others when◌then◌else◌
     passed_others zero from p = p
     passed_others (suc groups) from p =
         cases (has_among t from many_places tag_word tag)
@@ -213,7 +213,7 @@ module _ (text t : List ℕ) (n place last : ℕ) (ready : Ready text t n place)
 
 -- groups start at multiples of a few places
 pub others_start : (tag : ℕ) (t : List ℕ) (groups from : ℕ) → from % few_places ≡ 0 → past_others tag t from groups % few_places ≡ 0
-unfolding past_others if◌then◌else◌
+unfolding past_others when◌then◌else◌
 others_start tag t zero from e = e
 others_start tag t (suc groups) from e =
     cases (has_among t from many_places tag_word tag)

@@ -4,7 +4,7 @@ use Rattle.std.proofs.Math.Path.{refl, sym, fun_ext}
 use Rattle.std.proofs.Common.{ap, ◌∙◌, ne_eqb, eqb-true, ltb-true}
 use Rattle.std.proofs.lemmas.Bool.{false≢true, eqb-false}
 use native.Mathlib.Omega.{arith}
-use Rattle.logic.specs.Test.{if◌then◌else◌}
+use Rattle.logic.specs.Test.{when◌then◌else◌}
 use Rattle.logic.specs.laws.Test.{cases, both}
 use Rattle.logic.specs.Turns.{Turn, done, turns}
 use Rattle.logic.specs.laws.Invariant.{Keeps, goes_on_within, ends_within, holds_within}
@@ -43,7 +43,7 @@ module _ (text t : List ℕ) (n code : ℕ) (name : Name) (s : Sound text t n) w
 
   -- each turn leaves a place, with fewer that may follow, or gives an answer
   turn_keeps : (child : ℕ) → child < n → Keeps (λ c. c < n) Found children_left (children_left child) (turn child)
-  unfolding find_turn if◌then◌else◌
+  unfolding find_turn when◌then◌else◌
   turn_keeps child h =
       cases (eqb child 0)
       (λ e. rw e (omega arith, λ z. absurd (z refl)))
@@ -74,16 +74,16 @@ module _ (text t : List ℕ) (n code : ℕ) (name : Name) (s : Sound text t n) w
     ends_there c e = sym (ends_within turn (λ c. 0) (λ c. c < n) Found children_left turn_keeps turn_limit child c (enough child h) e) ∙ whole
 
     pub find_none : child ≡ 0 → 0 ≡ r
-    unfolding find_turn if◌then◌else◌
+    unfolding find_turn when◌then◌else◌
     find_none z = ends_there 0 (rw z)
 
     module _ (at : Bool) (known : child ≡ 0 → ⊥) (at_there : at ≡ is_at text code name child t) where
       pub find_found : at ≡ true → child ≡ r
-      unfolding find_turn if◌then◌else◌
+      unfolding find_turn when◌then◌else◌
       find_found e = ends_there child (rw (ne_eqb child 0 known, ← at_there, e))
 
       pub find_next : (x : ℕ) → at ≡ false → x ≡ word t child next_word → find_from text code name t x ≡ r
-      unfolding find_from find_turn if◌then◌else◌
+      unfolding find_from find_turn when◌then◌else◌
       find_next x e d =
           sym (goes_on_within turn (λ c. 0) (λ c. c < n) Found children_left turn_keeps turn_limit child x h (enough child h) (rw (ne_eqb child 0 known, ← at_there, e, d))) ∙ whole
 
@@ -91,7 +91,7 @@ module _ (text t : List ℕ) (n code : ℕ) (name : Name) (s : Sound text t n) w
 -- a child that stands at a field has the name's bytes
 pub field_stands : (text t : List ℕ) (child : ℕ) (name : Name) → is_at text field_code name child t ≡ true →
     (word t child step_word ≡ field_code) × (bytes_of text (unpacked_name (word t child name_word)) ≡ bytes_of text name)
-unfolding is_at if◌then◌else◌
+unfolding is_at when◌then◌else◌
 field_stands text t child name at =
     cases (eqb (word t child step_word) field_code)
     (λ e. (eqb-true _ _ e, eq_name_true _ _ (rw e at at)))
@@ -114,7 +114,7 @@ other_tag text t child tag mark name tags e d differ =
 -- ---- the search for another step is by its code alone
 module _ (text t : List ℕ) (code : ℕ) (name : Name) (no_field : code ≡ field_code → ⊥) where
   pub by_code : (child : ℕ) → is_at text code name child t ≡ eqb (word t child step_word) code
-  unfolding is_at if◌then◌else◌
+  unfolding is_at when◌then◌else◌
   by_code child = rw (ne_eqb code field_code no_field) (cases (eqb (word t child step_word) code) (λ e. rw e) (λ e. rw e))
 
 -- so that the name does not matter

@@ -4,7 +4,7 @@ use Rattle.std.proofs.Math.Path.{sym, ap}
 use Rattle.std.proofs.Common.{◌∙◌, arith}
 use Prim.Native.Nat.{ℕ, zero, suc, ◌-◌, ◌/◌, ◌%◌, ◌<◌, ◌≤◌}
 use borrow.Author.Tests.{eqb-true, eqb-false, eq-eqb, ne_eqb, ltb-true}
-use Rattle.logic.specs.Test.{if◌then◌else◌}
+use Rattle.logic.specs.Test.{when◌then◌else◌}
 use Rattle.logic.specs.laws.Test.{cases, both}
 use Rattle.logic.specs.Turns.{Turn, done, after, turns}
 use Rattle.logic.specs.laws.Invariant.{Keeps, goes_on_within, ends_within, holds_within}
@@ -16,7 +16,7 @@ use Rattle.search.specs.Tree.{Seeking, follow, seek, seek_at, seek_from, seek_st
 
 -- ---- a link
 pub follow_below : (place field n : ℕ) (t : List ℕ) → (follow place field n t ≡ 0 → ⊥) → (place < follow place field n t) × (follow place field n t < n)
-unfolding follow if◌then◌else◌
+unfolding follow when◌then◌else◌
 follow_below place field n t z =
     let w : ℕ = word t place field in
     cases (ltb place w && ltb w n)
@@ -36,7 +36,7 @@ module _ (place field n child : ℕ) (t : List ℕ) (e : child ≡ follow place 
 
 -- the link that a search takes next is one of a child
 pub side : (F : ℕ → Type 0) → F left_word → F right_word → (bits : ℕ) → F (side_word bits)
-unfolding side_word if◌then◌else◌
+unfolding side_word when◌then◌else◌
 side F l r bits = cases (eqb (bits % 2) 0) (λ e. rw e l) (λ e. rw e r)
 
 -- ---- the search
@@ -55,7 +55,7 @@ module _ (code n : ℕ) (t : List ℕ) (F : ℕ → Type 0) (root : F root_word)
   ahead (seeking bits place field) = n - place
 
   turn_ends : (s : Seeking) → Before s → Keeps Before Ends ahead (ahead s) (seek_turn code n t s)
-  unfolding seek_turn seek_at if◌then◌else◌
+  unfolding seek_turn seek_at when◌then◌else◌
   turn_ends (seeking bits place field) h =
       let child : ℕ = follow place field n t in
       cases (eqb child 0)
@@ -92,16 +92,16 @@ module _ (code n : ℕ) (t : List ℕ) (bits place field child : ℕ) (r : Slot)
       (turn_ends code n t Any tt tt tt) turn_limit (seeking bits place field) s (omega arith) e) ∙ whole
 
   pub seek_none : child ≡ 0 → slot 0 place field ≡ r
-  unfolding seek_turn seek_at if◌then◌else◌
+  unfolding seek_turn seek_at when◌then◌else◌
   seek_none z = ends_there (slot 0 place field) (rw (← leads, z))
 
   module _ (known : child ≡ 0 → ⊥) (step : ℕ) (at : step ≡ word t child step_word) where
     pub seek_found : step ≡ code → slot child place field ≡ r
-    unfolding seek_turn seek_at if◌then◌else◌
+    unfolding seek_turn seek_at when◌then◌else◌
     seek_found e = ends_there (slot child place field) (rw (← leads, ne_eqb child 0 known, ← at, eq-eqb step code e))
 
     pub seek_next : (next : ℕ) → (step ≡ code → ⊥) → next ≡ side_word bits → seek_from code n t (seeking (bits / 2) child next) ≡ r
-    unfolding seek_from seek_turn seek_at if◌then◌else◌
+    unfolding seek_from seek_turn seek_at when◌then◌else◌
     seek_next next d x =
         ap (λ (w : ℕ). seek_from code n t (seeking (bits / 2) child w)) x
         ∙ sym (goes_on_within turn seek_stop (Before code n t Any tt tt tt) (Ends code n t Any tt tt tt) (ahead code n t Any tt tt tt)
@@ -119,7 +119,7 @@ module _ (code n n' : ℕ) (t t' : List ℕ) (P : ℕ → ℕ → Type 0)
   Again r r' = P r.place r.field × (((led_to r ≡ 0 → ⊥) → word t' (led_to r) step_word ≡ code) → r' ≡ slot (led_to r) r.place r.field)
 
   again_from : (g bits q f : ℕ) → n - q < g → P q f → Again (turns (seek_turn code n t) seek_stop g (seeking bits q f)) (turns (seek_turn code n' t') seek_stop g (seeking bits q f))
-  unfolding turns after seek_turn seek_at if◌then◌else◌
+  unfolding turns after seek_turn seek_at when◌then◌else◌
   again_from zero bits q f l p = absurd (omega arith)
   again_from (suc g) bits q f l p =
       let c : ℕ = follow q f n t in

@@ -6,7 +6,7 @@ use mathlib.Core.List.{List}
 use Prim.Native.Nat.{ℕ, ◌+◌}
 use native.Mathlib.Omega.{arith}
 use lib.Dec.{eqb}
-use Rattle.logic.specs.Test.{if◌then◌else◌}
+use Rattle.logic.specs.Test.{when◌then◌else◌}
 use Rattle.logic.specs.laws.Flag.{if_either}
 use Rattle.text.specs.declared.Name.{Name}
 use Rattle.refusal.specs.declared.Refusal.{Refusal}
@@ -28,12 +28,12 @@ due_has P kind p q = if_either P (eqb kind struct_kind) p q
 
 module _ (commands text : List ℕ) (kind at byte : ℕ) (flag : Bool) (b : byte ≡ opener_of kind) (f : flag ≡ named_at commands text byte at) where
   a_name : (name : Name) → flag ≡ true → name ≡ name_at commands (at + 1) → O.Named name ≡ field_at commands text kind at
-  unfolding field_at if◌then◌else◌
+  unfolding field_at when◌then◌else◌
   a_name name is n = rw (← b, sym f ∙ is, n)
 
   -- the end stands where a field can
   at_once : (last : Bool) → flag ≡ false → last ≡ begins_at commands end_byte at → last ≡ true → O.Ended ≡ field_at commands text kind at
-  unfolding field_at if◌then◌else◌
+  unfolding field_at when◌then◌else◌
   at_once last fails l is =
       rw (
         ← b,
@@ -44,7 +44,7 @@ module _ (commands text : List ℕ) (kind at byte : ℕ) (flag : Bool) (b : byte
 
   module _ (due : Due) (answer : Read) (fails : flag ≡ false) (d : due ≡ due_of kind) (e : answer ≡ read_command commands text at due) where
     read_on : end_or answer ≡ field_at commands text kind at
-    unfolding field_at if◌then◌else◌
+    unfolding field_at when◌then◌else◌
     read_on = rw (← b, sym f ∙ fails, e, d)
 
     an_end : (command : Command) (next : ℕ) → answer ≡ R.Command command next → O.Ended ≡ field_at commands text kind at

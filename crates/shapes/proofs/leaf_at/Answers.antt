@@ -7,7 +7,7 @@ use mathlib.Core.List.{List}
 use Prim.Native.Nat.{ℕ, ◌+◌, ◌<◌, ◌≤◌}
 use native.Mathlib.Omega.{arith}
 use lib.ListN.{length, get_or}
-use Rattle.logic.specs.Test.{if◌then◌else◌}
+use Rattle.logic.specs.Test.{when◌then◌else◌}
 use Rattle.datatype.specs.Codes.{null}
 use Rattle.options.specs.Word.{binary_type}
 use Rattle.commands.specs.declared.Command.{Command}
@@ -26,7 +26,7 @@ use Rattle.shapes.specs.laws.Bytes.{bare_read}
 use Rattle.shapes.proofs.leaf_at.Goals as goal
 
 ended : (options : ℕ) (commands text : List ℕ) (at : ℕ) → length commands ≤ at → O.Other ≡ leaf_at options commands text at
-unfolding leaf_at read_command bad_command if◌then◌else◌
+unfolding leaf_at read_command bad_command when◌then◌else◌
 ended options commands text at h = rw (le-leb _ _ h)
 
 module _ (options : ℕ) (commands text : List ℕ) (at byte : ℕ) (there : at < length commands) (is : byte ≡ get_or commands at 0) where

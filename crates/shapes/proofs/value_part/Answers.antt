@@ -8,7 +8,7 @@ use Prim.Native.Nat.{ℕ}
 use lib.Dec.{ltb}
 use lib.ListN.{length, get_or}
 use native.Mathlib.Omega.{arith}
-use Rattle.logic.specs.Test.{if◌then◌else◌}
+use Rattle.logic.specs.Test.{when◌then◌else◌}
 use Rattle.logic.specs.laws.Test.{both}
 use Rattle.commands.specs.declared.Due.{Due}
 use Rattle.commands.specs.Commands.{read_command}
@@ -21,7 +21,7 @@ use Rattle.shapes.proofs.value_part.Goals as goal
 
 value_at_once : (commands text : List ℕ) (at : ℕ) (due : Due) (step : Step) (flag : Bool) → takes_value due ≡ true → flag ≡ plain_at commands at → flag ≡ true →
     P.Step step at ≡ value_part commands step at (read_command commands text at due)
-unfolding plain_at if◌then◌else◌
+unfolding plain_at when◌then◌else◌
 value_at_once commands text at due step flag t f e =
     let byte : ℕ = get_or commands at 0 in
     both (ltb at (length commands)) (plain_byte byte) (sym f ∙ e) λ p q.
@@ -40,9 +40,9 @@ read_byte-requires c =
     omega (arith, next_above _ _ _ _ _ _ _ e h, next_within _ _ _ _ _ _ _ e h)
 
 pub returns-then-read_byte-eq-END : goal.returns-then-read_byte-eq-END
-unfolding if◌then◌else◌
+unfolding when◌then◌else◌
 returns-then-read_byte-eq-END c = rw (← c.read_command-read.ensures, c.in-Command.is, ← c.read_byte.ensures, eq-eqb _ _ c.if-read_byte-eq-END.true)
 
 pub returns-else-read_byte-eq-END : goal.returns-else-read_byte-eq-END
-unfolding if◌then◌else◌
+unfolding when◌then◌else◌
 returns-else-read_byte-eq-END c = rw (← c.read_command-read.ensures, c.in-Command.is, ← c.read_byte.ensures, ne_eqb _ _ c.if-read_byte-eq-END.false)

@@ -5,7 +5,7 @@ use Rattle.std.proofs.Common.{sym, ◌∙◌, arith, eqb-true, ltb-true, leb-tru
 use Rattle.std.proofs.lemmas.Bool.{false≢true}
 use Rattle.std.proofs.Math.Option.{some}
 use Rattle.std.proofs.Math.ListN.{length}
-use Rattle.logic.specs.Test.{if◌then◌else◌}
+use Rattle.logic.specs.Test.{when◌then◌else◌}
 use Rattle.logic.specs.laws.Test.{both}
 use Rattle.logic.specs.laws.Table.{all_below, below_at}
 use Rattle.text.specs.declared.Name.{Name}
@@ -41,17 +41,17 @@ bare_form (variant f) e k = absurd (false≢true e)
 bare_form (counted_variant f) e k = absurd (false≢true e)
 
 -- each byte that is told to be such a value is one, by going through them
-bare_told : all_below 22 (λ b. if plain_byte b then is_bare (form_of b) else true) ≡ true
-unfolding is_bare form_of all_below plain_byte if◌then◌else◌
+bare_told : all_below 22 (λ b. when plain_byte b then is_bare (form_of b) else true) ≡ true
+unfolding is_bare form_of all_below plain_byte when◌then◌else◌
 bare_told = refl
 
 bare_byte : {P : Type 0} (byte : ℕ) → plain_byte byte ≡ true → (byte ≤ struct_byte → is_bare (form_of byte) ≡ true → P) → P
-unfolding plain_byte if◌then◌else◌
+unfolding plain_byte when◌then◌else◌
 bare_byte byte e k =
     both _ (not (eqb byte tuple_byte)) e λ d n.
     both (leb byte struct_byte) (not (eqb byte text_byte)) d λ l m.
     let small : byte ≤ struct_byte = leb-true byte struct_byte l in
-    k small (rw e at (below_at 22 (λ b. if plain_byte b then is_bare (form_of b) else true) bare_told byte (omega arith)))
+    k small (rw e at (below_at 22 (λ b. when plain_byte b then is_bare (form_of b) else true) bare_told byte (omega arith)))
 
 -- it can stand where a value is due, and is no key
 value_stands : (due : Due) (byte : ℕ) → takes_value due ≡ true → byte ≤ struct_byte → (stands due byte ≡ true) × (bad_key due byte ≡ false)
@@ -109,7 +109,7 @@ end_read commands text at due flag s k f e = begun commands end_byte at flag f e
 -- the end of a sequence
 pub end_part : (commands text : List ℕ) (at : ℕ) (flag : Bool) → flag ≡ begins_at commands end_byte at → flag ≡ true →
     P.Ended (at + 1) ≡ value_part commands S.Element at (read_command commands text at D.ValueOrEnd)
-unfolding if◌then◌else◌
+unfolding when◌then◌else◌
 end_part commands text at flag f e =
     begun commands end_byte at flag f e λ there is. rw (end_read commands text at D.ValueOrEnd flag refl refl f e, is) refl
 

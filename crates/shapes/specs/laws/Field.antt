@@ -4,7 +4,7 @@ use Rattle.std.proofs.Common.{◌∙◌, true≢false, arith, eqb-true}
 use Rattle.std.specs.Prelude.{true, false, List, ℕ, ◌+◌, ◌<◌, ◌≤◌, eqb, length}
 use Rattle.std.proofs.Math.Option.{some}
 use Rattle.std.proofs.Math.ListN.{get_or}
-use Rattle.logic.specs.Test.{if◌then◌else◌}
+use Rattle.logic.specs.Test.{when◌then◌else◌}
 use Rattle.logic.specs.laws.Test.{cases}
 use Rattle.text.specs.declared.Name.{Name}
 use Rattle.text.specs.Name.{bytes_of}
@@ -31,7 +31,7 @@ use Rattle.shapes.specs.Field.{due_of, end_or, field_at, opener_of}
 
 -- the part that it is, which a name that is not UTF-8 refuses
 abbrev pub part_of : List ℕ → ℕ → Field → Part
-part_of text at (O.Named name) = if is_utf8 (bytes_of text name) then P.Step (S.Field name) (at + 5) else P.Refused F.BadName at
+part_of text at (O.Named name) = when is_utf8 (bytes_of text name) then P.Step (S.Field name) (at + 5) else P.Refused F.BadName at
 part_of text at O.Ended = P.Ended (at + 1)
 part_of text at (O.Refused refusal) = P.Refused refusal at
 
@@ -42,7 +42,7 @@ module _ (commands text : List ℕ) (at byte : ℕ) (due : Due) (which : Name �
     (is-due : (command : Command) (next : ℕ) → eqb (get_or commands at 0) end_byte ≡ false → read_command commands text at due ≡ R.Command command next → command ≡ which (name_at commands (at + 1))) where
   -- where no name stands: the end, or a refusal
   unnamed : (answer : Read) → read_command commands text at due ≡ answer → named_at commands text byte at ≡ false → field_part commands at answer ≡ part_of text at (end_or answer)
-  unfolding if◌then◌else◌ form_of operands
+  unfolding when◌then◌else◌ form_of operands
   unnamed (R.Command command next) e fails =
       let g : Good commands text at due command next = good commands text at due command next e in
       cases (eqb (get_or commands at 0) end_byte)
@@ -52,8 +52,8 @@ module _ (commands text : List ℕ) (at byte : ℕ) (due : Due) (which : Name �
   unnamed (R.Refused refusal place) e fails = rw (refused_place commands text at due refusal place e)
 
   field_as : field_part commands at (read_command commands text at due) ≡ part_of text at
-      (if named_at commands text byte at then O.Named (name_at commands (at + 1)) else end_or (read_command commands text at due))
-  unfolding if◌then◌else◌
+      (when named_at commands text byte at then O.Named (name_at commands (at + 1)) else end_or (read_command commands text at due))
+  unfolding when◌then◌else◌
   field_as =
       cases (named_at commands text byte at)
       (λ p. cases (is_utf8 (bytes_of text (name_at commands (at + 1))))
@@ -62,7 +62,7 @@ module _ (commands text : List ℕ) (at byte : ℕ) (due : Due) (which : Name �
       (λ p. rw p (unnamed (read_command commands text at due) refl p))
 
 pub field_part_lem : (commands text : List ℕ) (kind positions i at : ℕ) → is_struct kind ≡ true → part_at commands text kind positions i at ≡ part_of text at (field_at commands text kind at)
-unfolding part_at field_at if◌then◌else◌ form_of
+unfolding part_at field_at when◌then◌else◌ form_of
 field_part_lem commands text kind positions i at e =
     cases (eqb kind struct_kind)
     (λ q. rw (eqb-true kind struct_kind q)
@@ -79,7 +79,7 @@ module _ (commands text : List ℕ) (kind at : ℕ) (field : Field) (f : field �
     no_name_lem (R.Refused refusal place) h = let z : ◌≡◌ {A = ℕ} 0 1 = cc in absurd (omega arith)
 
     stood : {P : Type 0} → (named_at commands text (opener_of kind) at ≡ true → name ≡ name_at commands (at + 1) → P) → P
-    unfolding field_at if◌then◌else◌
+    unfolding field_at when◌then◌else◌
     stood k =
         let h : field_at commands text kind at ≡ O.Named name = sym f ∙ e in
         cases (named_at commands text (opener_of kind) at)
@@ -105,7 +105,7 @@ module _ (commands text : List ℕ) (kind at : ℕ) (field : Field) (f : field �
     read_end (R.Refused refusal place) r h = let z : ◌≡◌ {A = ℕ} 0 1 = cc in absurd (omega arith)
 
     pub end_inside : at < length commands
-    unfolding field_at if◌then◌else◌
+    unfolding field_at when◌then◌else◌
     end_inside =
         let h : field_at commands text kind at ≡ O.Ended = sym f ∙ e in
         cases (named_at commands text (opener_of kind) at)

@@ -5,7 +5,7 @@ use Rattle.std.proofs.Common.{sym, ap, ◌∙◌, arith}
 use Prim.{tt}
 use Prim.Native.Nat.{ℕ, zero, suc, ◌+◌, ◌<◌, ◌≤◌}
 use borrow.Author.Tests.{eqb-true, eqb-false, ne_eqb, ltb-true, ltb-false, not-true}
-use Rattle.logic.specs.Test.{if◌then◌else◌}
+use Rattle.logic.specs.Test.{when◌then◌else◌}
 use Rattle.logic.specs.laws.Test.{cases, both}
 use Rattle.datatype.specs.Codes.{null}
 use Rattle.commands.specs.declared.Command.{Command}
@@ -126,7 +126,7 @@ module _ (text commands : List ℕ) (at : ℕ) where
     leaf_among (suc n) l byte h = cases (eqb byte n) (λ q. rw (eqb-true byte n q) l.0) (λ q. let d : (byte ≡ n → ⊥) = eqb-false byte n q in leaf_among n l.1 byte (omega (arith, d)))
 
     pub plain_shape : (byte : ℕ) → byte < text_byte → shape_at options text (made (form_of byte) commands at) ≡ H.Leaf (eqb byte 0) (plain_kind byte)
-    unfolding AreLeaves IsLeaf shape_at made form_of plain_kind if◌then◌else◌
+    unfolding AreLeaves IsLeaf shape_at made form_of plain_kind when◌then◌else◌
     plain_shape byte h = leaf_among text_byte (refl, (refl, (refl, (refl, (refl, (refl, (refl, (refl, (refl, (refl, (refl, (refl, (refl, tt))))))))))))) byte h
 
 pub plain_leaf : (options : ℕ) (commands text : List ℕ) (at byte : ℕ) → at < length commands → byte ≡ get_or commands at 0 → (kind : ℕ) → byte < text_byte → kind ≡ plain_kind byte →
@@ -142,7 +142,7 @@ own_known kind own = both (not (eqb kind null)) (ltb kind char_byte) own λ p q.
 
 pub own_leaf : (options : ℕ) (commands text : List ℕ) (at : ℕ) → at < length commands → is_own_byte (get_or commands at 0) ≡ true →
     O.Value false (get_or commands at 0) (at + 1) ≡ leaf_at options commands text at
-unfolding plain_kind if◌then◌else◌
+unfolding plain_kind when◌then◌else◌
 own_leaf options commands text at there own =
     let byte = get_or commands at 0 in
     let known = own_known byte own in

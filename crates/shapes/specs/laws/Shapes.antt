@@ -6,7 +6,7 @@ use Rattle.std.proofs.Common.{sym, ◌∙◌, le_refl, arith}
 use Rattle.std.proofs.lemmas.Bool.{false≢true}
 use Rattle.std.proofs.Math.Option.{some}
 use Rattle.std.proofs.Math.Dec.{eqb}
-use Rattle.logic.specs.Test.{if◌then◌else◌}
+use Rattle.logic.specs.Test.{when◌then◌else◌}
 use Rattle.datatype.specs.Codes.{null}
 use Rattle.options.specs.Word.{map_as_struct, string_type, bytes_as_large_binary, string_as_large_utf8, guess_dates}
 use Rattle.text.specs.declared.Name.{Name}
@@ -32,8 +32,8 @@ use Rattle.shapes.specs.Steps.{no_name, name_of, Inside, Good}
 use Rattle.shapes.specs.Shapes.{shape_at, is_parted, value_part, field_part, part_at}
 
 -- a choice has what both its sides have
-if_has : {A : Type 0} (P : A → Type 0) (t : Bool) {a b : A} → (t ≡ true → P a) → (t ≡ false → P b) → P (if t then a else b)
-unfolding if◌then◌else◌
+if_has : {A : Type 0} (P : A → Type 0) (t : Bool) {a b : A} → (t ≡ true → P a) → (t ≡ false → P b) → P (when t then a else b)
+unfolding when◌then◌else◌
 if_has P true p q = p refl
 if_has P false p q = q refl
 
@@ -100,16 +100,16 @@ module _ (commands text : List ℕ) (kind positions i at : ℕ) (part : Part) (e
 -- at one kind: for the loop over one container
 module _ (commands text : List ℕ) (positions i at : ℕ) where
   pub sequence_part : part_at commands text sequence_kind positions i at ≡ value_part commands S.Element at (read_command commands text at D.ValueOrEnd)
-  unfolding part_at if◌then◌else◌
+  unfolding part_at when◌then◌else◌
   sequence_part = refl
 
-  pub tuple_part : part_at commands text tuple_kind positions i at ≡ (if ltb i positions then value_part commands (S.Position i) at (read_command commands text at D.Value) else P.Ended at)
-  unfolding part_at if◌then◌else◌
+  pub tuple_part : part_at commands text tuple_kind positions i at ≡ (when ltb i positions then value_part commands (S.Position i) at (read_command commands text at D.Value) else P.Ended at)
+  unfolding part_at when◌then◌else◌
   tuple_part = refl
 
   -- a map has no positions
   pub map_part : part_at commands text map_kind positions i at ≡ part_at commands text map_kind 0 i at
-  unfolding part_at if◌then◌else◌
+  unfolding part_at when◌then◌else◌
   map_part = refl
 
 -- ---- a shape

@@ -5,7 +5,7 @@ use Rattle.std.proofs.lemmas.Bool.{false≢true}
 use Rattle.std.proofs.Math.Option.{Option, none, some}
 use Rattle.std.proofs.Math.ListN.{get_elem?}
 use borrow.Author.Tests.{leb-true, le-leb, lt-leb}
-use Rattle.logic.specs.Test.{if◌then◌else◌}
+use Rattle.logic.specs.Test.{when◌then◌else◌}
 use Rattle.logic.specs.laws.Test.{if_passed, if_failed, cases, both}
 use Rattle.text.specs.Utf8.{Range, ◌to◌, table, within, due_in, reads, is_utf8, fits, Utf8, empty, next}
 
@@ -178,21 +178,21 @@ is_utf8_sound bytes e = let r = reads_sound [] bytes e in none_due r.0 r.1 bytes
 
 -- No proof cites these examples: a surrogate, overlong forms, and the ends of the last row.
 surrogate : is_utf8 (0xED ∷ 0xA0 ∷ 0x80 ∷ []) ≡ false
-unfolding reads due_in within if◌then◌else◌
+unfolding reads due_in within when◌then◌else◌
 surrogate = refl
 
 overlong_two : is_utf8 (0xC0 ∷ 0x80 ∷ []) ≡ false
-unfolding reads due_in within if◌then◌else◌
+unfolding reads due_in within when◌then◌else◌
 overlong_two = refl
 
 overlong_three : is_utf8 (0xE0 ∷ 0x80 ∷ 0x80 ∷ []) ≡ false
-unfolding reads due_in within if◌then◌else◌
+unfolding reads due_in within when◌then◌else◌
 overlong_three = refl
 
 past_last : is_utf8 (0xF4 ∷ 0x90 ∷ 0x80 ∷ 0x80 ∷ []) ≡ false
-unfolding reads due_in within if◌then◌else◌
+unfolding reads due_in within when◌then◌else◌
 past_last = refl
 
 last : is_utf8 (0xF4 ∷ 0x8F ∷ 0xBF ∷ 0xBF ∷ []) ≡ true
-unfolding reads due_in within if◌then◌else◌
+unfolding reads due_in within when◌then◌else◌
 last = refl

@@ -6,7 +6,7 @@ use Rattle.std.proofs.Common.{ap, sym, ◌∙◌, true≢false, arith, length-se
 use borrow.Author.Tests.{lt-ltb, le-ltb, le-leb, lt-leb, leb-true, ltb-true, ltb-false, eqb-true, eqb-false, eq-eqb, ne_eqb}
 use Rattle.std.proofs.Math.Dec.{ltb}
 use Rattle.std.proofs.lemmas.List.{length-replicate, set-get_or, set_comm}
-use Rattle.logic.specs.Test.{if◌then◌else◌}
+use Rattle.logic.specs.Test.{when◌then◌else◌}
 use Rattle.logic.specs.laws.Test.{cases, both, neither}
 use Rattle.words.specs.Word.{table_places, place_words, table_words, row_words, links_from, links_end, link_limit, IsTable, IsRow, HasRoom, in_whole, in_each, is_link, is_lower, has_word, row_word, plane_words, gap_words, plane_index, index_of, part_of, with_part, word, with_word, has_among, zeros, zeroed_where, orders_from, orders_end, is_order, cleared_in, cleared_to}
 
@@ -18,7 +18,7 @@ pub link_end : (f : ℕ) → is_link f ≡ true → f < links_end
 link_end f e = both (leb links_from f) (ltb f links_end) e λ a b. ltb-true f links_end b
 
 pub link_row : (f : ℕ) → links_from ≤ f → f < links_end → (is_link f ≡ true) × (row_word f ≡ links_from + (f - links_from) / 2)
-unfolding row_word if◌then◌else◌
+unfolding row_word when◌then◌else◌
 link_row f l m = (rw (le-leb links_from f l, lt-ltb f links_end m) refl, rw (le-ltb f links_from l, lt-ltb f links_end m) refl)
 
 data Stands (f : ℕ) : Type 0 where
@@ -27,7 +27,7 @@ data Stands (f : ℕ) : Type 0 where
   behind : links_end ≤ f → is_link f ≡ false → row_word f ≡ f - (links_end - links_from) / 2 → Stands f
 
 stands : (f : ℕ) → Stands f
-unfolding row_word if◌then◌else◌
+unfolding row_word when◌then◌else◌
 stands f =
     cases (ltb f links_from)
     (λ a. let l : f < links_from = ltb-true f links_from a in before l (rw (lt-leb links_from f l) refl) (rw a refl))
@@ -70,7 +70,7 @@ row_inside f l = go (stands f)
 -- ---- the two links of a word
 -- what is stored is there, if there is room for it
 part_same : (f w v : ℕ) → HasRoom f v → part_of f (with_part f w v) ≡ v
-unfolding part_of with_part if◌then◌else◌
+unfolding part_of with_part when◌then◌else◌
 part_same f w v (in_whole l) = rw l refl
 part_same f w v (in_each i) =
     cases (is_link f)
@@ -80,19 +80,19 @@ part_same f w v (in_each i) =
 module _ (f g w : ℕ) where
   -- the other link stays
   part_other : (v : ℕ) → Paired f g → part_of g (with_part f w v) ≡ part_of g w
-  unfolding part_of with_part if◌then◌else◌
+  unfolding part_of with_part when◌then◌else◌
   part_other v (first_lower i j a b) = rw (i, j, a, b) (omega arith)
   part_other v (first_upper i j a b) = rw (i, j, a, b) (omega arith)
 
   -- and the two can be stored in either order
   part_swap : (v x : ℕ) → Paired f g → with_part g (with_part f w v) x ≡ with_part f (with_part g w x) v
-  unfolding with_part if◌then◌else◌
+  unfolding with_part when◌then◌else◌
   part_swap v x (first_lower i j a b) = rw (i, j, a, b) (omega arith)
   part_swap v x (first_upper i j a b) = rw (i, j, a, b) (omega arith)
 
 -- to store what is there changes nothing
 part_kept : (f w : ℕ) → with_part f w (part_of f w) ≡ w
-unfolding part_of with_part if◌then◌else◌
+unfolding part_of with_part when◌then◌else◌
 part_kept f w =
     cases (is_link f)
     (λ l. cases (is_lower f) (λ e. rw (l, e) (omega arith)) (λ e. rw (l, e) (omega arith)))
@@ -100,7 +100,7 @@ part_kept f w =
 
 -- the second store is all that is left
 part_again : (f w v x : ℕ) → with_part f (with_part f w v) x ≡ with_part f w x
-unfolding with_part if◌then◌else◌
+unfolding with_part when◌then◌else◌
 part_again f w v x =
     cases (is_link f)
     (λ l. cases (is_lower f) (λ e. rw (l, e) (omega arith)) (λ e. rw (l, e) (omega arith)))
@@ -109,15 +109,15 @@ part_again f w v x =
 -- what each is
 module _ (f w : ℕ) (l : is_link f ≡ true) where
   pub lower_part : f % 2 ≡ 0 → w % link_limit ≡ part_of f w
-  unfolding part_of if◌then◌else◌
+  unfolding part_of when◌then◌else◌
   lower_part e = rw (l, eq-eqb (f % 2) 0 e) refl
 
   pub upper_part : (f % 2 ≡ 0 → ⊥) → w / link_limit ≡ part_of f w
-  unfolding part_of if◌then◌else◌
+  unfolding part_of when◌then◌else◌
   upper_part n = rw (l, ne_eqb (f % 2) 0 n) refl
 
 part_zero : (f : ℕ) → part_of f 0 ≡ 0
-unfolding part_of if◌then◌else◌
+unfolding part_of when◌then◌else◌
 part_zero f = cases (is_link f) (λ l. cases (is_lower f) (λ e. rw (l, e) refl) (λ e. rw (l, e) refl)) (λ l. rw l refl)
 
 -- ---- where words stand
@@ -128,11 +128,11 @@ has_word_lem p f l b = rw (lt-ltb p table_places l, lt-ltb f place_words b)
 
 -- in the gaps, and in the planes
 pub index_gap : (p : ℕ) → p / gap_words * plane_words + p % gap_words ≡ plane_index 0 p
-unfolding plane_index if◌then◌else◌
+unfolding plane_index when◌then◌else◌
 index_gap p = refl
 
 pub index_plane : (k p : ℕ) → (k ≡ 0 → ⊥) → (k - 1) * plane_words + gap_words + p ≡ plane_index k p
-unfolding plane_index if◌then◌else◌
+unfolding plane_index when◌then◌else◌
 index_plane k p n = rw (ne_eqb k 0 n) refl
 
 -- a word of the row by whether it stands in a gap
@@ -176,7 +176,7 @@ set_at P (x ∷ xs) (suc i) v h g = set_at P xs i v h g
 
 keeps : (P : ℕ → Type 0) (t : List ℕ) (p f v q g : ℕ) → (q ≡ p → g ≡ f → P (part_of f (with_part f (get_or t (index_of p f) 0) v))) → P (word t q g)
     → P (word (with_word t p f v) q g)
-unfolding word with_word if◌then◌else◌
+unfolding word with_word when◌then◌else◌
 keeps P t p f v q g h k =
     let i : ℕ = index_of p f in
     let j : ℕ = index_of q g in
@@ -208,7 +208,7 @@ word_other t p f v q g n = keeps (λ u. u ≡ word t q g) t p f v q g (λ x y. a
 
 -- what is stored is there
 pub word_same : (t : List ℕ) (p f v : ℕ) → IsTable t → IsRow p → f < place_words → HasRoom f v → word (with_word t p f v) p f ≡ v
-unfolding word with_word if◌then◌else◌
+unfolding word with_word when◌then◌else◌
 word_same t p f v n l b r =
     let e : has_word p f ≡ true = has_word_lem p f l b in
     let i : index_of p f < length t = omega (arith, index_inside p f e) in
@@ -216,12 +216,12 @@ word_same t p f v n l b r =
 
 -- a table stays as long as it is
 pub length_with : (t : List ℕ) (p f v : ℕ) → length (with_word t p f v) ≡ length t
-unfolding with_word if◌then◌else◌
+unfolding with_word when◌then◌else◌
 length_with t p f v = cases (has_word p f) (λ a. rw a (length-set t (index_of p f) (with_part f (get_or t (index_of p f) 0) v))) (λ a. rw a refl)
 
 -- to store what is there changes nothing
 pub with_word_lem : (t : List ℕ) (p f : ℕ) → with_word t p f (word t p f) ≡ t
-unfolding word with_word if◌then◌else◌
+unfolding word with_word when◌then◌else◌
 with_word_lem t p f = cases (has_word p f) (λ a. rw (a, part_kept f (get_or t (index_of p f) 0)) (set-get_or t (index_of p f) 0)) (λ a. rw a refl)
 
 -- ---- two stores
@@ -234,14 +234,14 @@ twice (x ∷ xs) (suc i) f g v w = ap (λ l. x ∷ l) (twice xs i f g v w)
 
 -- the second to the same word is all that is left
 pub with_again : (t : List ℕ) (p f v w : ℕ) → with_word (with_word t p f v) p f w ≡ with_word t p f w
-unfolding with_word if◌then◌else◌
+unfolding with_word when◌then◌else◌
 with_again t p f v w =
     let i : ℕ = index_of p f in
     cases (has_word p f) (λ a. rw a (twice t i f f v w ∙ ap (set t i) (part_again f (get_or t i 0) v w))) (λ a. rw a refl)
 
 -- to different words they can be made in either order
 pub with_swap : (t : List ℕ) (p f q g v w : ℕ) → (q ≡ p → g ≡ f → ⊥) → with_word (with_word t p f v) q g w ≡ with_word (with_word t q g w) p f v
-unfolding with_word if◌then◌else◌
+unfolding with_word when◌then◌else◌
 with_swap t p f q g v w n =
     let i : ℕ = index_of p f in
     let j : ℕ = index_of q g in
@@ -283,7 +283,7 @@ zero_at (suc n) (suc i) = zero_at n i
 
 -- each word of it is zero
 pub word_zero : (p f : ℕ) → word zeros p f ≡ 0
-unfolding word zeros if◌then◌else◌
+unfolding word zeros when◌then◌else◌
 word_zero p f = cases (has_word p f) (λ a. rw (a, zero_at table_words (index_of p f)) (part_zero f)) (λ a. rw a refl)
 
 -- ---- words zeroed
@@ -292,20 +292,20 @@ unfolding zeroed_where
 where_length z [] = refl
 where_length z (w ∷ ws) = ap suc (where_length (λ i. z (suc i)) ws)
 
-pub where_at : (z : ℕ → Bool) (t : List ℕ) (i : ℕ) → get_or (zeroed_where z t) i 0 ≡ (if z i then 0 else get_or t i 0)
-unfolding zeroed_where if◌then◌else◌
+pub where_at : (z : ℕ → Bool) (t : List ℕ) (i : ℕ) → get_or (zeroed_where z t) i 0 ≡ (when z i then 0 else get_or t i 0)
+unfolding zeroed_where when◌then◌else◌
 where_at z [] i = cases (z i) (λ a. rw a refl) (λ a. rw a refl)
 where_at z (w ∷ ws) zero = refl
 where_at z (w ∷ ws) (suc i) = where_at (λ j. z (suc j)) ws i
 
 -- a table is that if each word of it is
-pub where_is : (z : ℕ → Bool) (t u : List ℕ) → length u ≡ length t → ((i : ℕ) → i < length t → get_or u i 0 ≡ (if z i then 0 else get_or t i 0)) → u ≡ zeroed_where z t
+pub where_is : (z : ℕ → Bool) (t u : List ℕ) → length u ≡ length t → ((i : ℕ) → i < length t → get_or u i 0 ≡ (when z i then 0 else get_or t i 0)) → u ≡ zeroed_where z t
 where_is z t u e h =
     ext_get_or 0 u (zeroed_where z t) (e ∙ sym (where_length z t)) (λ i l. h i (rw e at l) ∙ sym (where_at z t i))
 
 -- all words, where those that are left were zero
 pub where_zeros : (z : ℕ → Bool) (t : List ℕ) → IsTable t → ((i : ℕ) → i < table_words → z i ≡ false → get_or t i 0 ≡ 0) → zeroed_where z t ≡ zeros
-unfolding zeros if◌then◌else◌
+unfolding zeros when◌then◌else◌
 where_zeros z t n h =
     ext_get_or 0 (zeroed_where z t) (replicate table_words 0) (where_length z t ∙ n ∙ sym (length-replicate {A = ℕ} table_words 0)) (λ i l.
     let b : i < table_words = omega (arith, where_length z t) in
@@ -335,7 +335,7 @@ held k b = go (stands k) (stands (k + 4))
     go (behind l i r) (halves n o j s) = absurd (omega arith)
 
 part_whole : (f w : ℕ) → is_link f ≡ false → part_of f w ≡ w
-unfolding part_of if◌then◌else◌
+unfolding part_of when◌then◌else◌
 part_whole f w l = rw l refl
 
 -- it is zero if the place's words there are; of a plane, the row's word behind the gap
@@ -347,7 +347,7 @@ module _ (t : List ℕ) (p k : ℕ) (l : IsRow p) (b : k + 1 < row_words) (h : (
   stands_here f e = rw e (sym (index_plane (k + 1) p (λ z. omega arith)) ∙ (let q : (k + 1 - 1) * plane_words + gap_words + p ≡ here = omega arith in q))
 
   part_read_lem : (f : ℕ) → f < place_words → row_word f ≡ k + 1 → part_of f (get_or t here 0) ≡ 0
-  unfolding word if◌then◌else◌
+  unfolding word when◌then◌else◌
   part_read_lem f m e = let z : word t p f ≡ 0 = h f e in rw (has_word_lem p f l m, stands_here f e) at z
 
   row_zero : get_or t here 0 ≡ 0
@@ -363,13 +363,13 @@ module _ (t : List ℕ) (p k : ℕ) (l : IsRow p) (b : k + 1 < row_words) (h : (
 
 -- ---- places zeroed
 order_rows : (row_word orders_from ≡ 7) × (row_word orders_end ≡ 9)
-unfolding row_word if◌then◌else◌
+unfolding row_word when◌then◌else◌
 order_rows = (refl, refl)
 
 -- a word that is left stands behind the gap: its place is not below n, and its plane is none that is zeroed whole
 module _ (i k n : ℕ) (l : i < plane_words) (inside : k * plane_words + i < table_words) (z : ltb i (cleared_in k n) ≡ false) where
   left_before : (k ≡ row_words - 1 → ⊥) × ((leb (row_word orders_from) (k + 1) && ltb (k + 1) (row_word orders_end)) ≡ false) × (gap_words + n ≤ i)
-  unfolding cleared_in if◌then◌else◌
+  unfolding cleared_in when◌then◌else◌
   left_before =
       cases (eqb k (row_words - 1))
       (λ a. let x : k ≡ row_words - 1 = eqb-true k (row_words - 1) a in let m : gap_words ≤ i = ltb-false i gap_words (rw a at z) in absurd (omega arith))

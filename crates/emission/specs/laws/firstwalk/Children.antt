@@ -7,7 +7,7 @@ use Rattle.std.proofs.Math.Option.{Option, none, some}
 use Prim.Native.Nat.{◌-◌, ℕ, zero, suc, ◌+◌, ◌*◌, ◌^◌, ◌≤◌, ◌<◌}
 use Rattle.std.proofs.Math.Dec.{eqb, leb}
 use borrow.Author.Tests.{leb-false, ne_eqb}
-use Rattle.logic.specs.Test.{if◌then◌else◌}
+use Rattle.logic.specs.Test.{when◌then◌else◌}
 use Rattle.logic.specs.laws.Test.{cases}
 use Rattle.options.specs.Word.{enums_without_data_as_strings}
 use Rattle.refusal.specs.declared.Refusal.{Refusal}
@@ -62,7 +62,7 @@ unfolding place_of
 columns_of_lem options name number missing (spot p b k m ks) = columns_typed (missing || b) k _ (field_type options name number (missing || b) k _)
 
 field_name : (options : ℕ) (name : List ℕ) (number : ℕ) (p : Place) → name_in (field_of options name number p) ≡ name
-unfolding field_of if◌then◌else◌
+unfolding field_of when◌then◌else◌
 field_name options name number (shown admits kind ps) =
     cases (eqb kind union_kind && Model.dataless ps && enums_without_data_as_strings options) (λ e. rw e) (λ e. rw e)
 
@@ -93,15 +93,15 @@ pub record Child (options : ℕ) (text t : List ℕ) (inner : ℕ → Walked) (s
       → Says (walk options (place_of missing (erase u))) 0 0 0 (fields_of_field (field_of options name number (place_of missing (erase u)))) 129 69993 (size_s u) (inner (num u))
 
 -- ---- gaps
-gaps_are : (k : ℕ) (t : List ℕ) (slot q v : ℕ) → variant_at t q ≡ v → gaps_at k t slot q ≡ (if eqb k union_kind then v - slot else 0)
-unfolding gaps_at if◌then◌else◌
+gaps_are : (k : ℕ) (t : List ℕ) (slot q v : ℕ) → variant_at t q ≡ v → gaps_at k t slot q ≡ (when eqb k union_kind then v - slot else 0)
+unfolding gaps_at when◌then◌else◌
 gaps_are k t slot q v e =
     cases (eqb k union_kind)
     (λ d. rw (d, e) (cases (leb slot v) (λ c. rw c) (λ c. let l : v < slot = leb-false slot v c in rw c (omega arith))))
     (λ d. rw d)
 
-gaps_few : (k v slot : ℕ) → (eqb k union_kind && leb 128 v) ≡ false → (if eqb k union_kind then v - slot else 0) ≤ 127
-unfolding if◌then◌else◌
+gaps_few : (k v slot : ℕ) → (eqb k union_kind && leb 128 v) ≡ false → (when eqb k union_kind then v - slot else 0) ≤ 127
+unfolding when◌then◌else◌
 gaps_few k v slot e = cases (eqb k union_kind) (λ d. let e' : leb 128 v ≡ false = rw d at e in let l : v < 128 = leb-false 128 v e' in rw d (omega arith)) (λ d. rw d (omega arith))
 
 -- sums that do not wrap
@@ -157,7 +157,7 @@ module _ (options : ℕ) (text t : List ℕ) (inner : ℕ → Walked) (k p m : �
       → {w : Walked}
       → Says (walk options (place_of (is_missing k m h) (erase u))) 0 0 0 (fields_of_field (field_of options (name_of s) (variant_of s) (place_of (is_missing k m h) (erase u)))) 129 69993 (size_s u) w
       → Says (first_of (walk options (place_of (is_missing k m h) (erase u))) (walks options k (places_of k m (erase_in qs)))) r n c
-      (gaps slot (if eqb k union_kind then variant_of s - slot else 0)
+      (gaps slot (when eqb k union_kind then variant_of s - slot else 0)
       (more (field_of options (name_of s) (variant_of s) (place_of (is_missing k m h) (erase u)))
       (fields_of options k (variant_of s + 1) (places_of k m (erase_in qs)))))
       0 0 (size_s u + size_in qs)
@@ -165,7 +165,7 @@ module _ (options : ℕ) (text t : List ℕ) (inner : ℕ → Walked) (k p m : �
   child_says s h u qs left r n c slot d b l₁ l₂ l₃ ih (turned {x = x} e) = turned {x = x} (rw e refl)
   child_says s h u qs left r n c slot d b l₁ l₂ l₃ ih (told {r' = r'} {n' = n'} {c' = c'} e er en ec br bn) =
       let f : Field = field_of options (name_of s) (variant_of s) (place_of (is_missing k m h) (erase u)) in
-      let g : ℕ = if eqb k union_kind then variant_of s - slot else 0 in
+      let g : ℕ = when eqb k union_kind then variant_of s - slot else 0 in
       let gf : g ≤ 127 = gaps_few k (variant_of s) slot b in
       let fr : columns_of f ≤ count_of f = column_few f in
       let fc : count_of f ≡ suc (count_in (fields_of_field f)) = count_of_lem f in
@@ -196,7 +196,7 @@ module _ (options : ℕ) (text t : List ℕ) (inner : ℕ → Walked) (k p m : �
       → r + 130 * size_in qs < 2 ^ 32 → n + 70000 * size_in qs < 2 ^ 32 → c ≤ r → Enumerates t false k p last qs
       → Says (walks options k (places_of k m (erase_in qs))) r n c (fields_of options k slot (places_of k m (erase_in qs))) 0 0 (size_in qs)
       (children_from text t inner k p left r n c slot (next_child t false k p last))
-  unfolding walk field_of place_of if◌then◌else◌ count_of columns_of names_of
+  unfolding walk field_of place_of when◌then◌else◌ count_of columns_of names_of
   kids_say no_spots left r n c slot last a l l₁ l₂ l₃ e = rw (e, ends left r n c slot) (told {r' = r} {n' = n} {c' = c} refl (omega arith) (omega arith) (omega arith) (omega arith) (omega arith))
   kids_say (child s h x u qs) zero r n c slot last a l l₁ l₂ l₃ e = absurd (omega arith)
   kids_say (child s h x u qs) (suc left) r n c slot last a l l₁ l₂ l₃ e =

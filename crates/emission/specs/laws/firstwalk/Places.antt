@@ -5,7 +5,7 @@ use Rattle.std.proofs.Common.{sym, ◌∙◌, length-append, length-take, ltb-tr
 use Rattle.std.proofs.Math.Path.{ap}
 use Rattle.std.proofs.lemmas.Bool.{false≢true, eqb-false}
 use native.Mathlib.Omega.{arith}
-use Rattle.logic.specs.Test.{if◌then◌else◌}
+use Rattle.logic.specs.Test.{when◌then◌else◌}
 use Rattle.logic.specs.laws.Test.{cases}
 use Rattle.text.specs.Name.{bytes_of}
 use Rattle.text.specs.Decimal.{numeral, decimal}
@@ -98,7 +98,7 @@ places_few n u g = omega (arith, all_numbers n u g, tally_few n (λ q. within q 
 -- ---- children by number: the model's places so, the same many
 insert_places : (k m : ℕ) (s : Step) (h x : ℕ) (u : Spot) (ks : Spots)
     → places_of k m (erase_in (insert_number_s s h x u ks)) ≡ insert_variant s (place_of (is_missing k m h) (erase u)) (places_of k m (erase_in ks))
-unfolding insert_number_s insert_variant place_of if◌then◌else◌
+unfolding insert_number_s insert_variant place_of when◌then◌else◌
 insert_places k m s h x u no_spots = refl
 insert_places k m s h x u (child r i j v ks) =
     cases (ltb (variant_of s) (variant_of r))
@@ -117,7 +117,7 @@ AllS P (child s h m u ks) = P s h m u × AllS P ks
 
 module _ (P : Step → ℕ → ℕ → Spot → Type 0) where
   insert_all : (s : Step) (h x : ℕ) (u : Spot) (ks : Spots) → P s h x u → AllS P ks → AllS P (insert_number_s s h x u ks)
-  unfolding insert_number_s if◌then◌else◌
+  unfolding insert_number_s when◌then◌else◌
   insert_all s h x u no_spots a b = (a, tt)
   insert_all s h x u (child r i j v ks) a b =
       cases (ltb (variant_of s) (variant_of r))
@@ -130,7 +130,7 @@ module _ (P : Step → ℕ → ℕ → Spot → Type 0) where
   number_all (child s h x u ks) a = insert_all s h x u (by_number_s ks) a.0 (number_all ks a.1)
 
 insert_size : (s : Step) (h x : ℕ) (u : Spot) (ks : Spots) → size_in (insert_number_s s h x u ks) ≡ size_s u + size_in ks
-unfolding insert_number_s if◌then◌else◌
+unfolding insert_number_s when◌then◌else◌
 insert_size s h x u no_spots = refl
 insert_size s h x u (child r i j v ks) = cases (ltb (variant_of s) (variant_of r)) (λ e. rw e refl) (λ e. rw e (omega (arith, insert_size s h x u ks)))
 
@@ -149,7 +149,7 @@ numeral_short (suc fuel) n =
     (λ e. rw (e, numeral) (rw length-append (omega (arith, numeral_short fuel (n / 10)))))
 
 pub variant_small : (k : ℕ) (s : Step) → step_fits k s ≡ true → variant_of s < 65536
-unfolding if◌then◌else◌
+unfolding when◌then◌else◌
 variant_small k (field name) e = omega arith
 variant_small k element e = omega arith
 variant_small k (position i) e = omega arith
@@ -158,7 +158,7 @@ variant_small k value e = omega arith
 variant_small k (variant i name) e = cases (is_struct k) (λ d. absurd (false≢true (rw d at e))) (λ d. let e' : ltb i 65536 ≡ true = rw d at e in ltb-true i 65536 e')
 
 position_small : (k i : ℕ) → step_fits k (position i) ≡ true → i < 65536
-unfolding if◌then◌else◌
+unfolding when◌then◌else◌
 position_small k i e =
     cases (eqb k union_kind)
     (λ d. absurd (false≢true (rw d at e)))

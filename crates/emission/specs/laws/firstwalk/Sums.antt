@@ -1,7 +1,7 @@
 -- Counts of fields: what sorting, gaps and a field's children add to them.
 use Rattle.std.specs.Prelude.{◌≡◌, refl, Bool, true, false, List, ℕ, zero, suc, ◌+◌, ◌≤◌, eqb, length}
 use Rattle.std.proofs.Common.{sym, ap, ◌∙◌, arith, length-append, ne_eqb}
-use Rattle.logic.specs.Test.{if◌then◌else◌}
+use Rattle.logic.specs.Test.{when◌then◌else◌}
 use Rattle.logic.specs.laws.Test.{cases}
 use Rattle.datatype.specs.Codes.{struct}
 use Rattle.text.specs.Name.{lt_name}
@@ -15,7 +15,7 @@ sum_f μ no_fields = 0
 sum_f μ (more f fs) = μ f + sum_f μ fs
 
 insert_sum : (μ : Field → ℕ) (f : Field) (fs : Fields) → sum_f μ (insert_field f fs) ≡ μ f + sum_f μ fs
-unfolding insert_field if◌then◌else◌
+unfolding insert_field when◌then◌else◌
 insert_sum μ f no_fields = omega arith
 insert_sum μ f (more g fs) = cases (lt_name (name_in g) (name_in f)) (λ e. rw e (omega (arith, insert_sum μ f fs))) (λ e. rw e refl)
 
@@ -68,7 +68,7 @@ gaps_names slot (suc n) fs = gaps_names (slot + 1) n fs
 -- ---- columns of one field, and columns against records
 pub columns_are : (kind type : ℕ) (nullable : Bool) (strategy number : ℕ) (name : List ℕ) (fs : Fields) → eqb type struct ≡ emits_struct kind →
     columns_of (mk type nullable strategy number name fs) ≡ Flat.columns_of kind (count_in fs) (columns_in fs)
-unfolding columns_of count_of if◌then◌else◌
+unfolding columns_of count_of when◌then◌else◌
 columns_are kind type nullable strategy number name no_fields t = rw t (cases (emits_struct kind) (λ e. rw e) (λ e. rw e))
 columns_are kind type nullable strategy number name (more (mk a b c d e gs) fs) t =
     rw (ne_eqb (suc (child_count fs)) 0 (omega arith), ne_eqb (suc (count_in gs) + count_in fs) 0 (omega arith)) (omega arith)

@@ -8,7 +8,7 @@ use Rattle.std.proofs.Math.Option.{Option, none, some}
 use Prim.Native.Nat.{◌-◌, ℕ, zero, suc, ◌+◌, ◌^◌, ◌≤◌, ◌<◌}
 use Rattle.std.proofs.Math.Dec.{eqb}
 use borrow.Author.Tests.{leb-true, leb-false, eqb-true, ne_eqb}
-use Rattle.logic.specs.Test.{if◌then◌else◌}
+use Rattle.logic.specs.Test.{when◌then◌else◌}
 use Rattle.logic.specs.laws.Test.{cases}
 use Rattle.datatype.specs.Codes.{null, struct, no_strategy}
 use Rattle.options.specs.Word.{allow_null_fields, enums_without_data_as_strings}
@@ -49,16 +49,16 @@ WalkSays (W.Refused x) o fs = o ≡ some (number_of x)
 WalkSays (W.Below r n c) o fs = (o ≡ none) × (r ≡ count_in fs) × (n ≡ length (names_in fs)) × (c ≡ columns_in fs)
 
 -- ---- the children in order
-order_places : (k m : ℕ) (ks : Spots) → (if eqb k union_kind then by_number (places_of k m (erase_in ks)) else places_of k m (erase_in ks)) ≡ places_of k m (erase_in (order_s false k ks))
-unfolding order_s if◌then◌else◌
+order_places : (k m : ℕ) (ks : Spots) → (when eqb k union_kind then by_number (places_of k m (erase_in ks)) else places_of k m (erase_in ks)) ≡ places_of k m (erase_in (order_s false k ks))
+unfolding order_s when◌then◌else◌
 order_places k m ks = cases (eqb k union_kind) (λ e. rw e (sym (number_places k m ks))) (λ e. rw e)
 
 order_all : (P : Step → ℕ → ℕ → Spot → Type 0) (k : ℕ) (ks : Spots) → AllS P ks → AllS P (order_s false k ks)
-unfolding order_s if◌then◌else◌
+unfolding order_s when◌then◌else◌
 order_all P k ks a = cases (eqb k union_kind) (λ e. rw e (number_all P ks a)) (λ e. rw e a)
 
 order_size : (k : ℕ) (ks : Spots) → size_in (order_s false k ks) ≡ size_in ks
-unfolding order_s if◌then◌else◌
+unfolding order_s when◌then◌else◌
 order_size k ks = cases (eqb k union_kind) (λ e. rw e (number_size ks)) (λ e. rw e)
 
 -- ---- a union of only dataless variants
@@ -67,7 +67,7 @@ unfolding place_of
 kind_dataless missing (spot p b k m ks) = refl
 
 next_ordered_lem : (t : List ℕ) (k p last : ℕ) → eqb k union_kind ≡ true → next_child t false k p last ≡ next_ordered t p last
-unfolding is_ordered next_child if◌then◌else◌
+unfolding is_ordered next_child when◌then◌else◌
 next_ordered_lem t k p last e = rw e
 
 onward_next : (slot : ℕ) → slot < turn_limit → onward slot ≡ slot + 1
@@ -118,7 +118,7 @@ fields_some : (options k slot m : ℕ) (qs : Spots) → 1 ≤ size_in qs → 1 �
 unfolding field_of place_of
 fields_some options k slot m no_spots l = absurd (omega arith)
 fields_some options k slot m (child s h x u qs) l =
-    gaps_some slot (if eqb k union_kind then variant_of s - slot else 0)
+    gaps_some slot (when eqb k union_kind then variant_of s - slot else 0)
     (field_of options (name_of s) (variant_of s) (place_of (is_missing k m h) (erase u)))
     (fields_of options k (variant_of s + 1) (places_of k m (erase_in qs)))
 
@@ -149,7 +149,7 @@ nothing_below size e = told {r' = 0} {n' = 0} {c' = 0} e (omega arith) (omega ar
 module _ (options : ℕ) (text t : List ℕ) (inner : ℕ → Walked) (k p m : ℕ) (qs : Spots) (all : AllS (λ s h x u. Child options text t inner s u) qs) (few : size_in qs ≤ place_limit)
     (next : Enumerates t false k p 0 qs) (some_below : eqb k map_kind ≡ true → 1 ≤ size_in qs) where
   below_says : Says (walks options k (places_of k m (erase_in qs))) 0 0 0 (arranged k (fields_of options k 0 (places_of k m (erase_in qs)))) 129 69993 (suc (size_in qs)) (children_below text t inner k p)
-  unfolding arranged if◌then◌else◌
+  unfolding arranged when◌then◌else◌
   below_says =
       let l : many_s qs ≤ place_limit = omega (arith, many_few qs) in
       cases (eqb k map_kind)
@@ -164,7 +164,7 @@ module _ (options : ℕ) (text t : List ℕ) (inner : ℕ → Walked) (k p m : �
   container_says : (name : List ℕ) (number : ℕ) (admits : Bool) → word t p kind_word ≡ k → is_container k ≡ true
       → Says (walk options (shown admits k (places_of k m (erase_in qs)))) 0 0 0 (fields_of_field (field_of options name number (shown admits k (places_of k m (erase_in qs))))) 129 69993 (suc (size_in qs))
       (walked_by options text t false inner p)
-  unfolding walked_by walk field_of if◌then◌else◌
+  unfolding walked_by walk field_of when◌then◌else◌
   container_says name number admits w c =
       let ge : sequence_kind ≤ k = leb-true sequence_kind k c in
       let z : eqb k null ≡ false = ne_eqb k null (omega arith) in
@@ -184,13 +184,13 @@ module _ (options : ℕ) (text t : List ℕ) (inner : ℕ → Walked) (p k m : �
   null_says : k ≡ null → Says (walk options (place_of missing (erase (spot p b k m no_spots)))) 0 0 0
       (fields_of_field (field_of options name number (place_of missing (erase (spot p b k m no_spots))))) 129 69993 1
       (walked_by options text t false inner p)
-  unfolding walked_by walk field_of place_of by_number arranged if◌then◌else◌
+  unfolding walked_by walk field_of place_of by_number arranged when◌then◌else◌
   null_says e = rw (kind_is, e) (cases (allow_null_fields options) (λ v. rw v (nothing_below 0 refl)) (λ v. rw v (turned {x = F.NullField} refl)))
 
   leaf_says : is_container k ≡ false → eqb k null ≡ false
       → Says (walk options (place_of missing (erase (spot p b k m no_spots)))) 0 0 0 (fields_of_field (field_of options name number (place_of missing (erase (spot p b k m no_spots))))) 129 69993 1
       (walked_by options text t false inner p)
-  unfolding walked_by walk field_of place_of by_number arranged if◌then◌else◌
+  unfolding walked_by walk field_of place_of by_number arranged when◌then◌else◌
   leaf_says c z =
       let l : k < sequence_kind = leb-false sequence_kind k c in
       rw (kind_is, z, c, ne_eqb k union_kind (omega arith), ne_eqb k map_kind (omega arith), ne_eqb k map_mode_kind (omega arith)) (nothing_below 0 refl)

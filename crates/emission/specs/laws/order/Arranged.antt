@@ -1,7 +1,7 @@
 -- The children of a place in the order of a walk, and what is known of them.
 use Prim.{Unit}
 use Rattle.std.specs.Prelude.{◌≡◌, Bool, true, false, ◌&&◌, List, [], ◌∷◌, ℕ, ◌+◌, ◌<◌, ◌≤◌, ◌^◌, eqb, ltb}
-use Rattle.logic.specs.Test.{if◌then◌else◌}
+use Rattle.logic.specs.Test.{when◌then◌else◌}
 use Rattle.text.specs.Name.{lt_name}
 use Rattle.model.specs.Kinds.{union_kind, map_mode_kind, is_struct, Step, field, element, position, key, value, variant, variant_of}
 use Rattle.model.specs.Emission.{name_of}
@@ -11,7 +11,7 @@ use Rattle.places.specs.Reading.{next_child}
 -- ---- by number, and by name
 unfoldable pub insert_number_s : Step → ℕ → ℕ → Spot → Spots → Spots
 insert_number_s s h m u no_spots = child s h m u no_spots
-insert_number_s s h m u (child r i j v ks) = if ltb (variant_of s) (variant_of r) then child s h m u (child r i j v ks) else child r i j v (insert_number_s s h m u ks)
+insert_number_s s h m u (child r i j v ks) = when ltb (variant_of s) (variant_of r) then child s h m u (child r i j v ks) else child r i j v (insert_number_s s h m u ks)
 
 unfoldable pub by_number_s : Spots → Spots
 by_number_s no_spots = no_spots
@@ -19,14 +19,14 @@ by_number_s (child s h m u ks) = insert_number_s s h m u (by_number_s ks)
 
 unfoldable pub insert_name_s : Step → ℕ → ℕ → Spot → Spots → Spots
 insert_name_s s h m u no_spots = child s h m u no_spots
-insert_name_s s h m u (child r i j v ks) = if lt_name (name_of r) (name_of s) then child r i j v (insert_name_s s h m u ks) else child s h m u (child r i j v ks)
+insert_name_s s h m u (child r i j v ks) = when lt_name (name_of r) (name_of s) then child r i j v (insert_name_s s h m u ks) else child s h m u (child r i j v ks)
 
 unfoldable pub by_name_s : Spots → Spots
 by_name_s no_spots = no_spots
 by_name_s (child s h m u ks) = insert_name_s s h m u (by_name_s ks)
 
 unfoldable pub order_s : Bool → ℕ → Spots → Spots
-order_s sorted kind ks = if eqb kind union_kind then by_number_s ks else if sorted && eqb kind map_mode_kind then by_name_s ks else ks
+order_s sorted kind ks = when eqb kind union_kind then by_number_s ks else when sorted && eqb kind map_mode_kind then by_name_s ks else ks
 
 -- ---- `next_child` gives them one after another, and then 0
 abbrev pub Enumerates : List ℕ → Bool → ℕ → ℕ → ℕ → Spots → Type 0
@@ -49,12 +49,12 @@ abbrev mutual
 
 -- ---- steps as the kind makes them: a union has variants, a struct fields; numbers are of 16 bits
 abbrev pub step_fits : ℕ → Step → Bool
-step_fits kind (field name) = if eqb kind union_kind then false else true
-step_fits kind element = if eqb kind union_kind then false else if is_struct kind then false else true
-step_fits kind (position i) = if eqb kind union_kind then false else if is_struct kind then false else ltb i (2 ^ 16)
-step_fits kind key = if eqb kind union_kind then false else if is_struct kind then false else true
-step_fits kind value = if eqb kind union_kind then false else if is_struct kind then false else true
-step_fits kind (variant number name) = if is_struct kind then false else ltb number (2 ^ 16)
+step_fits kind (field name) = when eqb kind union_kind then false else true
+step_fits kind element = when eqb kind union_kind then false else when is_struct kind then false else true
+step_fits kind (position i) = when eqb kind union_kind then false else when is_struct kind then false else ltb i (2 ^ 16)
+step_fits kind key = when eqb kind union_kind then false else when is_struct kind then false else true
+step_fits kind value = when eqb kind union_kind then false else when is_struct kind then false else true
+step_fits kind (variant number name) = when is_struct kind then false else ltb number (2 ^ 16)
 
 -- kinds are of 8 bits
 abbrev mutual

@@ -5,7 +5,7 @@ use Rattle.std.proofs.Common.{sym, ◌∙◌, true≢false, arith}
 use Rattle.std.proofs.Math.Bool.{true, false}
 use Rattle.std.proofs.lemmas.Bool.{false≢true}
 use borrow.Author.Tests.{eqb-true, eq-eqb, ltb-true, ltb-false, lt-ltb, le-ltb, not-true, not-false}
-use Rattle.logic.specs.Test.{if◌then◌else◌}
+use Rattle.logic.specs.Test.{when◌then◌else◌}
 use Rattle.logic.specs.laws.Test.{cases}
 use Rattle.text.specs.Name.{bytes_of, lt_name, eq_name}
 use Rattle.text.specs.laws.Name.{lt_name_irreflexive, lt_name_transitive, lt_name_total}
@@ -27,14 +27,14 @@ use Rattle.emission.specs.laws.firstwalk.Places.{child_variant}
 -- ---- sorting by insertion: a new child goes in front of an old one, or past it
 unfoldable pub insert_by : (Step → Step → Bool) → Step → ℕ → ℕ → Spot → Spots → Spots
 insert_by front s h m u no_spots = child s h m u no_spots
-insert_by front s h m u (child r i j v ks) = if front s r then child s h m u (child r i j v ks) else child r i j v (insert_by front s h m u ks)
+insert_by front s h m u (child r i j v ks) = when front s r then child s h m u (child r i j v ks) else child r i j v (insert_by front s h m u ks)
 
 unfoldable pub sort_by : (Step → Step → Bool) → Spots → Spots
 sort_by front no_spots = no_spots
 sort_by front (child s h m u ks) = insert_by front s h m u (sort_by front ks)
 
 among_insert : (front : Step → Step → Bool) (x : ℕ) (s : Step) (h m : ℕ) (u : Spot) (ks : Spots) → among x (nums_of (insert_by front s h m u ks)) ≡ (eqb x (num u) || among x (nums_of ks))
-unfolding insert_by if◌then◌else◌
+unfolding insert_by when◌then◌else◌
 among_insert front x s h m u no_spots = refl
 among_insert front x s h m u (child r i j v ks) =
     cases (front s r) (λ e. rw e refl) (λ e. rw (e, among_insert front x s h m u ks) (or_swap (eqb x (num v)) (eqb x (num u)) (among x (nums_of ks))))
@@ -59,7 +59,7 @@ Apart front before (child s h m u ks) = BesideAll front before s (num u) ks × A
 module _ (front : Step → Step → Bool) (before : ℕ → ℕ → Bool) where
   beside_insert : (q : Step) (x : ℕ) (s : Step) (h m : ℕ) (u : Spot) (ks : Spots) → Beside front before q s x (num u) →
       BesideAll front before q x ks → BesideAll front before q x (insert_by front s h m u ks)
-  unfolding insert_by if◌then◌else◌
+  unfolding insert_by when◌then◌else◌
   beside_insert q x s h m u no_spots a b = (a, tt)
   beside_insert q x s h m u (child r i j v ks) a b = cases (front s r) (λ e. rw e (a, b)) (λ e. rw e (b.0, beside_insert q x s h m u ks a b.1))
 
@@ -92,7 +92,7 @@ module _ (front : Step → Step → Bool) (before : ℕ → ℕ → Bool) where
 
   module _ (transitive : (x y z : ℕ) → before x y ≡ true → before y z ≡ true → before x z ≡ true) where
     sorted_insert : (s : Step) (h m : ℕ) (u : Spot) (ks : Spots) → BesideAll front before s (num u) ks → Sorted before (nums_of ks) → Sorted before (nums_of (insert_by front s h m u ks))
-    unfolding insert_by if◌then◌else◌
+    unfolding insert_by when◌then◌else◌
     sorted_insert s h m u no_spots a o = ((λ y e. absurd (false≢true e)), tt)
     sorted_insert s h m u (child r i j v ks) a o =
         cases (front s r)
@@ -133,7 +133,7 @@ abbrev pub number_front : Step → Step → Bool
 number_front s r = ltb (variant_of s) (variant_of r)
 
 insert_number : (s : Step) (h m : ℕ) (u : Spot) (ks : Spots) → insert_by number_front s h m u ks ≡ insert_number_s s h m u ks
-unfolding insert_by insert_number_s if◌then◌else◌
+unfolding insert_by insert_number_s when◌then◌else◌
 insert_number s h m u no_spots = refl
 insert_number s h m u (child r i j v ks) = cases (ltb (variant_of s) (variant_of r)) (λ e. rw e refl) (λ e. rw (e, insert_number s h m u ks) refl)
 
@@ -146,7 +146,7 @@ sort_number (child s h m u ks) = rw (sort_number ks) (insert_number s h m u (by_
 pub number_pair : (text t : List ℕ) (p : ℕ) (s r : Step) (x y a b h m i j : ℕ) → step_fits union_kind s ≡ true → step_fits union_kind r ≡ true →
     near s r ≡ false → Cell text t x a p s h m → Cell text t y b p r i j
     → Beside number_front (is_before text t false) s r x y
-unfolding near eq_name is_before if◌then◌else◌
+unfolding near eq_name is_before when◌then◌else◌
 number_pair text t p (field name) r x y a b h m i j f g d c e = absurd (false≢true f)
 number_pair text t p element r x y a b h m i j f g d c e = absurd (false≢true f)
 number_pair text t p (position v) r x y a b h m i j f g d c e = absurd (false≢true f)
@@ -171,7 +171,7 @@ abbrev pub name_front : Step → Step → Bool
 name_front s r = not (lt_name (name_of r) (name_of s))
 
 insert_name : (s : Step) (h m : ℕ) (u : Spot) (ks : Spots) → insert_by name_front s h m u ks ≡ insert_name_s s h m u ks
-unfolding insert_by insert_name_s if◌then◌else◌
+unfolding insert_by insert_name_s when◌then◌else◌
 insert_name s h m u no_spots = refl
 insert_name s h m u (child r i j v ks) = cases (lt_name (name_of r) (name_of s)) (λ e. rw (e, insert_name s h m u ks) refl) (λ e. rw e refl)
 
@@ -188,7 +188,7 @@ name_at_lem {t = t} {q = q} c = let v : word t q name_word ≡ c.name = c.row 3 
 pub name_pair : (text t : List ℕ) (p : ℕ) (s r : Step) (x y a b h m i j : ℕ) → step_fits map_mode_kind s ≡ true → step_fits map_mode_kind r ≡ true →
     near s r ≡ false → Cell text t x a p s h m → Cell text t y b p r i j
     → Beside name_front (is_before text t true) s r x y
-unfolding near is_before if◌then◌else◌
+unfolding near is_before when◌then◌else◌
 name_pair text t p element r x y a b h m i j f g d c e = absurd (false≢true f)
 name_pair text t p (position v) r x y a b h m i j f g d c e = absurd (false≢true f)
 name_pair text t p key r x y a b h m i j f g d c e = absurd (false≢true f)
@@ -217,12 +217,12 @@ front_of true = name_front
 
 module _ (text t : List ℕ) where
   pub irreflexive : (by_name : Bool) (x : ℕ) → is_before text t by_name x x ≡ false
-  unfolding is_before if◌then◌else◌
+  unfolding is_before when◌then◌else◌
   irreflexive false x = le-ltb (variant_at t x) (variant_at t x) (omega arith)
   irreflexive true x = lt_name_irreflexive (bytes_of text (given_name t x))
 
   pub transitive : (by_name : Bool) (x y z : ℕ) → is_before text t by_name x y ≡ true → is_before text t by_name y z ≡ true → is_before text t by_name x z ≡ true
-  unfolding is_before if◌then◌else◌
+  unfolding is_before when◌then◌else◌
   transitive false x y z v w =
       let v' = ltb-true (variant_at t x) (variant_at t y) v in let w' = ltb-true (variant_at t y) (variant_at t z) w in lt-ltb (variant_at t x) (variant_at t z) (omega arith)
   transitive true x y z v w = lt_name_transitive (bytes_of text (given_name t x)) (bytes_of text (given_name t y)) (bytes_of text (given_name t z)) v w

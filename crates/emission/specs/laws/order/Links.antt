@@ -8,7 +8,7 @@ use Rattle.std.proofs.lemmas.Bool.{false≢true}
 use Prim.Native.Nat.{ℕ, zero, suc, ◌+◌, ◌<◌, ◌≤◌}
 use Rattle.std.proofs.Math.Dec.{eqb}
 use borrow.Author.Tests.{eqb-true, eqb-false, ne_eqb, ltb-true}
-use Rattle.logic.specs.Test.{if◌then◌else◌}
+use Rattle.logic.specs.Test.{when◌then◌else◌}
 use Rattle.logic.specs.laws.Test.{cases, both}
 use Rattle.words.specs.Word.{place_words, word, IsTable}
 use Rattle.model.specs.Kinds.{union_kind, map_mode_kind, Step, variant_of}
@@ -127,12 +127,12 @@ module _ (text t : List ℕ) (n : ℕ) (most : n ≤ place_limit) (room : IsTabl
     kind_same p k ks h = same p kind_word (omega arith) (λ e. omega arith) (λ e. omega arith) ∙ h.kind
 
     sorted_as : (by_name : Bool) (p : ℕ) (ks : Spots) → Placed text t n p (kind_of by_name) ks → sorted_place text p done ≡ sorted_children text by_name p done
-    unfolding sorted_place if◌then◌else◌
+    unfolding sorted_place when◌then◌else◌
     sorted_as false p ks h = rw (kind_same p union_kind ks h)
     sorted_as true p ks h = rw (kind_same p map_mode_kind ks h)
 
     left_alone : (p k : ℕ) (ks : Spots) → Placed text t n p k ks → eqb k union_kind ≡ false → eqb k map_mode_kind ≡ false → sorted_place text p done ≡ done
-    unfolding sorted_place if◌then◌else◌
+    unfolding sorted_place when◌then◌else◌
     left_alone p k ks h a b = rw (kind_same p k ks h, a, b)
 
     -- sorting at one place leaves the links of others
@@ -178,7 +178,7 @@ module _ (text t : List ℕ) (n : ℕ) (most : n ≤ place_limit) (room : IsTabl
     -- a place's children sorted are gone through
     sortedly : (by_name sorted : Bool) (p : ℕ) (ks : Spots) → Placed text t n p (kind_of by_name) ks → is_ordered sorted (kind_of by_name) ≡ true →
         Enumerates ordered sorted (kind_of by_name) p 0 (sort_by (front_of by_name) ks)
-    unfolding next_child next_ordered if◌then◌else◌
+    unfolding next_child next_ordered when◌then◌else◌
     sortedly by_name sorted p ks h o =
         let w = in_line by_name p ks h n (omega arith) h.below in
         let is : nums_of (sort_by (front_of by_name) ks) ≡ w.list =
@@ -188,7 +188,7 @@ module _ (text t : List ℕ) (n : ℕ) (most : n ≤ place_limit) (room : IsTabl
         (among_sort (front_of by_name) 0 ks ∙ positive p ks h.good) (rw (o, is) w.chain)
 
     plainly : (sorted : Bool) (p k : ℕ) (ks : Spots) → Placed text t n p k ks → is_ordered sorted k ≡ false → Enumerates ordered sorted k p 0 ks
-    unfolding next_child if◌then◌else◌
+    unfolding next_child when◌then◌else◌
     plainly sorted p k ks h o =
         enumerated ordered sorted k p next_word 0 ks (λ x z. rw (o, ne_eqb x 0 z)) (positive p ks h.good)
         (rw (o, link_same t ordered p first_word (same n (omega arith) p first_word (omega arith) (λ e. omega arith) (λ e. omega arith)))
@@ -196,7 +196,7 @@ module _ (text t : List ℕ) (n : ℕ) (most : n ≤ place_limit) (room : IsTabl
         (chain_said text t n p p (link_at t p first_word) ks most h.good h.rep (link_is t p first_word (first_of ks) h.first (first_below n p ks most h.good)))))
 
     order_at : (sorted : Bool) (p k : ℕ) (ks : Spots) → Placed text t n p k ks → Enumerates ordered sorted k p 0 (order_s sorted k ks)
-    unfolding order_s is_ordered if◌then◌else◌
+    unfolding order_s is_ordered when◌then◌else◌
     order_at sorted p k ks h =
         cases (eqb k union_kind)
         (λ u. let z : k ≡ union_kind = eqb-true k union_kind u in rw (u, z, ← (sort_number ks)) (sortedly false sorted p ks (rw z at h) refl))
@@ -214,7 +214,7 @@ module _ (text t : List ℕ) (n : ℕ) (most : n ≤ place_limit) (room : IsTabl
     numbers_said p k (child s h m u ks) r f = ((child_variant text t (num u) (first_of ks) p k s h m r.0 f.0, omega arith), numbers_said p k ks r.2 f.2)
 
     raised : (slot low x : ℕ) (ks : Spots) → variant_at t x ≡ slot → AllS (NumberIs low) ks → ((y : ℕ) → among y (nums_of ks) ≡ true → is_before text t false x y ≡ true) → AllS (NumberIs (slot + 1)) ks
-    unfolding is_before if◌then◌else◌
+    unfolding is_before when◌then◌else◌
     raised slot low x no_spots v a o = tt
     raised slot low x (child s h m u ks) v a o =
         let l : variant_at t x < variant_at t (num u) = ltb-true (variant_at t x) (variant_at t (num u)) (o (num u) (here (num u) (nums_of ks))) in
@@ -225,7 +225,7 @@ module _ (text t : List ℕ) (n : ℕ) (most : n ≤ place_limit) (room : IsTabl
     rising slot (child s h m u ks) a o = (a.0.1, rising (variant_of s + 1) ks (raised (variant_of s) slot (num u) ks a.0.0 a.1 o.0) o.1)
 
     rises_at : (p k : ℕ) (ks : Spots) → Placed text t n p k ks → eqb k union_kind ≡ true → Rising 0 (order_s false k ks)
-    unfolding order_s if◌then◌else◌
+    unfolding order_s when◌then◌else◌
     rises_at p k ks h e =
         let z : k ≡ union_kind = eqb-true k union_kind e in
         let o = sorted_sort number_front (is_before text t false) (transitive text t false) ks (apart false p ks (rw z at h)) in

@@ -9,7 +9,7 @@ use Rattle.std.proofs.Math.Nat.{mod-eq_of_lt}
 use native.Mathlib.Omega.{arith}
 use Rattle.std.proofs.Math.Dec.{eqb}
 use borrow.Author.Tests.{eqb-true, ne_eqb, leb-false}
-use Rattle.logic.specs.Test.{if◌then◌else◌}
+use Rattle.logic.specs.Test.{when◌then◌else◌}
 use Rattle.logic.specs.laws.Test.{cases}
 use Rattle.datatype.specs.Codes.{struct, no_strategy}
 use Rattle.words.specs.Word.{word}
@@ -27,13 +27,13 @@ use Rattle.schema.specs.Emit.{Writer, child_in, fields_from, fields_below}
 use Rattle.emission.specs.laws.order.Arranged.{order_s, Enumerates, Rising}
 use Rattle.emission.specs.laws.secondwalk.Writing.{Writes, writes_none, writes_next, writes_as, gap_records, gap_records_lem, gap_names, gap_count, writes_gaps, entries_none}
 use Rattle.emission.specs.laws.firstwalk.Places.{many_s, AllS}
-use Rattle.emission.specs.laws.secondwalk.Words.{variant_is, count_order, few, Kid}
+use Rattle.emission.specs.laws.secondwalk.Words.{variant_is, count_order, Kid}
 use Rattle.emission.specs.laws.secondwalk.Fields.{Passed, arranged_is, arranged_map, entries_names, entries_records, entries_write, fields_s, same_order, small}
 
 -- ---- how many fields
 -- the slot behind the last child's
 abbrev slot_after : List ℕ → ℕ → ℕ
-slot_after t last = if eqb last 0 then 0 else variant_at t last + 1
+slot_after t last = when eqb last 0 then 0 else variant_at t last + 1
 
 module _ (options : ℕ) (text t : List ℕ) (n p k m : ℕ) where
   abbrev pub Told : Step → ℕ → ℕ → Spot → Type 0
@@ -42,7 +42,7 @@ module _ (options : ℕ) (text t : List ℕ) (n p k m : ℕ) where
   -- outside unions as many as children
   count_plain : (left c last : ℕ) (ks : Spots) → eqb k union_kind ≡ false → many_s ks ≤ left → c + left ≤ 2048 → AllS Told ks → Enumerates t false k p last ks
       → count_from t k p left c (next_child t false k p last) ≡ c + many_s ks
-  unfolding count_from if◌then◌else◌
+  unfolding count_from when◌then◌else◌
   count_plain zero c last no_spots f l z a h = omega arith
   count_plain (suc left) c last no_spots f l z a h = rw h (omega arith)
   count_plain zero c last (child s i j u ks) f l z a h = absurd (omega arith)
@@ -52,7 +52,7 @@ module _ (options : ℕ) (text t : List ℕ) (n p k m : ℕ) where
       rw h.0 (rw (ne_eqb (num u) 0 (omega (arith, a.0.0.above)), count_from) (rw (f, on, ih) (omega arith)))
 
   fields_plain : (slot : ℕ) (ks : Spots) → eqb k union_kind ≡ false → child_count (fields_s options k m slot ks) ≡ many_s ks
-  unfolding fields_of places_of gaps if◌then◌else◌
+  unfolding fields_of places_of gaps when◌then◌else◌
   fields_plain slot no_spots f = refl
   fields_plain slot (child s i j u ks) f = rw f (ap suc (fields_plain (variant_of s + 1) ks f))
 
@@ -60,7 +60,7 @@ module _ (options : ℕ) (text t : List ℕ) (n p k m : ℕ) where
   count_union : (left last : ℕ) (ks : Spots) → eqb k union_kind ≡ true → many_s ks ≤ left → slot_after t last ≤ 128 → AllS Told ks → Rising (slot_after t last) ks → Enumerates t false k p last ks
       → (count_from t k p left (slot_after t last) (next_child t false k p last) ≡ slot_after t last + child_count (fields_s options k m (slot_after t last) ks))
       × (slot_after t last + child_count (fields_s options k m (slot_after t last) ks) ≤ 128)
-  unfolding count_from fields_of places_of if◌then◌else◌
+  unfolding count_from fields_of places_of when◌then◌else◌
   count_union zero last no_spots f l z a y h = (omega arith, omega arith)
   count_union (suc left) last no_spots f l z a y h = ((rw h (omega arith)), omega arith)
   count_union zero last (child s i j u ks) f l z a y h = absurd (omega arith)
@@ -83,7 +83,7 @@ module _ (options : ℕ) (text t : List ℕ) (n p k m : ℕ) where
   pub counted : (ks : Spots) → eqb k map_kind ≡ false → many_s ks < place_limit → AllS Told (order_s false k ks) →
       (eqb k union_kind ≡ true → Rising 0 (order_s false k ks)) → Enumerates t false k p 0 (order_s false k ks)
       → (field_count t k p ≡ child_count (fields_s options k m 0 (order_s true k ks))) × (child_count (fields_s options k m 0 (order_s true k ks)) < 65536)
-  unfolding field_count if◌then◌else◌
+  unfolding field_count when◌then◌else◌
   counted ks e l a y h = rw e (cases (eqb k union_kind)
       (λ f.
       let same : order_s true k ks ≡ order_s false k ks = same_order k ks f in
@@ -102,16 +102,16 @@ module _ (options : ℕ) (text t : List ℕ) (n p k m : ℕ) where
       (names_of (field_of options (name_of s) (variant_of s) (place_of (is_missing k m h) (erase u))))
 
   abbrev gaps_of : ℕ → Step → ℕ
-  gaps_of slot s = if eqb k union_kind then variant_of s - slot else 0
+  gaps_of slot s = when eqb k union_kind then variant_of s - slot else 0
 
   gaps_at_lem : (slot : ℕ) (s : Step) (q : ℕ) → variant_at t q ≡ variant_of s → gaps_at k t slot q ≡ gaps_of slot s
-  unfolding gaps_at if◌then◌else◌
+  unfolding gaps_at when◌then◌else◌
   gaps_at_lem slot s q v = rw v (cases (eqb k union_kind)
       (λ e. rw e (cases (leb slot (variant_of s)) (λ f. rw f refl) (λ f. let l : variant_of s < slot = leb-false slot (variant_of s) f in let z : variant_of s - slot ≡ 0 = omega arith in rw (f, z) refl)))
       (λ e. rw e refl))
 
   gaps_fit : (slot : ℕ) (s : Step) → slot ≤ 128 → variant_of s < 128 → slot + gaps_of slot s ≤ 256
-  unfolding if◌then◌else◌
+  unfolding when◌then◌else◌
   gaps_fit slot s l f = cases (eqb k union_kind) (λ e. rw e (omega arith)) (λ e. rw e (omega arith))
 
   child_in_lem : (inner : Writer) (slot : ℕ) (s : Step) (h x : ℕ) (u : Spot) (w : Writing) → word t p samples_word ≡ m → Told s h x u

@@ -3,7 +3,7 @@ use Prim.{tt}
 use Rattle.std.specs.Prelude.{◌≡◌, refl, Bool, true, false, not, ◌&&◌, List, ◌++◌, ℕ, ◌+◌, ◌<◌, ◌≤◌, eqb, leb, length}
 use Rattle.std.proofs.Common.{sym, ap, ◌∙◌, true≢false, append-nil, arith, eqb-true, ne_eqb, leb-true, leb-false}
 use Rattle.std.proofs.Math.Option.{Option, none, some}
-use Rattle.logic.specs.Test.{if◌then◌else◌}
+use Rattle.logic.specs.Test.{when◌then◌else◌}
 use Rattle.logic.specs.laws.Test.{cases}
 use Rattle.datatype.specs.Codes.{null, struct, no_strategy}
 use Rattle.options.specs.Word.{allow_null_fields, enums_without_data_as_strings}
@@ -25,19 +25,19 @@ abbrev pub fields_s : ℕ → ℕ → ℕ → ℕ → Spots → Fields
 fields_s options k m slot ks = fields_of options k slot (places_of k m (erase_in ks))
 
 name_in_lem : (options : ℕ) (name : List ℕ) (number : ℕ) (p : Place) → nameOfField (field_of options name number p) ≡ name
-unfolding field_of if◌then◌else◌
+unfolding field_of when◌then◌else◌
 name_in_lem options name number (shown admits kind ps) = cases (eqb kind union_kind && dataless ps && enums_without_data_as_strings options) (λ e. rw e refl) (λ e. rw e refl)
 
 -- the slot plays no part outside unions
 no_slot : (options slot slot' : ℕ) (ps : Places) → fields_of options map_mode_kind slot ps ≡ fields_of options map_mode_kind slot' ps
-unfolding fields_of gaps if◌then◌else◌
+unfolding fields_of gaps when◌then◌else◌
 no_slot options slot slot' none_below = refl
 no_slot options slot slot' (below s p ps) = refl
 
 insert_is : (options m slot : ℕ) (s : Step) (h x : ℕ) (u : Spot) (ks : Spots)
     → fields_s options map_mode_kind m slot (insert_name_s s h x u ks) ≡ insert_field
     (field_of options (name_of s) (variant_of s) (place_of (is_missing map_mode_kind m h) (erase u))) (fields_s options map_mode_kind m slot ks)
-unfolding insert_name_s insert_field fields_of places_of gaps if◌then◌else◌
+unfolding insert_name_s insert_field fields_of places_of gaps when◌then◌else◌
 insert_is options m slot s h x u no_spots = refl
 insert_is options m slot s h x u (child r i j v ks) =
     rw (name_in_lem options (name_of s) (variant_of s) (place_of (is_missing map_mode_kind m h) (erase u)), name_in_lem options (name_of r) (variant_of r) (place_of (is_missing map_mode_kind m i) (erase v)))
@@ -47,7 +47,7 @@ insert_is options m slot s h x u (child r i j v ks) =
     (more (field_of options (name_of r) (variant_of r) (place_of (is_missing map_mode_kind m i) (erase v))) z)) refl)))
 
 by_name_lem : (options m slot : ℕ) (ks : Spots) → fields_s options map_mode_kind m slot (by_name_s ks) ≡ by_name (fields_s options map_mode_kind m slot ks)
-unfolding by_name_s by_name fields_of places_of gaps if◌then◌else◌
+unfolding by_name_s by_name fields_of places_of gaps when◌then◌else◌
 by_name_lem options m slot no_spots = refl
 by_name_lem options m slot (child s h x u ks) =
     insert_is options m slot s h x u (by_name_s ks)
@@ -56,14 +56,14 @@ by_name_lem options m slot (child s h x u ks) =
 
 -- what is arranged, but for a map's entries
 pub arranged_is : (options k m : ℕ) (ks : Spots) → eqb k map_kind ≡ false → arranged k (fields_s options k m 0 (order_s false k ks)) ≡ fields_s options k m 0 (order_s true k ks)
-unfolding arranged order_s if◌then◌else◌
+unfolding arranged order_s when◌then◌else◌
 arranged_is options k m ks e = rw e (cases (eqb k map_mode_kind)
     (λ f. let z : k ≡ map_mode_kind = eqb-true k map_mode_kind f in rw z (sym (by_name_lem options m 0 ks)))
     (λ f. rw f refl))
 
 pub arranged_map : (options k m : ℕ) (ks : Spots) → eqb k map_kind ≡ true
     → arranged k (fields_s options k m 0 (order_s false k ks)) ≡ more (mk struct false no_strategy 0 entries_name (fields_s options k m 0 (order_s true k ks))) no_fields
-unfolding arranged order_s if◌then◌else◌
+unfolding arranged order_s when◌then◌else◌
 arranged_map options k m ks e = let z : k ≡ map_kind = eqb-true k map_kind e in rw z refl
 
 pub entries_records : (fs : Fields) → child_count fs ≡ 2 →
@@ -88,7 +88,7 @@ first_none none b e = (refl, e)
 first_none (some r) b e = let z : ◌≡◌ {A = ℕ} 0 1 = cc in absurd (omega arith)
 
 pub passed : (options k m : ℕ) (ks : Spots) → walks options k (places_of k m (erase_in ks)) ≡ none → AllS (Passed options k m) ks
-unfolding walks places_of if◌then◌else◌
+unfolding walks places_of when◌then◌else◌
 passed options k m no_spots e = tt
 passed options k m (child s h x u ks) e =
     cases (eqb k union_kind && leb slot_limit (variant_of s))
@@ -97,7 +97,7 @@ passed options k m (child s h x u ks) e =
 
 pub walk_below : (options : ℕ) (admits : Bool) (k : ℕ) (ps : Places) → is_container k ≡ true → (eqb k union_kind && dataless ps && enums_without_data_as_strings options) ≡ false
     → walk options (shown admits k ps) ≡ none → walks options k ps ≡ none
-unfolding walk if◌then◌else◌
+unfolding walk when◌then◌else◌
 walk_below options admits k ps c d e =
     let l : sequence_kind ≤ k = leb-true sequence_kind k c in
     let e' = rw (ne_eqb k null (omega arith), d) at e in
@@ -115,11 +115,11 @@ module _ (P Q : Step → ℕ → ℕ → Spot → Type 0) where
   each f (child s h x u ks) a = (f s h x u a.0, each f ks a.1)
 
 pub resorted : (P : Step → ℕ → ℕ → Spot → Type 0) (k : ℕ) (ks : Spots) → AllS P (order_s false k ks) → AllS P (order_s true k ks)
-unfolding order_s if◌then◌else◌
+unfolding order_s when◌then◌else◌
 resorted P k ks a = cases (eqb k union_kind) (λ e. rw e (rw e at a)) (λ e. all_order P true k ks (rw e at a))
 
 pub same_order : (k : ℕ) (ks : Spots) → eqb k union_kind ≡ true → order_s true k ks ≡ order_s false k ks
-unfolding order_s if◌then◌else◌
+unfolding order_s when◌then◌else◌
 same_order k ks e = rw e refl
 
 no_variant : (s : Step) → is_variant s ≡ false → variant_of s ≡ 0

@@ -3,7 +3,7 @@ use Rattle.std.specs.Prelude.{◌≡◌, refl, true, false, ◌&&◌, ◌||◌, 
 use Rattle.std.proofs.Common.{sym, ap, subst, ◌∙◌, true≢false, arith, eqb-true, ne_eqb, leb-false}
 use Rattle.std.proofs.lemmas.Bool.{false≢true, lt-leb}
 use Rattle.std.proofs.Math.Option.{Option, none, some}
-use Rattle.logic.specs.Test.{if◌then◌else◌}
+use Rattle.logic.specs.Test.{when◌then◌else◌}
 use Rattle.logic.specs.laws.Test.{cases, neither}
 use Rattle.logic.specs.All.{All}
 use Rattle.logic.specs.laws.All.{all_map}
@@ -93,7 +93,7 @@ leaf_null : (k : ℕ) → eqb k null ≡ true → is_container k ≡ false
 leaf_null k e = ap is_container (eqb-true k null e)
 
 meet_met : (options depth at k h j : ℕ) → meet options depth at k h ≡ accepted j → Met k h j
-unfolding meet if◌then◌else◌
+unfolding meet when◌then◌else◌
 meet_met options depth at k h j e =
     cases (is_container h && leb depth_limit depth) (λ a. not_refused (rw a at e)) λ a.
     cases (is_container k || is_container h)
@@ -126,7 +126,7 @@ put_strong k s sample v no_spots a g = tt
 put_strong k s sample v (child r h m u ks) a g = choice (StrongIn k) (same s r) (λ e. (g.0, a, g.2)) (λ e. (g.0, g.1, put_strong k s sample v ks a g.2))
 
 put_steps : (s : Step) (N : ℕ) (v : Spot) (ks : Spots) → steps_s (put_s s N v ks) ≡ steps_s ks
-unfolding steps_s put_s if◌then◌else◌
+unfolding steps_s put_s when◌then◌else◌
 put_steps s N v no_spots = refl
 put_steps s N v (child r h x u ks) = cases (same s r) (λ q. rw q refl) (λ q. rw q (ap (λ (rs : List Step). r ∷ rs) (put_steps s N v ks)))
 
@@ -151,14 +151,14 @@ all_made k at (s ∷ ss) n ks a g =
 
 -- a map's first
 pair_made : (at n : ℕ) → Gives (Below map_kind) (make_all_s at pair n no_spots)
-unfolding make_all_s make_s clashes has steps_s add_s same eq_name if◌then◌else◌
+unfolding make_all_s make_s clashes has steps_s add_s same eq_name when◌then◌else◌
 pair_made at n =
     cases (ltb n place_limit)
     (λ e. rw e (cases (ltb (n + 1) place_limit) (λ f. rw f (((λ _. refl), new_strong n, ((λ _. refl), new_strong (n + 1), tt)), λ _. refl)) (λ f. rw f tt)))
     (λ e. rw e tt)
 
 made_pair : (r k : ℕ) → made map_kind r k ≡ pair
-unfolding made if◌then◌else◌
+unfolding made when◌then◌else◌
 made_pair r k = refl
 
 positions_allowed : (i n : ℕ) → All (Allowed tuple_kind) (positions_from i n)
@@ -166,7 +166,7 @@ positions_allowed i zero = tt
 positions_allowed i (suc n) = (((λ e. refl), λ e. absurd (false≢true e)), positions_allowed (suc i) n)
 
 made_allowed : (k n before : ℕ) → All (Allowed k) (made k n before)
-unfolding made if◌then◌else◌ has same eq_name
+unfolding made when◌then◌else◌ has same eq_name
 made_allowed k n before =
     let P : List Step → Type 0 = All (Allowed k) in
     choice P (eqb k sequence_kind) (λ e. rw (eqb-true k sequence_kind e) (((λ e. refl), λ e. absurd (false≢true e)), tt)) λ e.
@@ -174,7 +174,7 @@ made_allowed k n before =
     choice P (eqb k tuple_kind && eqb before null) (λ e. rw (eqb-true k tuple_kind (and_left (eqb k tuple_kind) (eqb before null) e)) (positions_allowed 0 n)) λ e. tt
 
 made_none : (k r j : ℕ) → is_container k ≡ false → made k r j ≡ []
-unfolding made if◌then◌else◌
+unfolding made when◌then◌else◌
 made_none k r j c =
     let i : k < sequence_kind = leb-false sequence_kind k c in
     rw (ne_eqb k sequence_kind (λ e. omega arith), ne_eqb k map_kind (λ e. omega arith), ne_eqb k tuple_kind (λ e. omega arith))
@@ -187,7 +187,7 @@ opened at h r k n =
 
 -- ---- the steps of a value's parts
 part_allowed : (k i : ℕ) (s : Step) → part_fits k i s ≡ true → (is_container k ≡ true) × Allowed k s
-unfolding has same eq_name if◌then◌else◌
+unfolding has same eq_name when◌then◌else◌
 part_allowed k i (field name) e = (struct_is_container k e, ((λ _. refl), λ m. let z : k ≡ map_kind = eqb-true k map_kind m in absurd (false≢true (rw z at e))))
 part_allowed k i element e = let z : k ≡ sequence_kind = eqb-true k sequence_kind e in (rw z refl, ((λ _. refl), rw z (λ m. absurd (false≢true m))))
 part_allowed k i (position j) e = let z : k ≡ tuple_kind = eqb-true k tuple_kind (and_left (eqb k tuple_kind) (eqb j i) e) in (rw z refl, ((λ _. refl), rw z (λ m. absurd (false≢true m))))

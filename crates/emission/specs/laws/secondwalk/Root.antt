@@ -7,7 +7,7 @@ use Rattle.std.proofs.Common.{arith}
 use Rattle.std.proofs.Math.Dec.{ltb}
 use Rattle.std.proofs.Math.ListN.{length}
 use borrow.Author.Tests.{eqb-true, ltb-false}
-use Rattle.logic.specs.Test.{if◌then◌else◌}
+use Rattle.logic.specs.Test.{when◌then◌else◌}
 use Rattle.logic.specs.laws.Test.{cases, neither}
 use Rattle.datatype.specs.Codes.{null, struct}
 use Rattle.refusal.specs.declared.Refusal.TheVariants as F
@@ -44,7 +44,7 @@ module _ (options : ℕ) (text t : List ℕ) (fields names : List ℕ) (end reco
       → fields_below t (emitted_at options text t level_limit) k 0 (writing 0 0 fields names)
       ≡ writing (length (records_in fs)) (length (names_in fs)) (records_in fs ++ drop (length (records_in fs)) fields) (names_in fs ++ drop (length (names_in fs)) names))
       → Finishes fields names records bytes columns (root_fields end (mk type b strategy number name fs)) (finished options text t fields names records bytes columns)
-  unfolding finished if◌then◌else◌
+  unfolding finished when◌then◌else◌
   finish_by true type k strategy number name fs e₁ e₀ tn ts rc nc w = rw e₁ (F.NullableRoot, refl, refl)
   finish_by false type k strategy number name fs e₁ e₀ tn ts rc nc w =
       rw (e₁, e₀, tn, ts) (cases (eqb k null)

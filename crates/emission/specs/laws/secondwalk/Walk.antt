@@ -4,11 +4,11 @@ use Rattle.std.specs.Prelude.{◌≡◌, Bool, ◌&&◌, ◌||◌, List, [], ◌
 use Rattle.std.proofs.Math.Path.{refl}
 use Rattle.std.proofs.Common.{sym, ap, ◌∙◌, true≢false, append-nil, arith, eqb-true, ne_eqb, leb-false}
 use Rattle.std.proofs.Math.Bool.{true, false}
-use Rattle.std.proofs.Math.Option.{none, some}
+use Rattle.std.proofs.Math.Option.{none}
 use Rattle.std.proofs.Math.Nat.{mod-eq_of_lt}
 use Rattle.std.proofs.Math.Dec.{eqb}
 use Rattle.std.proofs.Math.ListN.{length}
-use Rattle.logic.specs.Test.{if◌then◌else◌}
+use Rattle.logic.specs.Test.{when◌then◌else◌}
 use Rattle.logic.specs.laws.Test.{cases}
 use Rattle.datatype.specs.Codes.{utf8, large_utf8, no_strategy}
 use Rattle.options.specs.Word.{string_dictionary_encoding, string_as_large_utf8, sequence_as_large_list, enums_without_data_as_strings, list_type, dictionary_type}
@@ -46,15 +46,15 @@ swap false false true = refl
 swap false false false = refl
 
 list_small : (options : ℕ) → list_type options < 256
-unfolding if◌then◌else◌
+unfolding when◌then◌else◌
 list_small options = cases (sequence_as_large_list options) (λ e. rw e (omega arith)) (λ e. rw e (omega arith))
 
 dictionary_small : (options : ℕ) → dictionary_type options < 256
-unfolding if◌then◌else◌
+unfolding when◌then◌else◌
 dictionary_small options = cases (string_as_large_utf8 options) (λ e. rw e (omega arith)) (λ e. rw e (omega arith))
 
 type_small : (options k : ℕ) → k < 256 → type_of options k < 256
-unfolding type_of if◌then◌else◌
+unfolding type_of when◌then◌else◌
 type_small options k l =
     cases (eqb k sequence_kind) (λ e. rw e (list_small options)) (λ e. rw e (
     cases (emits_struct k) (λ f. rw f (omega arith)) (λ f. rw f (
@@ -62,7 +62,7 @@ type_small options k l =
 
 -- nothing below a place that is no container
 arranged_none : (options k m : ℕ) → is_container k ≡ false → arranged k (fields_s options k m 0 (order_s false k no_spots)) ≡ no_fields
-unfolding arranged order_s by_number_s fields_of places_of by_name if◌then◌else◌
+unfolding arranged order_s by_number_s fields_of places_of by_name when◌then◌else◌
 arranged_none options k m c =
     let l : k < sequence_kind = leb-false sequence_kind k c in
     rw (ne_eqb k union_kind (omega arith), ne_eqb k map_kind (omega arith), ne_eqb k map_mode_kind (omega arith)) refl
@@ -79,13 +79,13 @@ count_none options text t n p k m c h =
 module _ (options : ℕ) (text t : List ℕ) where
   emitted_leaf : (levels p : ℕ) (lacking : Bool) (number : ℕ) (w : Writing) → is_leaf options t false p ≡ true
       → emitted_at options text t (suc levels) p lacking number w ≡ field_at options text t p (lacking || eqb (word t p null_word) 1) number w
-  unfolding emitted_at emitted_by if◌then◌else◌
+  unfolding emitted_at emitted_by when◌then◌else◌
   emitted_leaf levels p lacking number w e = rw e refl
 
   emitted_below_lem : (levels p : ℕ) (lacking : Bool) (number : ℕ) (w : Writing) → is_leaf options t false p ≡ false
       → emitted_at options text t (suc levels) p lacking number w
       ≡ fields_below t (emitted_at options text t levels) (word t p kind_word) p (field_at options text t p (lacking || eqb (word t p null_word) 1) number w)
-  unfolding emitted_at emitted_by if◌then◌else◌
+  unfolding emitted_at emitted_by when◌then◌else◌
   emitted_below_lem levels p lacking number w e = rw e refl
 
   module _ (n p : ℕ) (b : Bool) (k m : ℕ) (ks : Spots) (r : Row t p kind_word (k ∷ one b ∷ m ∷ [])) (few : many_s ks < place_limit) (kids : AllS (Kid text t n k p) ks)
@@ -115,7 +115,7 @@ module _ (options : ℕ) (text t : List ℕ) where
         → Writes (field_at options text t p (lacking || eqb (word t p null_word) 1) number)
         (records_of (mk (dictionary_type options) (lacking || b) no_strategy number name no_fields))
         (names_of (mk (dictionary_type options) (lacking || b) no_strategy number name no_fields))
-    unfolding field_at records_of records_in names_of names_in if◌then◌else◌
+    unfolding field_at records_of records_in names_of names_in when◌then◌else◌
     own_dictionary lacking number name d nm w room =
         let e₁ : word t p null_word ≡ one b = r 1 (omega arith) in
         let short : length name < 65536 = rw nm at (short_name text t p) in
@@ -127,7 +127,7 @@ module _ (options : ℕ) (text t : List ℕ) where
     own_field : (lacking : Bool) (number : ℕ) (name : List ℕ) (fs : Fields) → as_words ≡ false → child_name text t p ≡ name → k < 256 → field_count t k p ≡ child_count fs → child_count fs < 65536
         → Writes (field_at options text t p (lacking || eqb (word t p null_word) 1) number)
         (type_of options k ∷ one (lacking || b) ∷ strategy_of k ∷ number ∷ two_bytes (length name) ++ two_bytes (child_count fs)) name
-    unfolding field_at if◌then◌else◌
+    unfolding field_at when◌then◌else◌
     own_field lacking number name fs d nm kl c cl w room =
         let e₀ : word t p kind_word ≡ k = r 0 (omega arith) in
         let e₁ : word t p null_word ≡ one b = r 1 (omega arith) in
@@ -143,7 +143,7 @@ module _ (options : ℕ) (text t : List ℕ) where
 
     counts : (eqb k map_kind ≡ true → many_s ks ≡ 2) → AllS (Told options text t n p k m) (order_s false k ks) → (eqb k union_kind ≡ true → Rising 0 (order_s false k ks))
         → (field_count t k p ≡ child_count (arranged k (fields_s options k m 0 (order_s false k ks)))) × (child_count (arranged k (fields_s options k m 0 (order_s false k ks))) < 65536)
-    unfolding field_count if◌then◌else◌
+    unfolding field_count when◌then◌else◌
     counts two told rises = cases (eqb k map_kind)
         (λ e. rw (arranged_map options k m ks e, e) (refl, omega arith))
         (λ e. rw (arranged_is options k m ks e) (counted options text t n p k m ks e few told rises order))
@@ -163,12 +163,12 @@ module _ (options : ℕ) (text t : List ℕ) where
       it = field_of options name number (shown (lacking || b) k ps)
 
       place_dictionary : as_words ≡ true → Writes (emitted_at options text t (suc levels) p lacking number) (records_of it) (names_of it)
-      unfolding field_of if◌then◌else◌
+      unfolding field_of when◌then◌else◌
       place_dictionary d w room =
           rw (emitted_leaf levels p lacking number w (leaf_is (λ c. d)), d) (own_dictionary lacking number name d nm w (rw d at room))
 
       place_leaf : as_words ≡ false → is_container k ≡ false → ks ≡ no_spots → k < 256 → Writes (emitted_at options text t (suc levels) p lacking number) (records_of it) (names_of it)
-      unfolding field_of records_of records_in names_of names_in if◌then◌else◌
+      unfolding field_of records_of records_in names_of names_in when◌then◌else◌
       place_leaf d c z kl w room =
           let q : arranged k (fields_s options k m 0 (order_s false k ks)) ≡ no_fields = rw z (arranged_none options k m c) in
           let own = own_field lacking number name no_fields d nm kl (leaf_count c z) (omega arith) in
@@ -179,7 +179,7 @@ module _ (options : ℕ) (text t : List ℕ) where
           AllS (Told options text t n p k m) (order_s false k ks) → (eqb k union_kind ≡ true → Rising 0 (order_s false k ks))
           → AllS (Inner options text t n p k m (emitted_at options text t levels)) (order_s true k ks) → Enumerates t true k p 0 (order_s true k ks)
           → Writes (emitted_at options text t (suc levels) p lacking number) (records_of it) (names_of it)
-      unfolding field_of records_of names_of if◌then◌else◌
+      unfolding field_of records_of names_of when◌then◌else◌
       place_inner d c kl two told rises inner h w room =
           let e₀ : word t p kind_word ≡ k = r 0 (omega arith) in
           let fs : Fields = arranged k (fields_s options k m 0 (order_s false k ks)) in
@@ -237,7 +237,7 @@ module _ (options : ℕ) (text t : List ℕ) (n : ℕ) (most : n ≤ place_limit
       → is_container k ≡ true → eqb k union_kind ≡ false → walk options (place_of lacking (erase (spot p b k m ks))) ≡ none
       → Writes (fields_below t (emitted_at options text t levels) k p) (records_in (fields_of_field (field_of options name number (place_of lacking (erase (spot p b k m ks))))))
       (names_in (fields_of_field (field_of options name number (place_of lacking (erase (spot p b k m ks))))))
-  unfolding field_of if◌then◌else◌
+  unfolding field_of when◌then◌else◌
   below_writes levels p b lacking k m ks number name g r f o z l c v e =
       let kids : AllS (Kid text t n k p) ks = known text t n k p p ks (omega arith) r.1 g.2 f.1 o.2 z.2 in
       let some : many_s ks < place_limit = omega (arith, few n p ks g.0 g.2) in

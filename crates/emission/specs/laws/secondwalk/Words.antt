@@ -7,7 +7,7 @@ use Prim.Native.Nat.{ℕ, zero, suc, ◌+◌, ◌%◌, ◌^◌, ◌<◌, ◌≤�
 use Rattle.std.proofs.Math.Nat.{mod-eq_of_lt}
 use native.Mathlib.Omega.{arith}
 use Rattle.std.proofs.Math.Dec.{eqb}
-use Rattle.logic.specs.Test.{if◌then◌else◌}
+use Rattle.logic.specs.Test.{when◌then◌else◌}
 use Rattle.logic.specs.laws.Test.{cases}
 use Rattle.logic.specs.laws.Flag.{if_either}
 use Rattle.datatype.specs.Codes.{null}
@@ -75,7 +75,7 @@ kind_word_lem text t (spot p b k m ks) r = r.0 0 (omega arith)
 -- ---- something of every child
 module _ (P : Step → ℕ → ℕ → Spot → Type 0) where
   pub all_insert_name : (s : Step) (h m : ℕ) (u : Spot) (ks : Spots) → P s h m u → AllS P ks → AllS P (insert_name_s s h m u ks)
-  unfolding insert_name_s if◌then◌else◌
+  unfolding insert_name_s when◌then◌else◌
   all_insert_name s h m u no_spots a b = (a, b)
   all_insert_name s h m u (child r i j v ks) a b =
       cases (lt_name (name_of r) (name_of s)) (λ e. rw e (b.0, all_insert_name s h m u ks a b.1)) (λ e. rw e (a, b))
@@ -86,11 +86,11 @@ module _ (P : Step → ℕ → ℕ → Spot → Type 0) where
   all_name (child s h m u ks) b = all_insert_name s h m u (by_name_s ks) b.0 (all_name ks b.1)
 
   pub all_order : (sorted : Bool) (k : ℕ) (ks : Spots) → AllS P ks → AllS P (order_s sorted k ks)
-  unfolding order_s if◌then◌else◌
+  unfolding order_s when◌then◌else◌
   all_order sorted k ks b = cases (eqb k union_kind) (λ e. rw e (number_all P ks b)) (λ e. rw e (cases (sorted && eqb k map_mode_kind) (λ f. rw f (all_name ks b)) (λ f. rw f b)))
 
 count_insert_number : (s : Step) (h m : ℕ) (u : Spot) (ks : Spots) → many_s (insert_number_s s h m u ks) ≡ suc (many_s ks)
-unfolding insert_number_s if◌then◌else◌
+unfolding insert_number_s when◌then◌else◌
 count_insert_number s h m u no_spots = refl
 count_insert_number s h m u (child r i j v ks) = cases (ltb (variant_of s) (variant_of r)) (λ e. rw e refl) (λ e. rw e (ap suc (count_insert_number s h m u ks)))
 
@@ -100,7 +100,7 @@ count_number no_spots = refl
 count_number (child s h m u ks) = count_insert_number s h m u (by_number_s ks) ∙ ap suc (count_number ks)
 
 count_insert_name : (s : Step) (h m : ℕ) (u : Spot) (ks : Spots) → many_s (insert_name_s s h m u ks) ≡ suc (many_s ks)
-unfolding insert_name_s if◌then◌else◌
+unfolding insert_name_s when◌then◌else◌
 count_insert_name s h m u no_spots = refl
 count_insert_name s h m u (child r i j v ks) = cases (lt_name (name_of r) (name_of s)) (λ e. rw e (ap suc (count_insert_name s h m u ks))) (λ e. rw e refl)
 
@@ -110,7 +110,7 @@ count_name no_spots = refl
 count_name (child s h m u ks) = count_insert_name s h m u (by_name_s ks) ∙ ap suc (count_name ks)
 
 pub count_order : (sorted : Bool) (k : ℕ) (ks : Spots) → many_s (order_s sorted k ks) ≡ many_s ks
-unfolding order_s if◌then◌else◌
+unfolding order_s when◌then◌else◌
 count_order sorted k ks = cases (eqb k union_kind) (λ e. rw e (count_number ks)) (λ e. rw e (cases (sorted && eqb k map_mode_kind) (λ f. rw f (count_name ks)) (λ f. rw f refl)))
 
 -- fewer than there are numbers
@@ -140,7 +140,7 @@ known text t n k p c (child s h m u ks) l r g f o z = (
 
 -- ---- the places as the model's walk finds them
 pub place_is : (lacking : Bool) (p : ℕ) (b : Bool) (k m : ℕ) (ks : Spots) → place_of lacking (erase (spot p b k m ks)) ≡ shown (lacking || b) k (places_of k m (erase_in (order_s false k ks)))
-unfolding place_of order_s if◌then◌else◌
+unfolding place_of order_s when◌then◌else◌
 place_is lacking p b k m ks = cases (eqb k union_kind) (λ e. rw (e, number_places k m ks) refl) (λ e. rw e refl)
 
 -- ---- a union of only dataless variants
@@ -150,7 +150,7 @@ dataless_kind b (spot p c k m ks) = rw (place_is b p c k m ks) refl
 module _ (text t : List ℕ) (n p m : ℕ) where
   dataless_from_lem : (left slot last : ℕ) (ks : Spots) → many_s ks ≤ left → slot + left ≤ 2048 → AllS (Kid text t n union_kind p) ks → Enumerates t false union_kind p last ks
       → datalessAtFrom t p left slot (next_ordered t p last) ≡ dataless_from slot (places_of union_kind m (erase_in ks))
-  unfolding datalessAtFrom dataless_from places_of is_ordered next_child if◌then◌else◌
+  unfolding datalessAtFrom dataless_from places_of is_ordered next_child when◌then◌else◌
   dataless_from_lem zero slot last no_spots l z a h = refl
   dataless_from_lem (suc left) slot last no_spots l z a h = let e : next_ordered t p last ≡ 0 = h in rw e refl
   dataless_from_lem zero slot last (child s i j u ks) l z a h = absurd (omega arith)

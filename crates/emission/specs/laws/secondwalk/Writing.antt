@@ -1,5 +1,5 @@
 -- Bytes written one after another: records and names, where there is room for them.
-use Rattle.logic.specs.Test.{if◌then◌else◌}
+use Rattle.logic.specs.Test.{when◌then◌else◌}
 use Rattle.std.specs.Prelude.{◌≡◌, refl, Bool, true, false, List, [], ◌∷◌, ◌++◌, ◌-◌, ℕ, zero, suc, ◌+◌, ◌/◌, ◌%◌, ◌<◌, ◌≤◌, eqb, length}
 use Rattle.std.proofs.Common.{sym, append_assoc, add-zero, add_assoc, arith, length-append, take-append-drop, le-ltb}
 use Rattle.logic.specs.Buffer.{written}
@@ -50,7 +50,7 @@ pub writes_as : (f : Writing → Writing) (r n r' n' : List ℕ) → r ≡ r' �
 writes_as f r n r' n' a b h = rw (a, b) at h
 
 put_bytes_lem : (bytes buffer : List ℕ) (at : ℕ) → at + length bytes ≤ length buffer → put_bytes bytes buffer at ≡ put (at + length bytes) (written buffer at bytes)
-unfolding put_bytes if◌then◌else◌
+unfolding put_bytes when◌then◌else◌
 put_bytes_lem bytes buffer at h = rw (le-ltb (length buffer - at) (length bytes) (omega arith)) refl
 
 pub writes_both : (bytes name : List ℕ) → Writes (both bytes name) bytes name
@@ -113,9 +113,9 @@ writes_gaps slot n l (writing i j fields names) h =
 
 -- ---- a map's entries
 pub writes_entries : Writes (entries_in map_kind) (record_of struct false no_strategy 0 (length entries_name) 2) entries_name
-unfolding entries_in if◌then◌else◌
+unfolding entries_in when◌then◌else◌
 writes_entries w h = writes_both (record_of struct false no_strategy 0 (length entries_name) 2) entries_name w h
 
 pub entries_none : (k : ℕ) (w : Writing) → eqb k map_kind ≡ false → entries_in k w ≡ w
-unfolding entries_in if◌then◌else◌
+unfolding entries_in when◌then◌else◌
 entries_none k w e = rw e refl

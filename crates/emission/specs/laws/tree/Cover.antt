@@ -3,7 +3,7 @@ use Prim.{tt}
 use Rattle.std.specs.Prelude.{◌≡◌, refl, Bool, true, ◌||◌, List, [], ◌∷◌, ℕ, ◌+◌, ◌<◌, ◌≤◌, eqb, ltb}
 use Rattle.std.proofs.Common.{sym, subst, ◌∙◌, arith, eq-eqb, ltb-true, ltb-false}
 use Rattle.std.proofs.lemmas.Bool.{false≢true, eqb-false}
-use Rattle.logic.specs.Test.{if◌then◌else◌}
+use Rattle.logic.specs.Test.{when◌then◌else◌}
 use Rattle.logic.specs.laws.Test.{cases}
 use Rattle.equality.specs.laws.Base.{or_cases}
 use Rattle.model.specs.Result.{Result, accepted, refused, ◌>>=◌}
@@ -59,7 +59,7 @@ add_grows s n ks = (
 )
 
 make_grows : (at : ℕ) (s : Step) (n : ℕ) (ks : Spots) → Gives (λ m is. GrowsIn n ks m is × (has s (steps_s is) ≡ true)) (make_s at s n ks)
-unfolding make_s if◌then◌else◌
+unfolding make_s when◌then◌else◌
 make_grows at s n ks =
     cases (clashes s (steps_s ks)) (λ e. rw e tt) λ e.
     cases (has s (steps_s ks)) (λ d. rw (e, d) (stays (λ q. within_in q ks) n, d)) λ d.
@@ -74,7 +74,7 @@ all_grow at (s ∷ ss) n ks =
 
 -- a child that has grown
 put_keeps : (q : ℕ) (s : Step) (sample : ℕ) (v : Spot) (ks : Spots) → (within q (spot_at s ks) ≡ true → within q v ≡ true) → within_in q ks ≡ true → within_in q (put_s s sample v ks) ≡ true
-unfolding put_s spot_at if◌then◌else◌
+unfolding put_s spot_at when◌then◌else◌
 put_keeps q s sample v no_spots f e = e
 put_keeps q s sample v (child r h m u ks) f e =
     cases (same s r)
@@ -87,7 +87,7 @@ put_keeps q s sample v (child r h m u ks) f e =
     (λ a. or_right (within q u) (within_in q (put_s s sample v ks)) (put_keeps q s sample v ks f' a))))
 
 put_holds : (q : ℕ) (s : Step) (sample : ℕ) (v : Spot) (ks : Spots) → has s (steps_s ks) ≡ true → within q v ≡ true → within_in q (put_s s sample v ks) ≡ true
-unfolding put_s has steps_s if◌then◌else◌
+unfolding put_s has steps_s when◌then◌else◌
 put_holds q s sample v no_spots e a = absurd (false≢true e)
 put_holds q s sample v (child r h m u ks) e a =
     cases (same s r)

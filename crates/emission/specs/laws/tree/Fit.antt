@@ -8,7 +8,7 @@ use Prim.Native.Nat.{ℕ, zero, suc, ◌+◌, ◌%◌, ◌<◌, ◌≤◌, ◌^�
 use native.Mathlib.Omega.{arith}
 use Rattle.std.proofs.Math.Dec.{eqb}
 use borrow.Author.Tests.{eqb-true, ltb-true, lt-ltb}
-use Rattle.logic.specs.Test.{if◌then◌else◌}
+use Rattle.logic.specs.Test.{when◌then◌else◌}
 use Rattle.logic.specs.laws.Test.{cases}
 use Rattle.logic.specs.All.{All}
 use Rattle.logic.specs.laws.All.{all_map}
@@ -88,7 +88,7 @@ turn_parts k j (part at s v ps) t g = (t s g.0, g.1, turn_parts k j ps t g.2)
 
 -- both modes of a struct have the same steps
 modes : (s : Step) → step_fits map_mode_kind s ≡ step_fits struct_kind s
-unfolding if◌then◌else◌
+unfolding when◌then◌else◌
 modes (field name) = refl
 modes element = refl
 modes (position i) = refl
@@ -114,7 +114,7 @@ joint_given none n at j e f = not_refused e
 joint_given (some a) n at j e f = let z : a ≡ j = cc in f (rw z)
 
 meet_turns : (options depth at k h j : ℕ) → k < 256 → h < 256 → meet options depth at k h ≡ accepted j → (j < 256) × Turns k j × Turns h j
-unfolding meet if◌then◌else◌
+unfolding meet when◌then◌else◌
 meet_turns options depth at k h j lk lh e =
     cases (is_container h && leb depth_limit depth) (λ a. not_refused (rw a at e)) λ a.
     cases (is_container k)
@@ -188,7 +188,7 @@ all_made kind at (s ∷ ss) n ks f g =
 
 -- the places that a container makes are by steps of its kind
 position_fits : (i : ℕ) → i < 65536 → step_fits tuple_kind (position i) ≡ true
-unfolding if◌then◌else◌
+unfolding when◌then◌else◌
 position_fits i l = lt-ltb i (2 ^ 16) l
 
 positions_fit : (i n : ℕ) → i + n ≤ 65536 → All (Under tuple_kind) (positions_from i n)
@@ -196,7 +196,7 @@ positions_fit i zero l = tt
 positions_fit i (suc n) l = ((refl, position_fits i (omega arith)), positions_fit (suc i) n (omega arith))
 
 made_fits : (kind n before : ℕ) → n < 65536 → All (Under kind) (made kind n before)
-unfolding made if◌then◌else◌
+unfolding made when◌then◌else◌
 made_fits kind n before l =
     let P : List Step → Type 0 = All (Under kind) in
     choice P (eqb kind sequence_kind) (λ e. rw (eqb-true kind sequence_kind e) ((refl, refl), tt)) λ e.
@@ -281,12 +281,12 @@ module _ (commands text : List ℕ) (kind at : ℕ) where
   value_under s (R.Refused n p) f = tt
 
   field_under : (r : Read) → eqb kind union_kind ≡ false → NextUnder kind (field_next commands text at r)
-  unfolding if◌then◌else◌
+  unfolding when◌then◌else◌
   field_under (R.Command c b) f = choice (NextUnder kind) (eqb (get_or commands at 0) end_byte) (λ e. tt) (λ e. rw f)
   field_under (R.Refused n p) f = tt
 
   next_under : (n i : ℕ) → has_parts kind ≡ true → n < 65536 → NextUnder kind (next_part commands text kind n i at)
-  unfolding next_part if◌then◌else◌
+  unfolding next_part when◌then◌else◌
   next_under n i h l =
       let P : Next → Type 0 = NextUnder kind in
       choice P (eqb kind sequence_kind) (λ e. value_under element (read_command commands text at D.ValueOrEnd) (rw (eqb-true kind sequence_kind e))) λ e1.
@@ -325,7 +325,7 @@ rest_fits kind none more f = tt
 rest_fits kind (some b) more f = f b
 
 variant_fits : (number : ℕ) (name : List ℕ) → number < 65536 → step_fits union_kind (variant number name) ≡ true
-unfolding if◌then◌else◌
+unfolding when◌then◌else◌
 variant_fits number name l = lt-ltb number (2 ^ 16) l
 
 module _ (options : ℕ) (commands text : List ℕ) (bytes : Bytes commands) where

@@ -4,7 +4,7 @@ use Rattle.std.proofs.Math.Path.{ap, sym}
 use Rattle.std.proofs.Common.{◌∙◌, true≢false}
 use Rattle.std.proofs.Math.Bool.{false}
 use Rattle.std.proofs.Math.Option.{Option, none, some}
-use Rattle.logic.specs.Test.{if◌then◌else◌}
+use Rattle.logic.specs.Test.{when◌then◌else◌}
 use Rattle.logic.specs.All.{All}
 use Rattle.coerce.specs.Census.{type_seen, non_null}
 use Rattle.model.specs.Result.{Result, accepted, refused}
@@ -70,7 +70,7 @@ kind_place (node null kind samples kids) = refl
 
 struct_kind_lem : (o : ℕ) (vs : List Value) → All (λ (v : Value). kind_in v ≡ struct_kind) vs → (is_struct (kind_seen o (kinds_seen vs)) || eqb (kind_seen o (kinds_seen vs)) tuple_kind) ≡ true
     → kind_seen o (kinds_seen vs) ≡ struct_kind
-unfolding kind_seen kinds_seen container_seen type_seen non_null if◌then◌else◌
+unfolding kind_seen kinds_seen container_seen type_seen non_null when◌then◌else◌
 struct_kind_lem o [] h e = absurd (true≢false (sym e))
 struct_kind_lem o (v ∷ vs) h e = rw h.0
 

@@ -3,7 +3,7 @@ use Rattle.std.specs.Prelude.{◌≡◌, refl, true, false, ◌&&◌, List, [], 
 use Rattle.std.proofs.Common.{ap, sym, ◌∙◌, true≢false, arith, eqb-true, leb-false}
 use Rattle.std.proofs.lemmas.Bool.{false≢true, lt-leb}
 use Rattle.std.proofs.Math.Option.{Option, none, some}
-use Rattle.logic.specs.Test.{if◌then◌else◌}
+use Rattle.logic.specs.Test.{when◌then◌else◌}
 use Rattle.logic.specs.laws.Test.{cases}
 use Rattle.logic.specs.All.{All, has}
 use Rattle.logic.specs.Maybe.{and_then}
@@ -33,7 +33,7 @@ nothing e = absurd (let z : ◌≡◌ {A = ℕ} 0 1 = cc in omega arith)
 
 -- ---- a container that was seen stays: what meets it later is Null or the same container
 meets_container : (o k h j : ℕ) → is_container k ≡ true → together o k h ≡ some j → k ≡ j
-unfolding together if◌then◌else◌
+unfolding together when◌then◌else◌
 meets_container o k h j c e =
     cases (eqb h null) (λ a. let q : some k ≡ some j = rw (c, a) at e in cc) λ a.
     cases (eqb k null) (λ b. absurd (true≢false (sym c ∙ ap is_container (eqb-true k null b)))) λ b.
@@ -58,7 +58,7 @@ no_container k h a b =
     (λ e. cases (is_struct k) (λ f. absurd (true≢false (sym (struct_is_container k f) ∙ a))) (λ f. rw (e, f)))
 
 first_container : (o k h j : ℕ) → is_container k ≡ false → is_container h ≡ true → together o k h ≡ some j → h ≡ j
-unfolding together if◌then◌else◌
+unfolding together when◌then◌else◌
 first_container o k h j a b e =
     cases (eqb h null) (λ c. absurd (true≢false (sym b ∙ ap is_container (eqb-true h null c)))) λ c.
     cases (eqb k null)
@@ -66,7 +66,7 @@ first_container o k h j a b e =
     (λ d. nothing (rw (a, b, c, d, no_container k h a b) at e))
 
 no_containers : (o k h : ℕ) → is_container k ≡ false → is_container h ≡ false → together o k h ≡ joint o k h
-unfolding together if◌then◌else◌
+unfolding together when◌then◌else◌
 no_containers o k h a b = rw (a, b)
 
 below_containers : (k : ℕ) → is_container k ≡ false → k < sequence_kind
@@ -82,7 +82,7 @@ pub record Reads (o k t : ℕ) (kinds : List ℕ) : Type 0 where
   pub type : is_container (container_seen kinds) ≡ false → joined_from o k kinds ≡ some t
 
 reads : (o : ℕ) (kinds : List ℕ) (k t : ℕ) → is_container k ≡ false → together_all o kinds k ≡ some t → Reads o k t kinds
-unfolding together_all container_seen joined_from and_then if◌then◌else◌
+unfolding together_all container_seen joined_from and_then when◌then◌else◌
 reads o [] k t a e = record { container = λ c. absurd (false≢true c); type = λ c. e }
 reads o (h ∷ kinds) k t a e =
     onward_some (together o k h) (together_all o kinds) t e λ j p q.
@@ -98,12 +98,12 @@ reads o (h ∷ kinds) k t a e =
 
 -- ---- types that fit
 pub kind_fits_lem : (o : ℕ) (v : Value) → is_proper o v ≡ true → kind_fits o (kind_in v) ≡ true
-unfolding is_proper if◌then◌else◌
+unfolding is_proper when◌then◌else◌
 kind_fits_lem o (val at b k n ps) p = and_left (kind_fits o k) (are_proper o k n 0 ps) p
 kind_fits_lem o (cut n at) p = refl
 
 kinds_fit : (o : ℕ) (vs : List Value) → all_proper o vs ≡ true → is_container (container_seen (kinds_seen vs)) ≡ false → All (Fits o) (kinds_seen vs)
-unfolding all_proper is_proper kinds_seen container_seen if◌then◌else◌
+unfolding all_proper is_proper kinds_seen container_seen when◌then◌else◌
 kinds_fit o [] p c = tt
 kinds_fit o (v ∷ vs) p c =
     cases (is_container (kind_in v))
@@ -111,7 +111,7 @@ kinds_fit o (v ∷ vs) p c =
     (λ b. (fits_joint o (kind_in v) (type_fits_lem o (kind_in v) b (kind_fits_lem o v (and_left (is_proper o v) (all_proper o vs) p))), kinds_fit o vs (and_right (is_proper o v) (all_proper o vs) p) (rw b at c)))
 
 pub kind_seen_lem : (o d : ℕ) (vs : List Value) (t : Tree) → allow_to_string o ≡ false → all_proper o vs ≡ true → see_all o d vs fresh ≡ accepted t → kind_of t ≡ kind_seen o (kinds_seen vs)
-unfolding kind_seen if◌then◌else◌
+unfolding kind_seen when◌then◌else◌
 kind_seen_lem o d vs t f p e =
     let r = reads o (kinds_seen vs) null (kind_of t) refl (all_kind o d vs fresh t e) in
     cases (is_container (container_seen (kinds_seen vs)))

@@ -3,7 +3,7 @@ use Rattle.std.specs.Prelude.{◌≡◌, refl, Bool, true, false, List, [], ◌�
 use Rattle.std.proofs.lemmas.Bool.{false≢true}
 use Rattle.std.proofs.Common.{inl, inr, arith, length-append}
 use Rattle.std.proofs.Math.Option.{none, some}
-use Rattle.logic.specs.Test.{if◌then◌else◌}
+use Rattle.logic.specs.Test.{when◌then◌else◌}
 use Rattle.logic.specs.laws.Test.{cases}
 use Rattle.model.specs.Result.{accepted}
 use Rattle.model.specs.Kinds.{Step, same}
@@ -66,7 +66,7 @@ among_after l [] more i = i
 among_after l (k ∷ ls) more i = inr (among_after l ls more i)
 
 among_kid : (s : Step) (l : List Step) (ks : Kids) → has s (steps_of ks) ≡ true → Among l (listed (kid_at s ks)) → Among (unnamed s ∷ l) (listed_in ks)
-unfolding listed steps_of has kid_at if◌then◌else◌
+unfolding listed steps_of has kid_at when◌then◌else◌
 among_kid s l no_kids h i = absurd (false≢true h)
 among_kid s l (kid r n t ks) h i =
     cases (same s r)
@@ -78,7 +78,7 @@ among_kid s l (kid r n t ks) h i =
 -- ---- hold all of which the census says anything
 listed_said : (o d : ℕ) (steps : List Step) (lacking : Bool) (vs : List Value) (t : Tree) (said : Said) → all_proper o vs ≡ true → see_all o d vs fresh ≡ accepted t
     → census o steps lacking vs ≡ some said → Among (without_names steps) (listed t)
-unfolding listed Among without_names census if◌then◌else◌
+unfolding listed Among without_names census when◌then◌else◌
 listed_said o d [] lacking vs (node b k n ks) said p e c = inl refl
 listed_said o d (s ∷ steps) lacking vs (node b k n ks) said p e c =
     let is : steps_of ks ≡ steps_seen vs [] = steps_fresh o d vs (node b k n ks) e p in

@@ -7,7 +7,7 @@ use Rattle.std.proofs.Math.Bool.{true}
 use Rattle.std.proofs.lemmas.Bool.{false≢true}
 use mathlib.Core.List.{List, [], ◌∷◌, ◌++◌, append-nil}
 use Rattle.std.proofs.Math.Option.{some}
-use Rattle.logic.specs.Test.{if◌then◌else◌}
+use Rattle.logic.specs.Test.{when◌then◌else◌}
 use Rattle.logic.specs.All.{All}
 use Rattle.logic.specs.laws.Test.{cases, both}
 use Rattle.refusal.specs.Number.{too_many_places}
@@ -30,15 +30,15 @@ use Rattle.equality.specs.laws.tracing.Count.{size, sizes}
 unfoldable behind : Step → List (List Step) → List (List Step)
 behind s [] = []
 behind s ([] ∷ ls) = behind s ls
-behind s ((r ∷ l) ∷ ls) = if same s r then l ∷ behind s ls else behind s ls
+behind s ((r ∷ l) ∷ ls) = when same s r then l ∷ behind s ls else behind s ls
 
 unfoldable others : Step → List (List Step) → List (List Step)
 others s [] = []
 others s ([] ∷ ls) = [] ∷ others s ls
-others s ((r ∷ l) ∷ ls) = if same s r then others s ls else (r ∷ l) ∷ others s ls
+others s ((r ∷ l) ∷ ls) = when same s r then others s ls else (r ∷ l) ∷ others s ls
 
 parted : (s : Step) (ls : List (List Step)) → length (behind s ls) + length (others s ls) ≡ length ls
-unfolding behind others if◌then◌else◌
+unfolding behind others when◌then◌else◌
 parted s [] = refl
 parted s ([] ∷ ls) = omega (arith, parted s ls)
 parted s ((r ∷ l) ∷ ls) = cases (same s r) (λ e. rw e (omega (arith, parted s ls))) (λ e. rw e (omega (arith, parted s ls)))
@@ -51,7 +51,7 @@ cons_not_nil e = let z : ◌≡◌ {A = ℕ} 1 0 = ap (λ (x : List Step). one x
     one (s ∷ l) = 1
 
 among_behind : (s : Step) (l : List Step) (ls : List (List Step)) → Among (s ∷ l) ls → Among l (behind s ls)
-unfolding Among behind if◌then◌else◌
+unfolding Among behind when◌then◌else◌
 among_behind s l [] i = i
 among_behind s l ([] ∷ ls) (inl e) = absurd (cons_not_nil e)
 among_behind s l ([] ∷ ls) (inr i) = among_behind s l ls i
@@ -59,7 +59,7 @@ among_behind s l ((r ∷ k) ∷ ls) (inl e) = let a : s ≡ r = cc in let b : l 
 among_behind s l ((r ∷ k) ∷ ls) (inr i) = cases (same s r) (λ e. rw e (inr (among_behind s l ls i))) (λ e. rw e (among_behind s l ls i))
 
 among_others : (s r : Step) (l : List Step) (ls : List (List Step)) → same s r ≡ false → Among (r ∷ l) ls → Among (r ∷ l) (others s ls)
-unfolding Among others if◌then◌else◌
+unfolding Among others when◌then◌else◌
 among_others s r l [] f i = i
 among_others s r l ([] ∷ ls) f (inl e) = absurd (cons_not_nil e)
 among_others s r l ([] ∷ ls) f (inr i) = inr (among_others s r l ls f i)
@@ -67,7 +67,7 @@ among_others s r l ((q ∷ k) ∷ ls) f (inl e) = let a : r ≡ q = cc in let g 
 among_others s r l ((q ∷ k) ∷ ls) f (inr i) = cases (same s q) (λ e. rw e (among_others s r l ls f i)) (λ e. rw e (inr (among_others s r l ls f i)))
 
 root_others : (s : Step) (ls : List (List Step)) → Among [] ls → Among [] (others s ls)
-unfolding Among others if◌then◌else◌
+unfolding Among others when◌then◌else◌
 root_others s [] i = i
 root_others s ([] ∷ ls) (inl e) = inl e
 root_others s ([] ∷ ls) (inr i) = inr (root_others s ls i)
@@ -203,7 +203,7 @@ seen [] vs = true
 seen (s ∷ steps) vs = has s (steps_seen vs []) && seen steps (below s vs)
 
 seen_said : (o : ℕ) (steps : List Step) (lacking : Bool) (vs : List Value) → seen steps vs ≡ true → (said : Said) × (census o steps lacking vs ≡ some said)
-unfolding seen census if◌then◌else◌
+unfolding seen census when◌then◌else◌
 seen_said o [] lacking vs e = (_, refl)
 seen_said o (s ∷ steps) lacking vs e =
     both (has s (steps_seen vs [])) (seen steps (below s vs)) e λ h i. rw h (seen_said o steps (is_lacking o s vs) (below s vs) i)
@@ -264,11 +264,11 @@ module _ (at : ℕ) (s : Step) (v : Value) (ps : Parts) where
   part_later r h = rw h (or_true (same r s))
 
   seen_first : (steps : List Step) → seen steps (v ∷ []) ≡ true → seen steps (parts_at s (part at s v ps)) ≡ true
-  unfolding parts_at if◌then◌else◌
+  unfolding parts_at when◌then◌else◌
   seen_first steps e = rw (same_refl s) (seen_before steps (v ∷ []) (parts_at s ps) e)
 
   seen_later : (r : Step) (steps : List Step) → seen steps (parts_at r ps) ≡ true → seen steps (parts_at r (part at s v ps)) ≡ true
-  unfolding parts_at if◌then◌else◌
+  unfolding parts_at when◌then◌else◌
   seen_later r steps e = cases (same r s) (λ g. rw g (seen_after steps (v ∷ []) (parts_at r ps) e)) (λ g. rw g e)
 
 seen_here : (vs : List Value) → seen [] vs ≡ true

@@ -1,7 +1,7 @@
 -- What a batch does to a place is what the values that stand there do, one after another.
 use Rattle.std.specs.Prelude.{◌≡◌, refl, List, [], ◌∷◌, ◌++◌, Bool, false, ◌||◌, ℕ, ◌+◌}
 use Rattle.std.proofs.Common.{ap, subst, sym, ◌∙◌, append_assoc}
-use Rattle.logic.specs.Test.{if◌then◌else◌}
+use Rattle.logic.specs.Test.{when◌then◌else◌}
 use Rattle.logic.specs.laws.Test.{cases}
 use Rattle.model.specs.Result.{accepted, ◌>>=◌}
 use Rattle.model.specs.Kinds.{is_container, Step, same}
@@ -27,17 +27,17 @@ place_fresh (s ∷ steps) = place_fresh steps
 
 -- ---- the places below
 pub kid_at_put_same : (s : Step) (t : Tree) (ks : Kids) → kid_at s (put s t ks) ≡ t
-unfolding kid_at put if◌then◌else◌
+unfolding kid_at put when◌then◌else◌
 kid_at_put_same s t no_kids = rw (same_refl s)
 kid_at_put_same s t (kid r n u ks) = cases (same s r) (λ e. rw (e, kid_at, e)) (λ e. rw (e, kid_at, e) (kid_at_put_same s t ks))
 
 pub kid_at_put_other : (s r : Step) (t : Tree) (ks : Kids) → same s r ≡ false → kid_at s (put r t ks) ≡ kid_at s ks
-unfolding kid_at put if◌then◌else◌
+unfolding kid_at put when◌then◌else◌
 kid_at_put_other s r t no_kids f = rw f
 kid_at_put_other s r t (kid q n u ks) f =
     cases (same r q)
     (λ e. rw (e, kid_at) (let g : same s q ≡ false = rw (same_true r q e) at f in rw g))
-    (λ e. rw (e, kid_at) (ap (λ (x : Tree). if same s q then u else x) (kid_at_put_other s r t ks f)))
+    (λ e. rw (e, kid_at) (ap (λ (x : Tree). when same s q then u else x) (kid_at_put_other s r t ks f)))
 
 -- to put back what is there changes no place
 pub kid_at_put_self : (s r : Step) (ks : Kids) → kid_at s (put r (kid_at r ks) ks) ≡ kid_at s ks
@@ -54,7 +54,7 @@ kid_at_make_all s (r ∷ ss) ks = kid_at_make_all s ss (put r (kid_at r ks) ks) 
 pub kid_at_tally : (s : Step) (ps : Parts) (ks : Kids) → kid_at s (tally ps ks) ≡ kid_at s ks
 unfolding kid_at tally
 kid_at_tally s ps no_kids = refl
-kid_at_tally s ps (kid r n t ks) = ap (λ (x : Tree). if same s r then t else x) (kid_at_tally s ps ks)
+kid_at_tally s ps (kid r n t ks) = ap (λ (x : Tree). when same s r then t else x) (kid_at_tally s ps ks)
 
 -- ---- one list of values after another
 pub below_append : (s : Step) (vs ws : List Value) → below s (vs ++ ws) ≡ below s vs ++ below s ws
@@ -112,7 +112,7 @@ part_ok o d at s v ps ks ks' e k =
 -- the heart: what the parts of a value do to the place at a step is what those of them at that step do, one after another
 pub parts_kid : (o d : ℕ) (s : Step) (ps : Parts) (ks ks' : Kids) → see_parts o d ps ks ≡ accepted ks'
     → see_all o (d + dots_of s) (parts_at s ps) (kid_at s ks) ≡ accepted (kid_at s ks')
-unfolding see see_all parts_at if◌then◌else◌
+unfolding see see_all parts_at when◌then◌else◌
 parts_kid o d s no_parts ks ks' e = cc
 parts_kid o d s (cut_off n at) ks ks' e = not_refused e
 parts_kid o d s (part at r v ps) ks ks' e =

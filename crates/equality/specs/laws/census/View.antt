@@ -4,7 +4,7 @@ use Rattle.std.proofs.Math.Path.{ap}
 use Rattle.std.proofs.Common.{ap₂, sym, ◌∙◌, arith, eqb-true}
 use Rattle.std.proofs.Math.Bool.{or-false}
 use Rattle.std.proofs.Math.Option.{Option, none, some}
-use Rattle.logic.specs.Test.{if◌then◌else◌}
+use Rattle.logic.specs.Test.{when◌then◌else◌}
 use Rattle.logic.specs.laws.Test.{cases}
 use Rattle.logic.specs.Maybe.{and_then}
 use Rattle.options.specs.Word.{allow_to_string}
@@ -48,39 +48,39 @@ mapped none = none
 mapped (some p) = some (canon p)
 
 find_canons : (s : Step) (ps : Places) → find s (canons ps) ≡ mapped (find s ps)
-unfolding canon find if◌then◌else◌
+unfolding canon find when◌then◌else◌
 find_canons s none_below = refl
 find_canons s (below r p ps) = cases (same s r) (λ e. rw e) (λ e. rw e (find_canons s ps))
 
-pub find_places : (s : Step) (k n : ℕ) (ks : Kids) → find s (places_of k n ks) ≡ (if has s (steps_of ks) then some (place_of (is_missing k n (held_at s ks)) (kid_at s ks)) else none)
-unfolding place_of find steps_of has held_at kid_at if◌then◌else◌
+pub find_places : (s : Step) (k n : ℕ) (ks : Kids) → find s (places_of k n ks) ≡ (when has s (steps_of ks) then some (place_of (is_missing k n (held_at s ks)) (kid_at s ks)) else none)
+unfolding place_of find steps_of has held_at kid_at when◌then◌else◌
 find_places s k n no_kids = refl
 find_places s k n (kid r held t ks) = cases (same s r) (λ e. rw e) (λ e. rw e (find_places s k n ks))
 
 -- the places below a tree in the order of its canonical place
 abbrev pub places_in : ℕ → ℕ → Kids → Places
-places_in k n ks = if eqb k union_kind then by_number (places_of k n ks) else places_of k n ks
+places_in k n ks = when eqb k union_kind then by_number (places_of k n ks) else places_of k n ks
 
 abbrev canon_in : ℕ → ℕ → Kids → Places
-canon_in k n ks = if eqb k struct_kind then canons (places_in k n ks) else in_order (canons (places_in k n ks))
+canon_in k n ks = when eqb k struct_kind then canons (places_in k n ks) else in_order (canons (places_in k n ks))
 
 module _ (k n : ℕ) (ks : Kids) (d : distinct (steps_of ks) ≡ true) where
   plain : distinct (steps_below (places_of k n ks)) ≡ true
   plain = rw steps_places d
 
   pub find_ordered : (s : Step) → find s (places_in k n ks) ≡ find s (places_of k n ks)
-  unfolding if◌then◌else◌
+  unfolding when◌then◌else◌
   find_ordered s = cases (eqb k union_kind) (λ e. rw e (find_by_number s (places_of k n ks) plain)) (λ e. rw e)
 
   find_canon : (s : Step) → find s (canon_in k n ks) ≡ mapped (find s (places_of k n ks))
-  unfolding if◌then◌else◌
+  unfolding when◌then◌else◌
   find_canon s =
       cases (eqb k struct_kind)
       (λ e. rw e (find_canons s (places_in k n ks) ∙ ap mapped (find_ordered s)))
       (λ e. rw e (find_in_order s (canons (places_in k n ks)) ∙ find_canons s (places_in k n ks) ∙ ap mapped (find_ordered s)))
 
   pub set_ordered : as_set (steps_below (places_in k n ks)) ≡ as_set (steps_of ks)
-  unfolding if◌then◌else◌
+  unfolding when◌then◌else◌
   set_ordered =
       cases (eqb k union_kind)
       (λ e. rw e (set_by_number (places_of k n ks) plain ∙ ap as_set (steps_places k n ks)))
@@ -88,7 +88,7 @@ module _ (k n : ℕ) (ks : Kids) (d : distinct (steps_of ks) ≡ true) where
 
   -- a struct is no union
   steps_canon : steps_below (canon_in k n ks) ≡ children_of k (steps_of ks)
-  unfolding if◌then◌else◌
+  unfolding when◌then◌else◌
   steps_canon =
       cases (eqb k struct_kind)
       (λ e. rw e (steps_canons (places_in k n ks) ∙ rw (eqb-true k struct_kind e) (steps_places struct_kind n ks)))
@@ -104,7 +104,7 @@ distinct_snoc s (r ∷ ss) e h =
     rw (has_snoc r s ss, same_sym r s, a, or-false (has r ss), and_left (not (has r ss)) (distinct ss) h) (distinct_snoc s ss b (and_right (not (has r ss)) (distinct ss) h))
 
 distinct_sight : (s : Step) (ss : List Step) → distinct ss ≡ true → distinct (sight s ss) ≡ true
-unfolding sight if◌then◌else◌
+unfolding sight when◌then◌else◌
 distinct_sight s ss h = cases (has s ss) (λ e. rw e h) (λ e. rw e (distinct_snoc s ss e h))
 
 distinct_sights : (rs ss : List Step) → distinct ss ≡ true → distinct (sights rs ss) ≡ true
@@ -141,7 +141,7 @@ distinct_none = refl
 -- ---- the places say what the census says
 pub view_census : (o : ℕ) → allow_to_string o ≡ false → (d : ℕ) (steps : List Step) (lacking : Bool) (vs : List Value) (t : Tree) → all_proper o vs ≡ true
     → see_all o d vs fresh ≡ accepted t → view steps (canon (place_of lacking t)) ≡ census o steps lacking vs
-unfolding view census canon place_of if◌then◌else◌ and_then
+unfolding view census canon place_of when◌then◌else◌ and_then
 view_census o f d [] lacking vs (node b k n ks) p e =
     let a : b ≡ any_null vs = all_null o d vs fresh (node b k n ks) e in
     let j : k ≡ kind_seen o (kinds_seen vs) = kind_seen_lem o d vs (node b k n ks) f p e in
@@ -159,7 +159,7 @@ view_census o f d (s ∷ steps) lacking vs (node b k n ks) p e =
     rw (find_canon k n ks h s, find_places s k n ks, ← r) (go (has s (steps_of ks)) (ih ∙ ap (λ (m : Bool). census o steps m (Census.below s vs)) w))
   where
     go : (t : Bool) → view steps (canon (place_of (is_missing k n (held_at s ks)) (kid_at s ks))) ≡ census o steps (is_lacking o s vs) (Census.below s vs)
-        → and_then (mapped (if t then some (place_of (is_missing k n (held_at s ks)) (kid_at s ks)) else none)) (view steps) ≡ (if t then census o steps (is_lacking o s vs) (Census.below s vs) else none)
+        → and_then (mapped (when t then some (place_of (is_missing k n (held_at s ks)) (kid_at s ks)) else none)) (view steps) ≡ (when t then census o steps (is_lacking o s vs) (Census.below s vs) else none)
     go true q = q
     go false q = refl
 
@@ -171,14 +171,14 @@ unfoldable pub Distinct : Place → Type 0
 Distinct c = (steps : List Step) (i : Said) → view steps c ≡ some i → distinct i.children ≡ true
 
 find_none : (s : Step) (ps : Places) → has s (steps_below ps) ≡ false → find s ps ≡ none
-unfolding find steps_below has if◌then◌else◌
+unfolding find steps_below has when◌then◌else◌
 find_none s none_below e = refl
 find_none s (below r p ps) e = rw (or_left_false (same s r) (has s (steps_below ps)) e) (find_none s ps (or_right_false (same s r) (has s (steps_below ps)) e))
 
 -- what is said below both places is said below the rest of them
 apart_distinct : (s : Step) (c : Place) (cs : Places) → has s (steps_below cs) ≡ false → (t : Step) (steps : List Step) (i : Said)
     → (and_then (find t (below s c cs)) (view steps) ≡ some i → distinct i.children ≡ true) → and_then (find t cs) (view steps) ≡ some i → distinct i.children ≡ true
-unfolding find if◌then◌else◌ and_then
+unfolding find when◌then◌else◌ and_then
 apart_distinct s c cs n t steps i u v =
     cases (same t s)
     (λ e. let g : find t cs ≡ none = rw (same_true t s e) (find_none s cs n) in let k : none ≡ some i = rw g at v in absurd (let z : ◌≡◌ {A = ℕ} 0 1 = cc in omega arith))
@@ -186,14 +186,14 @@ apart_distinct s c cs n t steps i u v =
 
 apart_same : (s : Step) (c e : Place) (cs es : Places) → has s (steps_below cs) ≡ false → steps_below cs ≡ steps_below es → (t : Step) (steps : List Step)
     → and_then (find t (below s c cs)) (view steps) ≡ and_then (find t (below s e es)) (view steps) → and_then (find t cs) (view steps) ≡ and_then (find t es) (view steps)
-unfolding find if◌then◌else◌
+unfolding find when◌then◌else◌
 apart_same s c e cs es n y t steps h =
     cases (same t s)
     (λ f. rw (same_true t s f, find_none s cs n, find_none s es (rw y at n)))
     (λ f. rw f at h)
 
 mutual
-  unfolding view Distinct find steps_below distinct if◌then◌else◌ and_then
+  unfolding view Distinct find steps_below distinct when◌then◌else◌ and_then
 
   pub same_view : (c e : Place) → Distinct c → ((steps : List Step) → view steps c ≡ view steps e) → c ≡ e
   same_view (shown b k cs) (shown b' k' cs') u h =
@@ -217,11 +217,11 @@ mutual
       λ i. below (x i) (z i) (w i)
 
 children_distinct : (k : ℕ) (ss : List Step) → distinct ss ≡ true → distinct (children_of k ss) ≡ true
-unfolding if◌then◌else◌
+unfolding when◌then◌else◌
 children_distinct k ss d = cases (eqb k struct_kind) (λ e. rw e d) (λ e. rw e (distinct_set ss ∙ d))
 
 census_distinct : (o : ℕ) (steps : List Step) (lacking : Bool) (vs : List Value) (i : Said) → census o steps lacking vs ≡ some i → distinct i.children ≡ true
-unfolding census if◌then◌else◌
+unfolding census when◌then◌else◌
 census_distinct o [] lacking vs i e =
     let q = ap (λ (i : Said). i.children) (some_injective _ i e) in
     rw (← q) (children_distinct (kind_seen o (kinds_seen vs)) (steps_seen vs []) (distinct_seen vs [] distinct_none))

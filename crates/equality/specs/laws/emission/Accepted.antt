@@ -1,7 +1,7 @@
 -- What an accepted answer tells, and when an answer is accepted.
 use Rattle.std.specs.Prelude.{◌≡◌, refl, false, ◌||◌, ◌*◌, ◌≤◌, ltb, length}
 use Rattle.std.proofs.Common.{arith, take_at, ltb-false, le-ltb}
-use Rattle.logic.specs.Test.{if◌then◌else◌}
+use Rattle.logic.specs.Test.{when◌then◌else◌}
 use Rattle.logic.specs.laws.Test.{cases}
 use Rattle.options.specs.Word.{unknown_bit}
 use Rattle.model.specs.Result.{Result, accepted, refused}
@@ -22,7 +22,7 @@ pub record Passes (b : Batch) (lent : Buffers) (schema : Fields) : Type 0 where
   pub names : length (names_in schema) ≤ length lent.names
 
 pub answers : (b : Batch) (lent : Buffers) (schema : Fields) → Passes b lent schema → schema_of b ≡ accepted schema → answer b lent ≡ with_schema schema lent
-unfolding answer answer_of if◌then◌else◌
+unfolding answer answer_of when◌then◌else◌
 answers b lent schema p e =
     let a = p.table in let c = p.commands in let t = p.text in let f = p.fields in let n = p.names in
     rw (
@@ -43,7 +43,7 @@ pub record Took (b : Batch) (lent : Buffers) : Type 0 where
   pub gives : schema_of b ≡ accepted schema
 
 pub took : (b : Batch) (lent : Buffers) → Accepted (answer b lent) → Took b lent
-unfolding answer answer_of if◌then◌else◌
+unfolding answer answer_of when◌then◌else◌
 took b lent e =
     cases (unknown_bit b.options) (λ x. absurd (omega (arith, rw x at e))) λ known.
     cases (ltb (length lent.table) table_words) (λ x. absurd (omega (arith, rw (known, x) at e))) λ long.

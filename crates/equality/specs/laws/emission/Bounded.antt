@@ -8,7 +8,7 @@ use Rattle.std.proofs.Math.Logic.{inl, inr}
 use native.Mathlib.Omega.{arith}
 use Rattle.std.proofs.Math.Dec.{eqb}
 use borrow.Author.Tests.{le-ltb, eqb-true, eqb-false}
-use Rattle.logic.specs.Test.{if◌then◌else◌}
+use Rattle.logic.specs.Test.{when◌then◌else◌}
 use Rattle.logic.specs.laws.Test.{cases, neither}
 use Rattle.refusal.specs.Number.{too_many_places, bad_command, bad_name, bad_key}
 use Rattle.model.specs.Result.{Result, accepted, refused, ◌>>=◌}
@@ -32,7 +32,7 @@ use Rattle.equality.specs.laws.reading.Records.{values_proper}
 
 -- none of 1 to 3 applies
 pub read_through : (b : Batch) (lent : Buffers) → WellFormed b → table_words ≤ length lent.table → answer b lent ≡ answer_of b lent (schema_of b)
-unfolding answer if◌then◌else◌
+unfolding answer when◌then◌else◌
 read_through b lent w t =
     rw (w.known, le-ltb (length lent.table) table_words t, le-ltb input_limit (length b.commands) w.commands, le-ltb input_limit (length b.text) w.text) refl
 

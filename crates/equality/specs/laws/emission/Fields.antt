@@ -1,7 +1,7 @@
 -- The field that is emitted for a place tells the place, up to the order that is not said; and places that agree so have one field.
 use Rattle.std.specs.Prelude.{◌≡◌, refl, Bool, true, false, ◌||◌, List, ℕ, zero, suc, ◌+◌, ◌-◌, ◌<◌, eqb, ltb}
 use Rattle.std.proofs.Common.{ap, ap₂, sym, ◌∙◌, arith, eqb-true, ne_eqb, ltb-true}
-use Rattle.logic.specs.Test.{if◌then◌else◌}
+use Rattle.logic.specs.Test.{when◌then◌else◌}
 use Rattle.logic.specs.laws.Test.{cases, both}
 use Rattle.datatype.specs.Codes.{null, dictionary_utf8, dictionary_large_utf8, large_list, struct, no_strategy, tuple_as_struct, map_as_struct, unknown_variant}
 use Rattle.options.specs.Word.{sequence_as_large_list, string_as_large_utf8, string_dictionary_encoding, string_type, binary_type, list_type, dictionary_type}
@@ -17,30 +17,30 @@ use Rattle.equality.specs.laws.emission.InOrder.{Off, ascends, field_arranged, f
 -- ---- a kind, read back from a type and a strategy
 unfoldable pub kind_back : ℕ → ℕ → ℕ → ℕ
 kind_back options type strategy =
-    if eqb strategy tuple_as_struct then tuple_kind
-    else if eqb strategy map_as_struct then map_mode_kind
-    else if eqb type large_list then sequence_kind
-    else if eqb type dictionary_utf8 || eqb type dictionary_large_utf8 then string_type options
+    when eqb strategy tuple_as_struct then tuple_kind
+    else when eqb strategy map_as_struct then map_mode_kind
+    else when eqb type large_list then sequence_kind
+    else when eqb type dictionary_utf8 || eqb type dictionary_large_utf8 then string_type options
     else type
 
 -- a type that is no container, nor a string under option 5, stands for itself
 back_itself : (options kind : ℕ) → kind < dictionary_utf8 → kind_back options kind no_strategy ≡ kind
-unfolding kind_back if◌then◌else◌
+unfolding kind_back when◌then◌else◌
 back_itself options kind h =
     rw (kind_back, ne_eqb kind large_list (omega arith), ne_eqb kind dictionary_utf8 (omega arith), ne_eqb kind dictionary_large_utf8 (omega arith))
 
 back_string : (options : ℕ) → kind_back options (dictionary_type options) no_strategy ≡ string_type options
-unfolding kind_back if◌then◌else◌
+unfolding kind_back when◌then◌else◌
 back_string options = cases (string_as_large_utf8 options) (λ e. rw e) (λ e. rw e)
 
 back_list : (options : ℕ) → kind_back options (list_type options) no_strategy ≡ sequence_kind
-unfolding kind_back if◌then◌else◌
+unfolding kind_back when◌then◌else◌
 back_list options = cases (sequence_as_large_list options) (λ e. rw e) (λ e. rw e)
 
 type_back : (options kind : ℕ) → type_fits options kind ≡ true → kind_back options (type_of options kind) (strategy_of kind) ≡ kind
-unfolding type_of strategy_of if◌then◌else◌
+unfolding type_of strategy_of when◌then◌else◌
 type_back options kind f =
-    both (ltb kind dictionary_utf8) (if is_string kind then eqb kind (string_type options) else if is_binary kind then eqb kind (binary_type options) else true) f λ a b.
+    both (ltb kind dictionary_utf8) (when is_string kind then eqb kind (string_type options) else when is_binary kind then eqb kind (binary_type options) else true) f λ a b.
     let h : kind < dictionary_utf8 = ltb-true kind dictionary_utf8 a in
     rw (type_of, strategy_of, ne_eqb kind sequence_kind (omega arith), ne_eqb kind struct_kind (omega arith), ne_eqb kind map_mode_kind (omega arith), ne_eqb kind tuple_kind (omega arith))
     (cases (is_string kind) (λ s.
@@ -51,7 +51,7 @@ type_back options kind f =
     (λ s. rw s (back_itself options kind h)))
 
 pub kind_back_lem : (options kind : ℕ) → kind_fits options kind ≡ true → kind_back options (type_of options kind) (strategy_of kind) ≡ kind
-unfolding type_of strategy_of kind_back if◌then◌else◌
+unfolding type_of strategy_of kind_back when◌then◌else◌
 kind_back_lem options kind f =
     cases (eqb kind sequence_kind) (λ e. rw (eqb-true kind sequence_kind e) (back_list options)) (λ a.
     cases (eqb kind struct_kind) (λ e. rw (eqb-true kind struct_kind e)) (λ b.
@@ -63,7 +63,7 @@ kind_back_lem options kind f =
 
 -- ---- the emission in order, read back
 wrapped_injective : (kind : ℕ) (fs gs : Fields) → wrapped kind fs ≡ wrapped kind gs → fs ≡ gs
-unfolding wrapped if◌then◌else◌
+unfolding wrapped when◌then◌else◌
 wrapped_injective kind fs gs e = cases (eqb kind map_kind) (λ h. unwrap (rw (wrapped, h) at e)) (λ h. rw (wrapped, h) at e)
   where
     unwrap : more (mk struct false no_strategy 0 entries_name fs) no_fields ≡ more (mk struct false no_strategy 0 entries_name gs) no_fields → fs ≡ gs
@@ -74,7 +74,7 @@ abbrev strategy_in : Field → ℕ
 strategy_in (mk type nullable strategy number name fs) = strategy
 
 seen_field : (options : ℕ) (x : List ℕ) (v : ℕ) (c : Place) → strategy_in (plain_field options x v c) < unknown_variant
-unfolding plain_field strategy_of if◌then◌else◌
+unfolding plain_field strategy_of when◌then◌else◌
 seen_field options x v (shown admits kind ps) =
     cases (eqb kind tuple_kind) (λ e. rw (strategy_of, e) (omega arith))
     (λ e. cases (eqb kind map_mode_kind) (λ f. rw (strategy_of, e, f) (omega arith)) (λ f. rw (strategy_of, e, f) (omega arith)))
@@ -111,12 +111,12 @@ mutual
   plains_same : (options kind slot i : ℕ) (ps qs : Places) → fit_below options kind i ps ≡ true → fit_below options kind i qs ≡ true →
       plain_fields options kind slot ps ≡ plain_fields options kind slot qs → ps ≡ qs
   plains_same options kind slot i none_below none_below f g e = refl
-  plains_same options kind slot i none_below (below r q qs) f g e = absurd (gaps_some slot (if eqb kind union_kind then variant_of r - slot else 0) _ _ (sym e))
-  plains_same options kind slot i (below s p ps) none_below f g e = absurd (gaps_some slot (if eqb kind union_kind then variant_of s - slot else 0) _ _ e)
+  plains_same options kind slot i none_below (below r q qs) f g e = absurd (gaps_some slot (when eqb kind union_kind then variant_of r - slot else 0) _ _ (sym e))
+  plains_same options kind slot i (below s p ps) none_below f g e = absurd (gaps_some slot (when eqb kind union_kind then variant_of s - slot else 0) _ _ e)
   plains_same options kind slot i (below s p ps) (below r q qs) f g e =
       fit_more options kind i s p ps f λ f0 _ f2 f3.
       fit_more options kind i r q qs g λ g0 _ g2 g3.
-      let u = gaps_injective slot (if eqb kind union_kind then variant_of s - slot else 0) (if eqb kind union_kind then variant_of r - slot else 0) _ _ _ _
+      let u = gaps_injective slot (when eqb kind union_kind then variant_of s - slot else 0) (when eqb kind union_kind then variant_of r - slot else 0) _ _ _ _
       (seen_field options (name_of s) (variant_of s) p) (seen_field options (name_of r) (variant_of r) q) e in
       let a = plain_same options (name_of s) (name_of r) (variant_of s) (variant_of r) p q f2 g2 u.0 in
       let x : s ≡ r = sym (step_back_lem kind i s f0) ∙ ap₂ (step_back kind i) a.1 a.2 ∙ step_back_lem kind i r g0 in
@@ -143,7 +143,7 @@ kind_at (shown admits kind ps) = kind
 -- the root's field where it is accepted
 pub root_field : (end : ℕ) (type : ℕ) (nullable : Bool) (strategy number : ℕ) (name : List ℕ) (fs gs : Fields) →
     root_fields end (mk type nullable strategy number name fs) ≡ accepted gs → (nullable ≡ false) × (type ≡ struct) × (fs ≡ gs)
-unfolding if◌then◌else◌
+unfolding when◌then◌else◌
 root_field end type true strategy number name fs gs e = not_refused e
 root_field end type false strategy number name fs gs e =
     cases (eqb type null) (λ a. not_refused (rw a at e)) (λ a.
@@ -155,7 +155,7 @@ root_field end type false strategy number name fs gs e =
 -- a root that is accepted is a struct, in either mode, or a tuple
 pub root_kind : (options end : ℕ) (c : Place) (fs : Fields) → Off options → fits options c ≡ true → root_fields end (field_of options root_name 0 c) ≡ accepted fs →
     (is_struct (kind_at c) || eqb (kind_at c) tuple_kind) ≡ true
-unfolding fits strategy_of kind_back if◌then◌else◌
+unfolding fits strategy_of kind_back when◌then◌else◌
 root_kind options end (shown admits kind ps) fs o f e =
     let h = root_field end (type_of options kind) admits (strategy_of kind) 0 root_name (arranged kind (fields_of options kind 0 ps)) fs (rw (field_arranged options root_name 0 admits kind ps o) at e) in
     let k : kind_back options struct (strategy_of kind) ≡ kind =
@@ -178,7 +178,7 @@ same_root options end end' (shown a k ps) (shown b l qs) fs o f g u w z e h =
 
 -- where the commands end does not matter to what is accepted
 root_end : (end end' : ℕ) (f : Field) (fs : Fields) → root_fields end f ≡ accepted fs → root_fields end' f ≡ accepted fs
-unfolding if◌then◌else◌
+unfolding when◌then◌else◌
 root_end end end' (mk type nullable strategy number name fs) gs e =
     let h = root_field end type nullable strategy number name fs gs e in rw (h.0, h.1, h.2)
 

@@ -3,7 +3,7 @@
 use Rattle.std.specs.Prelude.{◌≡◌, refl, Bool, true, false, not, ◌&&◌, ◌||◌, List, [], ◌∷◌, ℕ, suc, ◌+◌, ◌-◌, ◌≤◌, ◌<◌, eqb, ltb}
 use Rattle.std.proofs.Common.{ap, ap₂, sym, ◌∙◌, true≢false, arith, eqb-true, ne_eqb, ltb-true, le-ltb}
 use Rattle.std.proofs.lemmas.Bool.{false≢true}
-use Rattle.logic.specs.Test.{if◌then◌else◌}
+use Rattle.logic.specs.Test.{when◌then◌else◌}
 use Rattle.logic.specs.laws.Test.{cases, both, neither}
 use Rattle.datatype.specs.Codes.{struct, no_strategy}
 use Rattle.options.specs.Word.{enums_without_data_as_strings}
@@ -28,7 +28,7 @@ unfoldable mutual
 -- ---- the emission of a place in order
 -- a map's key and value stand in its entries
 unfoldable pub wrapped : ℕ → Fields → Fields
-wrapped kind fs = if eqb kind map_kind then more (mk struct false no_strategy 0 entries_name fs) no_fields else fs
+wrapped kind fs = when eqb kind map_kind then more (mk struct false no_strategy 0 entries_name fs) no_fields else fs
 
 unfoldable mutual
   pub plain_field : ℕ → List ℕ → ℕ → Place → Field
@@ -37,7 +37,7 @@ unfoldable mutual
   pub plain_fields : ℕ → ℕ → ℕ → Places → Fields
   plain_fields options kind slot none_below = no_fields
   plain_fields options kind slot (below s p ps) =
-      gaps slot (if eqb kind union_kind then variant_of s - slot else 0)
+      gaps slot (when eqb kind union_kind then variant_of s - slot else 0)
       (more (plain_field options (name_of s) (variant_of s) p) (plain_fields options kind (variant_of s + 1) ps))
 
 -- ---- what a place that fits says of the places below
@@ -58,10 +58,10 @@ more_fits options kind i s p ps a b c d = rw (a, b, c, d)
 -- the step to a container's field number i, by its name and variant number
 unfoldable pub step_back : ℕ → ℕ → List ℕ → ℕ → Step
 step_back kind i name number =
-    if eqb kind sequence_kind then element
-    else if eqb kind map_kind then (if eqb i 0 then key else value)
-    else if eqb kind tuple_kind then position i
-    else if eqb kind union_kind then variant number name
+    when eqb kind sequence_kind then element
+    else when eqb kind map_kind then (when eqb i 0 then key else value)
+    else when eqb kind tuple_kind then position i
+    else when eqb kind union_kind then variant number name
     else field name
 
 -- the kinds of a struct are no other container's
@@ -69,7 +69,7 @@ pub struct_other : (kind other : ℕ) → is_struct kind ≡ true → is_struct 
 struct_other kind other h k = cases (eqb kind other) (λ e. absurd (true≢false (sym h ∙ (rw (eqb-true kind other e) k)))) (λ e. e)
 
 pub step_back_lem : (kind i : ℕ) (s : Step) → step_fits kind i s ≡ true → step_back kind i (name_of s) (variant_of s) ≡ s
-unfolding step_back if◌then◌else◌
+unfolding step_back when◌then◌else◌
 step_back_lem kind i (field name) h =
     rw (step_back, struct_other kind sequence_kind h refl, struct_other kind map_kind h refl, struct_other kind tuple_kind h refl, struct_other kind union_kind h refl)
 step_back_lem kind i element h = rw (step_back, and_left (eqb kind sequence_kind) (eqb i 0) h)
@@ -90,7 +90,7 @@ after_variant m n x y h = let g : m ≤ n = omega arith in rw (le-ltb n m g, ne_
 
 in_step : (kind i : ℕ) (s r : Step) → is_struct kind ≡ false → step_fits kind i s ≡ true → step_fits kind (suc i) r ≡ true →
     (eqb kind union_kind ≡ true → ltb (variant_of s) (variant_of r) ≡ true) → precedes r s ≡ false
-unfolding step_back lt_name if◌then◌else◌
+unfolding step_back lt_name when◌then◌else◌
 in_step kind i s r n f g u = go (step_back_lem kind i s f) (step_back_lem kind (suc i) r g)
   where
     by : (a b : Step) → a ≡ s → b ≡ r → precedes b a ≡ false → precedes r s ≡ false
@@ -132,7 +132,7 @@ Named [] = Unit {0}
 Named (s ∷ ss) = (s ≡ field (name_of s)) × Named ss
 
 pub is_field_lem : (kind i : ℕ) (s : Step) → is_struct kind ≡ true → step_fits kind i s ≡ true → s ≡ field (name_of s)
-unfolding step_back if◌then◌else◌
+unfolding step_back when◌then◌else◌
 is_field_lem kind i s h f =
     sym (step_back_lem kind i s f)
     ∙ rw (step_back, struct_other kind sequence_kind h refl, struct_other kind map_kind h refl, struct_other kind tuple_kind h refl, struct_other kind union_kind h refl)
@@ -143,7 +143,7 @@ named_fits options kind i none_below h f = tt
 named_fits options kind i (below s p ps) h f = fit_more options kind i s p ps f λ a _ _ d. (is_field_lem kind i s h a, named_fits options kind (suc i) ps h d)
 
 named_insert : (s : Step) (p : Place) (ps : Places) → s ≡ field (name_of s) → Named (steps_below ps) → Named (steps_below (insert_place s p ps))
-unfolding steps_below insert_place if◌then◌else◌
+unfolding steps_below insert_place when◌then◌else◌
 named_insert s p none_below e n = (e, tt)
 named_insert s p (below r q ps) e n = cases (precedes r s) (λ h. rw (h, steps_below) (n.0, named_insert s p ps e n.1)) (λ h. rw (h, steps_below) (e, n))
 
@@ -162,18 +162,18 @@ unfolding plain_field
 name_plain options x v (shown admits kind ps) = refl
 
 plain_slot : (options kind m n : ℕ) (ps : Places) → eqb kind union_kind ≡ false → plain_fields options kind m ps ≡ plain_fields options kind n ps
-unfolding plain_fields gaps if◌then◌else◌
+unfolding plain_fields gaps when◌then◌else◌
 plain_slot options kind m n none_below e = refl
 plain_slot options kind m n (below s p ps) e = rw (plain_fields, e)
 
 plain_more : (options kind slot : ℕ) (s : Step) (p : Place) (ps : Places) → eqb kind union_kind ≡ false →
     plain_fields options kind slot (below s p ps) ≡ more (plain_field options (name_of s) (variant_of s) p) (plain_fields options kind 0 ps)
-unfolding plain_fields gaps if◌then◌else◌
+unfolding plain_fields gaps when◌then◌else◌
 plain_more options kind slot s p ps e = rw (plain_fields, e) (ap (more (plain_field options (name_of s) (variant_of s) p)) (plain_slot options kind (variant_of s + 1) 0 ps e))
 
 insert_plain : (options kind : ℕ) (s : Step) (p : Place) (ps : Places) → eqb kind union_kind ≡ false → s ≡ field (name_of s) → Named (steps_below ps) →
     insert_field (plain_field options (name_of s) (variant_of s) p) (plain_fields options kind 0 ps) ≡ plain_fields options kind 0 (insert_place s p ps)
-unfolding plain_fields insert_field insert_place steps_below if◌then◌else◌
+unfolding plain_fields insert_field insert_place steps_below when◌then◌else◌
 insert_plain options kind s p none_below e n h = sym (plain_more options kind 0 s p none_below e)
 insert_plain options kind s p (below r q ps) e n h =
     rw (
@@ -216,8 +216,8 @@ pub canons_in_order : (options kind : ℕ) (ps : Places) → is_struct kind ≡ 
 canons_in_order options kind ps = order_fits options kind ps (canons ps) (steps_canons ps)
 
 arranged_plain : (options kind : ℕ) (ps : Places) → fit_below options kind 0 ps ≡ true → (not (eqb kind union_kind) || rising (steps_below ps)) ≡ true →
-    arranged kind (plain_fields options kind 0 (canons ps)) ≡ wrapped kind (plain_fields options kind 0 (if eqb kind struct_kind then canons ps else in_order (canons ps)))
-unfolding arranged wrapped if◌then◌else◌
+    arranged kind (plain_fields options kind 0 (canons ps)) ≡ wrapped kind (plain_fields options kind 0 (when eqb kind struct_kind then canons ps else in_order (canons ps)))
+unfolding arranged wrapped when◌then◌else◌
 arranged_plain options kind ps f u =
     cases (eqb kind struct_kind) (λ a. rw (eqb-true kind struct_kind a)) (λ a.
     cases (eqb kind map_mode_kind)
@@ -238,7 +238,7 @@ and_off false t e = refl
 -- with option 9 off
 pub field_arranged : (options : ℕ) (x : List ℕ) (v : ℕ) (admits : Bool) (kind : ℕ) (ps : Places) → Off options →
     field_of options x v (shown admits kind ps) ≡ mk (type_of options kind) admits (strategy_of kind) v x (arranged kind (fields_of options kind 0 ps))
-unfolding field_of if◌then◌else◌
+unfolding field_of when◌then◌else◌
 field_arranged options x v admits kind ps o = rw (field_of, and_off (eqb kind union_kind && dataless ps) (enums_without_data_as_strings options) o)
 
 mutual
@@ -258,7 +258,7 @@ mutual
   fields_plain options kind slot i (below s p ps) o f u =
       fit_more options kind i s p ps f λ _ _ g h.
       both (ascends p) (ascend_below ps) u λ a b.
-      ap (gaps slot (if eqb kind union_kind then variant_of s - slot else 0))
+      ap (gaps slot (when eqb kind union_kind then variant_of s - slot else 0))
       (ap₂ more (field_plain options (name_of s) (variant_of s) p o g a) (fields_plain options kind (variant_of s + 1) (suc i) ps o h b))
 
 -- ---- the canon of a place that fits does so too
@@ -277,7 +277,7 @@ fit_anywhere options kind i j (below s p ps) l f =
 
 fit_insert : (options kind i : ℕ) (s : Step) (p : Place) (ps : Places) → Loose kind → step_fits kind i s ≡ true → has s (steps_below ps) ≡ false → fits options p ≡ true →
     fit_below options kind i ps ≡ true → fit_below options kind i (insert_place s p ps) ≡ true
-unfolding insert_place fit_below steps_below has if◌then◌else◌
+unfolding insert_place fit_below steps_below has when◌then◌else◌
 fit_insert options kind i s p none_below l a b c f = more_fits options kind i s p none_below a refl c f
 fit_insert options kind i s p (below r q ps) l a b c f =
     cases (precedes r s)
@@ -297,7 +297,7 @@ fit_in_order options kind i (below s p ps) l f =
     (fit_in_order options kind i ps l (fit_anywhere options kind (suc i) i ps l d))
 
 mutual
-  unfolding canon fits ascends if◌then◌else◌
+  unfolding canon fits ascends when◌then◌else◌
 
   pub fits_canon : (options : ℕ) (c : Place) → fits options c ≡ true → ascends c ≡ true → fits options (canon c) ≡ true
   fits_canon options (shown admits kind ps) f u =

@@ -5,7 +5,7 @@ use Rattle.std.proofs.Common.{sym, ◌∙◌, true≢false, add_assoc, le_refl, 
 use Rattle.std.proofs.Math.Option.{some}
 use Rattle.std.proofs.Math.ListN.{length-append, get_or-append}
 use Rattle.std.proofs.lemmas.Bool.{lt-leb, not-false}
-use Rattle.logic.specs.Test.{if◌then◌else◌}
+use Rattle.logic.specs.Test.{when◌then◌else◌}
 use Rattle.logic.specs.laws.Test.{cases, neither, same_test}
 use Rattle.refusal.specs.declared.Refusal.{Refusal}
 use Rattle.commands.specs.declared.Command.{Command}
@@ -65,7 +65,7 @@ no_answer : {P : Type 0} {f : Refusal} {p b : ℕ} {c : Command} → R.Refused f
 no_answer e = absurd (let z : ◌≡◌ {A = ℕ} 0 1 = cc in omega arith)
 
 pub good : (commands text : List ℕ) (at : ℕ) (due : Due) (c : Command) (b : ℕ) → read_command commands text at due ≡ R.Command c b → Good commands text at due c b
-unfolding read_command if◌then◌else◌
+unfolding read_command when◌then◌else◌
 good commands text at due c b e =
     cases (bad_command commands at due) (λ p. no_answer (rw p at e))
     (λ p. cases (bad_name text (name_in (form_of (get_or commands at 0)) commands (at + 1))) (λ q. no_answer (rw (p, q) at e))
@@ -73,7 +73,7 @@ good commands text at due c b e =
     (λ r. let g = rw (p, q, r) at e in record { known = p; named = q; keyed = r; what = cc; ends = cc })))
 
 pub good_read : (commands text : List ℕ) (at : ℕ) (due : Due) (c : Command) (b : ℕ) → Good commands text at due c b → read_command commands text at due ≡ R.Command c b
-unfolding read_command if◌then◌else◌
+unfolding read_command when◌then◌else◌
 good_read commands text at due c b g = rw (g.known, g.named, g.keyed, g.what, g.ends)
 
 -- the command lies in the commands, is known and can stand there
@@ -202,7 +202,7 @@ module _ (r cs : List ℕ) (at : ℕ) where
   bad_command_moves due = rw (first_moved, length-append, leb_add (length r) (length cs) at, ltb_add (length r) (length cs) at (width (form_of (get_or cs at 0))))
 
   pub command_moves : (text : List ℕ) (due : Due) → read_command (r ++ cs) text (length r + at) due ≡ move_read (length r) (read_command cs text at due)
-  unfolding read_command if◌then◌else◌
+  unfolding read_command when◌then◌else◌
   command_moves text due =
       let form : Form = form_of (get_or cs at 0) in
       rw (

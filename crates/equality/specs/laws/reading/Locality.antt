@@ -5,7 +5,7 @@ use Rattle.std.proofs.Common.{sym, ap, ◌∙◌, le_of_suc-le-suc, not-suc-le-z
 use Rattle.std.proofs.Math.Option.{Option, none, some}
 use native.Mathlib.Omega.{arith}
 use Rattle.std.proofs.Math.Dec.{eqb}
-use Rattle.logic.specs.Test.{if◌then◌else◌}
+use Rattle.logic.specs.Test.{when◌then◌else◌}
 use Rattle.logic.specs.laws.Test.{cases}
 use Rattle.text.specs.declared.Name.{Name}
 use Rattle.text.specs.Name.{bytes_of}
@@ -38,7 +38,7 @@ module _ (xs ys text : List ℕ) (limit : ℕ) (agree : Agree xs ys limit) (at :
   first_kept b h l = agree.bytes at (omega arith)
 
   value_next_kept : (s : Step) (due : Due) → NextKept xs limit (value_next xs s at (read_command xs text at due)) (value_next ys s at (read_command ys text at due))
-  unfolding if◌then◌else◌
+  unfolding when◌then◌else◌
   value_next_kept s due =
       read_cases (read_command xs text at due)
       (λ c b e.
@@ -51,7 +51,7 @@ module _ (xs ys text : List ℕ) (limit : ℕ) (agree : Agree xs ys limit) (at :
 
   field_next_kept : (due : Due) → ((c : Command) (b : ℕ) → read_command xs text at due ≡ R.Command c b → eqb (get_or xs at 0) end_byte ≡ false → at + 5 ≤ b) →
       NextKept xs limit (field_next xs text at (read_command xs text at due)) (field_next ys text at (read_command ys text at due))
-  unfolding if◌then◌else◌
+  unfolding when◌then◌else◌
   field_next_kept due w =
       read_cases (read_command xs text at due)
       (λ c b e.
@@ -234,7 +234,7 @@ module _ (r cs text : List ℕ) (at : ℕ) where
   value_next_moves : (s : Step) (due : Due) →
       value_next (r ++ cs) s (length r + at) (read_command (r ++ cs) text (length r + at) due) ≡ move_next (length r)
       (value_next cs s at (read_command cs text at due))
-  unfolding if◌then◌else◌
+  unfolding when◌then◌else◌
   value_next_moves s due =
       rw (command_moves r cs at text due)
       (read_cases (read_command cs text at due)
@@ -242,7 +242,7 @@ module _ (r cs text : List ℕ) (at : ℕ) where
       (λ n p e. rw e))
 
   field_next_moves : (due : Due) → field_next (r ++ cs) text (length r + at) (read_command (r ++ cs) text (length r + at) due) ≡ move_next (length r) (field_next cs text at (read_command cs text at due))
-  unfolding if◌then◌else◌
+  unfolding when◌then◌else◌
   field_next_moves due =
       rw (command_moves r cs at text due)
       (read_cases (read_command cs text at due)

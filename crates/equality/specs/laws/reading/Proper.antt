@@ -7,7 +7,7 @@ use Rattle.std.proofs.Math.Option.{Option, none, some}
 use Rattle.std.proofs.Math.Dec.{eqb}
 use borrow.Author.Tests.{leb-true, ltb-true, ltb-false, eqb-true, eq-eqb, ne_eqb}
 use Rattle.datatype.specs.Codes.{dictionary_utf8}
-use Rattle.logic.specs.Test.{if◌then◌else◌}
+use Rattle.logic.specs.Test.{when◌then◌else◌}
 use Rattle.logic.specs.laws.Test.{cases}
 use Rattle.text.specs.Name.{bytes_of}
 use Rattle.options.specs.Word.{map_as_struct, string_as_large_utf8, bytes_as_large_binary, guess_dates, string_type, binary_type}
@@ -45,11 +45,11 @@ or_right true e = refl
 or_right false e = e
 
 string_fits : (options : ℕ) → type_fits options (string_type options) ≡ true
-unfolding if◌then◌else◌
+unfolding when◌then◌else◌
 string_fits options = cases (string_as_large_utf8 options) (λ e. rw e) (λ e. rw e)
 
 binary_fits : (options : ℕ) → type_fits options (binary_type options) ≡ true
-unfolding if◌then◌else◌
+unfolding when◌then◌else◌
 binary_fits options = cases (bytes_as_large_binary options) (λ e. rw e) (λ e. rw e)
 
 text_fits : (options : ℕ) (s : List ℕ) → type_fits options (text_type options s) ≡ true
@@ -57,10 +57,10 @@ unfolding text_type first_fit
 text_fits options s =
     let P : ℕ → Type 0 = λ kind. type_fits options kind ≡ true in
     choice P (guess_dates options)
-    (λ _. choice P (fits naive_datetime s) (λ _. unfold if◌then◌else◌ in refl) λ _.
-    choice P (fits utc_datetime s) (λ _. unfold if◌then◌else◌ in refl) λ _.
-    choice P (fits naive_time s) (λ _. unfold if◌then◌else◌ in refl) λ _.
-    choice P (fits naive_date s) (λ _. unfold if◌then◌else◌ in refl) λ _. string_fits options)
+    (λ _. choice P (fits naive_datetime s) (λ _. unfold when◌then◌else◌ in refl) λ _.
+    choice P (fits utc_datetime s) (λ _. unfold when◌then◌else◌ in refl) λ _.
+    choice P (fits naive_time s) (λ _. unfold when◌then◌else◌ in refl) λ _.
+    choice P (fits naive_date s) (λ _. unfold when◌then◌else◌ in refl) λ _. string_fits options)
     (λ _. string_fits options)
 
 -- how many calls a shape takes before its value or parts are read
@@ -72,7 +72,7 @@ layers (chosen number name contents) = suc (layers contents)
 layers no_value = 0
 
 shape_good : (options : ℕ) (text : List ℕ) (c : Command) → (shape_fits options (shape_of options text c) && leb (layers (shape_of options text c)) 3) ≡ true
-unfolding shape_of if◌then◌else◌
+unfolding shape_of when◌then◌else◌
 shape_good options text C.Unit = refl
 shape_good options text C.Bool = refl
 shape_good options text C.I8 = refl
@@ -147,7 +147,7 @@ module _ (commands text : List ℕ) (kind n i at : ℕ) where
   unbounded k e p = subst (λ j. Unbounded j n i) (sym (eqb-true kind k e)) p
 
   next_fits : has_parts kind ≡ true → (eqb kind tuple_kind ≡ true → i ≤ n) → NextFits kind n i (next_part commands text kind n i at)
-  unfolding next_part if◌then◌else◌
+  unfolding next_part when◌then◌else◌
   next_fits h t =
       let P : Next → Type 0 = NextFits kind n i in
       choice P (eqb kind sequence_kind) (λ e. open_fits element D.ValueOrEnd e (unbounded sequence_kind e (refl, refl))) λ e1.
@@ -188,7 +188,7 @@ among false false true false false false t h = refl
 among false false false false false false t h = absurd (false≢true h)
 
 proper_chosen : (options at number : ℕ) (name : List ℕ) (v : Value) → Proper options v → Proper options (val at false union_kind 0 (part at (variant number name) v no_parts))
-unfolding is_whole is_proper if◌then◌else◌
+unfolding is_whole is_proper when◌then◌else◌
 proper_chosen options at number name v p = λ e. rw (p (and_left (is_whole v) true e))
 
 kind_fits_lem : (options kind : ℕ) → has_parts kind ≡ true → kind_fits options kind ≡ true
@@ -196,14 +196,14 @@ kind_fits_lem options kind h =
     among (eqb kind sequence_kind) (eqb kind struct_kind) (eqb kind map_mode_kind) (eqb kind map_kind) (eqb kind tuple_kind) (eqb kind union_kind) (type_fits options kind) h
 
 leaf_fits : (options type : ℕ) → type_fits options type ≡ true → (kind_fits options type && end_fits type 0 0) ≡ true
-unfolding if◌then◌else◌
+unfolding when◌then◌else◌
 leaf_fits options type h =
     let l : type < dictionary_utf8 = ltb-true type dictionary_utf8 (and_left (ltb type dictionary_utf8) _ h) in
     and_both (or_right (is_container_kind type) h) (rw (ne_eqb type tuple_kind (λ e. omega arith), ne_eqb type union_kind (λ e. omega arith)))
 
 module _ (options : ℕ) (commands text : List ℕ) where
   mutual
-    unfolding read_value is_whole is_proper if◌then◌else◌
+    unfolding read_value is_whole is_proper when◌then◌else◌
 
     pub value_proper : (f at : ℕ) → Proper options (read_value f options commands text at).0
     value_proper zero at = λ _. refl

@@ -3,7 +3,7 @@ use Rattle.std.specs.Prelude.{◌≡◌, refl, Bool, true, false, ◌&&◌, ◌|
 use Rattle.std.proofs.Common.{ap, ap₂, sym, ◌∙◌, subst, arith, length-append}
 use mathlib.Core.List.{List, [], ◌∷◌, ◌++◌, flatten, Permᴰ}
 use Rattle.std.proofs.Math.Option.{none}
-use Rattle.logic.specs.Test.{if◌then◌else◌}
+use Rattle.logic.specs.Test.{when◌then◌else◌}
 use Rattle.logic.specs.laws.Test.{cases}
 use Rattle.logic.specs.All.{All}
 use Rattle.model.specs.Result.{Result, accepted, refused}
@@ -31,7 +31,7 @@ use Rattle.equality.specs.laws.census.Equal.{Traced, traced_schema}
 
 -- ---- values with their offsets forgotten show the same
 parts_forgotten : (s : Step) (ps : Parts) → parts_at s (forgets ps) ≡ forget_all (parts_at s ps)
-unfolding parts_at forgets forget_all if◌then◌else◌
+unfolding parts_at forgets forget_all when◌then◌else◌
 parts_forgotten s no_parts = refl
 parts_forgotten s (cut_off n at) = refl
 parts_forgotten s (part at r v ps) = cases (same s r) (λ e. rw e (ap (λ (vs : List Value). forget v ∷ vs) (parts_forgotten s ps))) (λ e. rw e (parts_forgotten s ps))

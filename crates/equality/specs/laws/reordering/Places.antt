@@ -5,7 +5,7 @@ use Rattle.std.proofs.Math.Bool.{not, or-false}
 use mathlib.Core.List.Permᴰ
 use mathlib.Core.List.{List, [], ◌∷◌, append_assoc, Permᴰ}
 use Rattle.std.proofs.Math.Option.{some-injective}
-use Rattle.logic.specs.Test.{if◌then◌else◌}
+use Rattle.logic.specs.Test.{when◌then◌else◌}
 use Rattle.logic.specs.laws.Test.{cases, both, neither}
 use Rattle.logic.specs.All.{All}
 use Rattle.logic.specs.laws.All.{all_map, all_both}
@@ -123,7 +123,7 @@ abbrev pub OneMode : List Value → Type 0
 OneMode vs = (shows as_struct vs && shows as_map vs) ≡ false
 
 proper_kind : (o : ℕ) (v : Value) → is_proper o v ≡ true → kind_fits o (kind_in v) ≡ true
-unfolding is_proper if◌then◌else◌
+unfolding is_proper when◌then◌else◌
 proper_kind o (val at b k n ps) p = both (kind_fits o k) (are_proper o k n 0 ps) p (λ f _. f)
 proper_kind o (cut l at) p = refl
 

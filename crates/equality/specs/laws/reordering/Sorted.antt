@@ -4,7 +4,7 @@ use Rattle.std.specs.Prelude.{◌≡◌, refl, Bool, true, false, ◌&&◌, ◌|
 use Rattle.std.proofs.Math.Path.{ap}
 use Rattle.std.proofs.Common.{ap₂, sym, ◌∙◌, arith}
 use Rattle.std.proofs.Math.Option.{Option, none, some}
-use Rattle.logic.specs.Test.{if◌then◌else◌}
+use Rattle.logic.specs.Test.{when◌then◌else◌}
 use Rattle.logic.specs.laws.Test.{cases}
 use Rattle.logic.specs.Maybe.{and_then}
 use Rattle.model.specs.Kinds.{union_kind, is_struct, Step, same, variant_of}
@@ -38,7 +38,7 @@ sorted_at none = none
 sorted_at (some p) = some (sorted_place p)
 
 find_sorted : (s : Step) (ps : Places) → find s (sorted_below ps) ≡ sorted_at (find s ps)
-unfolding sorted_below find if◌then◌else◌
+unfolding sorted_below find when◌then◌else◌
 find_sorted s none_below = refl
 find_sorted s (below r p ps) = cases (same s r) (λ e. rw e) (λ e. rw e (find_sorted s ps))
 
@@ -48,8 +48,8 @@ module _ (k n : ℕ) (ks : Kids) (d : distinct (steps_of ks) ≡ true) where
   steps_tree = steps_in_order (sorted_below (places_in k n ks)) ∙ ap as_set (steps_sorted (places_in k n ks)) ∙ set_ordered k n ks d
 
   find_tree : (s : Step) → find s (in_order (sorted_below (places_in k n ks)))
-      ≡ (if has s (steps_of ks) then some (sorted_place (place_of (is_missing k n (held_at s ks)) (kid_at s ks))) else none)
-  unfolding if◌then◌else◌
+      ≡ (when has s (steps_of ks) then some (sorted_place (place_of (is_missing k n (held_at s ks)) (kid_at s ks))) else none)
+  unfolding when◌then◌else◌
   find_tree s =
       find_in_order s (sorted_below (places_in k n ks)) ∙ find_sorted s (places_in k n ks) ∙ ap sorted_at (find_ordered k n ks d s ∙ find_places s k n ks)
       ∙ cases (has s (steps_of ks)) (λ e. rw e) (λ e. rw e)
@@ -70,7 +70,7 @@ AlikeBelow t u = (steps : List Step) → Alike (place_at steps t) (place_at step
 
 -- say the same, once sorted
 view_alike : (steps : List Step) (lacking : Bool) (t u : Tree) → AlikeBelow t u → view steps (sorted_place (place_of lacking t)) ≡ view steps (sorted_place (place_of lacking u))
-unfolding view sorted_place place_of place_at if◌then◌else◌ and_then
+unfolding view sorted_place place_of place_at when◌then◌else◌ and_then
 view_alike [] lacking (node b k n ks) (node b' k' n' ks') h =
     let a = h [] in
     let c = steps_tree k n ks a.once ∙ same_set (steps_of ks) (steps_of ks') a.once a.other_once a.steps ∙ sym (steps_tree k' n' ks' a.other_once) in
@@ -82,7 +82,7 @@ view_alike (s ∷ steps) lacking (node b k n ks) (node b' k' n' ks') h =
     rw (find_tree k n ks a.once s, find_tree k' n' ks' a.other_once s, a.steps s)
     (go _ _ (has s (steps_of ks')) (ih ∙ ap (λ (l : Bool). view steps (sorted_place (place_of l (kid_at s ks')))) m))
   where
-    go : (p q : Place) (t : Bool) → view steps p ≡ view steps q → and_then (if t then some p else none) (view steps) ≡ and_then (if t then some q else none) (view steps)
+    go : (p q : Place) (t : Bool) → view steps p ≡ view steps q → and_then (when t then some p else none) (view steps) ≡ and_then (when t then some q else none) (view steps)
     go p q true e = e
     go p q false e = refl
 
@@ -91,7 +91,7 @@ said_steps none = []
 said_steps (some i) = i.children
 
 sorted_distinct : (lacking : Bool) (t : Tree) → ((steps : List Step) → distinct (steps_of (kids_of (place_at steps t))) ≡ true) → Distinct (sorted_place (place_of lacking t))
-unfolding Distinct view sorted_place place_of place_at if◌then◌else◌ and_then
+unfolding Distinct view sorted_place place_of place_at when◌then◌else◌ and_then
 sorted_distinct lacking (node b k n ks) h [] i e =
     let q = ap said_steps e in
     rw (← q, steps_tree k n ks (h []), distinct_set (steps_of ks)) (h [])
@@ -99,7 +99,7 @@ sorted_distinct lacking (node b k n ks) h (s ∷ steps) i e =
     go (has s (steps_of ks)) (sorted_distinct (is_missing k n (held_at s ks)) (kid_at s ks) (λ q. h (s ∷ q)) steps i) (rw (find_tree k n ks (h []) s) at e)
   where
     go : (t : Bool) → (view steps (sorted_place (place_of (is_missing k n (held_at s ks)) (kid_at s ks))) ≡ some i → distinct i.children ≡ true)
-        → and_then (if t then some (sorted_place (place_of (is_missing k n (held_at s ks)) (kid_at s ks))) else none) (view steps) ≡ some i → distinct i.children ≡ true
+        → and_then (when t then some (sorted_place (place_of (is_missing k n (held_at s ks)) (kid_at s ks))) else none) (view steps) ≡ some i → distinct i.children ≡ true
     go true f g = f g
     go false f g = absurd (let z : ◌≡◌ {A = ℕ} 0 1 = cc in omega arith)
 
@@ -117,7 +117,7 @@ unfoldable mutual
   count_below (below s p ps) = place_count p + count_below ps
 
 count_insert : (s : Step) (p : Place) (ps : Places) → count_below (insert_place s p ps) ≡ place_count p + count_below ps
-unfolding insert_place count_below if◌then◌else◌
+unfolding insert_place count_below when◌then◌else◌
 count_insert s p none_below = refl
 count_insert s p (below r q ps) = cases (precedes r s) (λ e. rw (e, count_below) (omega (arith, count_insert s p ps))) (λ e. rw e)
 
@@ -127,7 +127,7 @@ count_in_order none_below = refl
 count_in_order (below s p ps) = count_insert s p (in_order ps) ∙ ap (◌+◌ (place_count p)) (count_in_order ps)
 
 count_variant : (s : Step) (p : Place) (ps : Places) → count_below (insert_variant s p ps) ≡ place_count p + count_below ps
-unfolding insert_variant count_below if◌then◌else◌
+unfolding insert_variant count_below when◌then◌else◌
 count_variant s p none_below = refl
 count_variant s p (below r q ps) = cases (ltb (variant_of s) (variant_of r)) (λ e. rw e) (λ e. rw (e, count_below) (omega (arith, count_variant s p ps)))
 
@@ -147,7 +147,7 @@ mutual
   counts_sorted (below s p ps) = ap₂ ◌+◌ (count_sorted p) (counts_sorted ps)
 
 mutual
-  unfolding place_of place_count size if◌then◌else◌
+  unfolding place_of place_count size when◌then◌else◌
 
   count_tree : (lacking : Bool) (t : Tree) → place_count (place_of lacking t) ≡ size t
   count_tree lacking (node b k n ks) =

@@ -3,7 +3,7 @@ use Rattle.std.specs.Prelude.{◌≡◌, refl, Bool, true, false, not, ◌&&◌,
 use Rattle.std.proofs.Common.{ap, ap₂, sym, ◌∙◌, true≢false, arith, ltb-false, lt-ltb}
 use Rattle.std.proofs.lemmas.Bool.{false≢true, eqb-false}
 use Rattle.std.proofs.Math.Option.{Option, none, some}
-use Rattle.logic.specs.Test.{if◌then◌else◌}
+use Rattle.logic.specs.Test.{when◌then◌else◌}
 use Rattle.logic.specs.laws.Test.{cases, both, neither}
 use Rattle.text.specs.Name.{lt_name}
 use Rattle.text.specs.laws.Name.{lt_name_irreflexive, lt_name_transitive, lt_name_asymmetric, lt_name_total}
@@ -40,7 +40,7 @@ distinct (s ∷ ss) = not (has s ss) && distinct ss
 
 -- ---- a set of steps
 pub has_insert : (a s : Step) (ss : List Step) → has a (insert_step s ss) ≡ (same a s || has a ss)
-unfolding insert_step has if◌then◌else◌
+unfolding insert_step has when◌then◌else◌
 has_insert a s [] = refl
 has_insert a s (r ∷ ss) =
     cases (precedes r s) (λ e. rw (e, has, has_insert a s ss) (or_swap (same a r) (same a s) (has a ss))) (λ e. rw e)
@@ -58,7 +58,7 @@ swap_apart false false true c = refl
 swap_apart false false false c = refl
 
 distinct_insert : (s : Step) (ss : List Step) → distinct (insert_step s ss) ≡ (not (has s ss) && distinct ss)
-unfolding insert_step distinct has if◌then◌else◌
+unfolding insert_step distinct has when◌then◌else◌
 distinct_insert s [] = refl
 distinct_insert s (r ∷ ss) =
     cases (precedes r s)
@@ -80,12 +80,12 @@ ordered [] = true
 ordered (s ∷ ss) = leads s ss && ordered ss
 
 leads_insert : (r s : Step) (ss : List Step) → precedes s r ≡ false → leads r ss ≡ true → leads r (insert_step s ss) ≡ true
-unfolding leads insert_step if◌then◌else◌
+unfolding leads insert_step when◌then◌else◌
 leads_insert r s [] h k = rw h
 leads_insert r s (q ∷ ss) h k = cases (precedes q s) (λ e. rw (e, leads) k) (λ e. rw (e, leads, h))
 
 ordered_insert : (s : Step) (ss : List Step) → ordered ss ≡ true → ordered (insert_step s ss) ≡ true
-unfolding leads ordered insert_step if◌then◌else◌
+unfolding leads ordered insert_step when◌then◌else◌
 ordered_insert s [] h = refl
 ordered_insert s (r ∷ ss) h =
     cases (precedes r s)
@@ -143,7 +143,7 @@ same_set xs ys c d m =
 
 -- ---- places in the order of their steps
 pub steps_insert : (s : Step) (p : Place) (ps : Places) → steps_below (insert_place s p ps) ≡ insert_step s (steps_below ps)
-unfolding insert_place insert_step steps_below if◌then◌else◌
+unfolding insert_place insert_step steps_below when◌then◌else◌
 steps_insert s p none_below = refl
 steps_insert s p (below r q ps) = cases (precedes r s) (λ e. rw (e, steps_below) (ap (λ (ss : List Step). r ∷ ss) (steps_insert s p ps))) (λ e. rw (e, steps_below))
 
@@ -153,7 +153,7 @@ steps_in_order none_below = refl
 steps_in_order (below s p ps) = steps_insert s p (in_order ps) ∙ ap (insert_step s) (steps_in_order ps)
 
 insert_first : (s : Step) (p : Place) (ps : Places) → leads s (steps_below ps) ≡ true → insert_place s p ps ≡ below s p ps
-unfolding leads insert_place steps_below if◌then◌else◌
+unfolding leads insert_place steps_below when◌then◌else◌
 insert_first s p none_below h = refl
 insert_first s p (below r q ps) h = rw (not_is_true (precedes r s) h, insert_place)
 
@@ -166,10 +166,10 @@ in_order_already (below s p ps) h =
 -- the place at a step, where there is one
 unfoldable pub find : Step → Places → Option Place
 find a none_below = none
-find a (below s p ps) = if same a s then some p else find a ps
+find a (below s p ps) = when same a s then some p else find a ps
 
-pub find_insert : (a s : Step) (p : Place) (ps : Places) → find a (insert_place s p ps) ≡ (if same a s then some p else find a ps)
-unfolding find insert_place if◌then◌else◌
+pub find_insert : (a s : Step) (p : Place) (ps : Places) → find a (insert_place s p ps) ≡ (when same a s then some p else find a ps)
+unfolding find insert_place when◌then◌else◌
 find_insert a s p none_below = refl
 find_insert a s p (below r q ps) =
     cases (precedes r s)
@@ -181,11 +181,11 @@ find_insert a s p (below r q ps) =
 pub find_in_order : (a : Step) (ps : Places) → find a (in_order ps) ≡ find a ps
 unfolding find in_order
 find_in_order a none_below = refl
-find_in_order a (below s p ps) = find_insert a s p (in_order ps) ∙ ap (λ (o : Option Place). if same a s then some p else o) (find_in_order a ps)
+find_in_order a (below s p ps) = find_insert a s p (in_order ps) ∙ ap (λ (o : Option Place). when same a s then some p else o) (find_in_order a ps)
 
 -- ---- variants by their numbers
 pub has_insert_variant : (a s : Step) (p : Place) (ps : Places) → has a (steps_below (insert_variant s p ps)) ≡ (same a s || has a (steps_below ps))
-unfolding insert_variant steps_below has if◌then◌else◌
+unfolding insert_variant steps_below has when◌then◌else◌
 has_insert_variant a s p none_below = refl
 has_insert_variant a s p (below r q ps) =
     cases (ltb (variant_of s) (variant_of r)) (λ e. rw e)
@@ -197,7 +197,7 @@ has_by_number a none_below = refl
 has_by_number a (below s p ps) = rw (has_insert_variant a s p (by_number ps), has_by_number a ps)
 
 distinct_insert_variant : (s : Step) (p : Place) (ps : Places) → distinct (steps_below (insert_variant s p ps)) ≡ (not (has s (steps_below ps)) && distinct (steps_below ps))
-unfolding insert_variant steps_below distinct has if◌then◌else◌
+unfolding insert_variant steps_below distinct has when◌then◌else◌
 distinct_insert_variant s p none_below = refl
 distinct_insert_variant s p (below r q ps) =
     cases (ltb (variant_of s) (variant_of r)) (λ e. rw e)
@@ -212,8 +212,8 @@ distinct_by_number (below s p ps) = rw (distinct_insert_variant s p (by_number p
 pub set_by_number : (ps : Places) → distinct (steps_below ps) ≡ true → as_set (steps_below (by_number ps)) ≡ as_set (steps_below ps)
 set_by_number ps d = same_set (steps_below (by_number ps)) (steps_below ps) (distinct_by_number ps ∙ d) d (λ a. has_by_number a ps)
 
-find_insert_variant : (a s : Step) (p : Place) (ps : Places) → has s (steps_below ps) ≡ false → find a (insert_variant s p ps) ≡ (if same a s then some p else find a ps)
-unfolding find insert_variant steps_below has if◌then◌else◌
+find_insert_variant : (a s : Step) (p : Place) (ps : Places) → has s (steps_below ps) ≡ false → find a (insert_variant s p ps) ≡ (when same a s then some p else find a ps)
+unfolding find insert_variant steps_below has when◌then◌else◌
 find_insert_variant a s p none_below h = refl
 find_insert_variant a s p (below r q ps) h =
     cases (ltb (variant_of s) (variant_of r)) (λ e. rw e)
@@ -227,7 +227,7 @@ find_by_number a none_below d = refl
 find_by_number a (below s p ps) d =
     both (not (has s (steps_below ps))) (distinct (steps_below ps)) d λ e f.
     find_insert_variant a s p (by_number ps) (has_by_number s ps ∙ not_is_true (has s (steps_below ps)) e)
-    ∙ ap (λ (o : Option Place). if same a s then some p else o) (find_by_number a ps f)
+    ∙ ap (λ (o : Option Place). when same a s then some p else o) (find_by_number a ps f)
 
 -- ---- numbers that rise
 unfoldable pub under : ℕ → List Step → Bool
@@ -249,7 +249,7 @@ numbers_apart [] = true
 numbers_apart (s ∷ ss) = not (numbered (variant_of s) ss) && numbers_apart ss
 
 numbered_insert : (n : ℕ) (s : Step) (p : Place) (ps : Places) → numbered n (steps_below (insert_variant s p ps)) ≡ (eqb n (variant_of s) || numbered n (steps_below ps))
-unfolding insert_variant steps_below numbered if◌then◌else◌
+unfolding insert_variant steps_below numbered when◌then◌else◌
 numbered_insert n s p none_below = refl
 numbered_insert n s p (below r q ps) =
     cases (ltb (variant_of s) (variant_of r)) (λ e. rw e)
@@ -261,12 +261,12 @@ numbered_by_number n none_below = refl
 numbered_by_number n (below s p ps) = rw (numbered_insert n s p (by_number ps), numbered_by_number n ps)
 
 under_insert : (n : ℕ) (s : Step) (p : Place) (ps : Places) → ltb n (variant_of s) ≡ true → under n (steps_below ps) ≡ true → under n (steps_below (insert_variant s p ps)) ≡ true
-unfolding insert_variant steps_below under if◌then◌else◌
+unfolding insert_variant steps_below under when◌then◌else◌
 under_insert n s p none_below h k = h
 under_insert n s p (below r q ps) h k = cases (ltb (variant_of s) (variant_of r)) (λ e. rw (e, steps_below, under) h) (λ e. rw (e, steps_below, under) k)
 
 rising_insert : (s : Step) (p : Place) (ps : Places) → numbered (variant_of s) (steps_below ps) ≡ false → rising (steps_below ps) ≡ true → rising (steps_below (insert_variant s p ps)) ≡ true
-unfolding insert_variant steps_below rising under numbered if◌then◌else◌
+unfolding insert_variant steps_below rising under numbered when◌then◌else◌
 rising_insert s p none_below n h = refl
 rising_insert s p (below r q ps) n h =
     cases (ltb (variant_of s) (variant_of r)) (λ e. rw (e, steps_below, rising) (and_both e h))

@@ -4,7 +4,7 @@ use Rattle.std.specs.Prelude.{◌≡◌, refl, ◌↔◌, Bool, true, false, not
 use Rattle.std.proofs.Common.{ap, ap₂, sym, ◌∙◌, true≢false, arith, length-append, eqb-true}
 use Rattle.std.proofs.lemmas.Bool.{false≢true}
 use Rattle.std.proofs.Math.Option.{Option, none, some}
-use Rattle.logic.specs.Test.{if◌then◌else◌}
+use Rattle.logic.specs.Test.{when◌then◌else◌}
 use Rattle.logic.specs.laws.Test.{cases, both}
 use Rattle.datatype.specs.Codes.{null, utf8, large_utf8, struct, map, no_strategy}
 use Rattle.options.specs.Word.{allow_null_fields, sequence_as_large_list, string_as_large_utf8, string_dictionary_encoding, enums_without_data_as_strings}
@@ -32,9 +32,9 @@ sorted_already options kind ps = order_fits options kind ps (sorted_below ps) (s
 -- a place of a kind, whose places below are dataless, and pass, or not
 unfoldable pub ok_as : ℕ → ℕ → Bool → Bool → Bool
 ok_as options kind is_bare ok =
-    if eqb kind null then allow_null_fields options
-    else if eqb kind union_kind && is_bare && enums_without_data_as_strings options then true
-    else if eqb kind union_kind && is_bare && not (allow_null_fields options) then false
+    when eqb kind null then allow_null_fields options
+    else when eqb kind union_kind && is_bare && enums_without_data_as_strings options then true
+    else when eqb kind union_kind && is_bare && not (allow_null_fields options) then false
     else ok
 
 unfoldable mutual
@@ -54,19 +54,19 @@ passes_first none b = refl
 passes_first (some refusal) b = refl
 
 passes_as : (options kind : ℕ) (is_bare : Bool) (rest : Option ℕ) →
-    passes (if eqb kind null then (if allow_null_fields options then none else some null_field)
-    else if eqb kind union_kind && is_bare && enums_without_data_as_strings options then none
-    else if eqb kind union_kind && is_bare && not (allow_null_fields options) then some dataless_union
+    passes (when eqb kind null then (when allow_null_fields options then none else some null_field)
+    else when eqb kind union_kind && is_bare && enums_without_data_as_strings options then none
+    else when eqb kind union_kind && is_bare && not (allow_null_fields options) then some dataless_union
     else rest)
     ≡ ok_as options kind is_bare (passes rest)
-unfolding ok_as if◌then◌else◌
+unfolding ok_as when◌then◌else◌
 passes_as options kind is_bare rest =
     cases (eqb kind null) (λ a. cases (allow_null_fields options) (λ b. rw (ok_as, a, b)) (λ b. rw (ok_as, a, b))) (λ a.
     cases (eqb kind union_kind && is_bare && enums_without_data_as_strings options) (λ b. rw (ok_as, a, b)) (λ b.
     cases (eqb kind union_kind && is_bare && not (allow_null_fields options)) (λ c. rw (ok_as, a, b, c)) (λ c. rw (ok_as, a, b, c))))
 
 mutual
-  unfolding walk ok_place if◌then◌else◌
+  unfolding walk ok_place when◌then◌else◌
 
   walk_passes : (options : ℕ) (c : Place) → passes (walk options c) ≡ ok_place options c
   walk_passes options (shown admits kind ps) = passes_as options kind (dataless ps) (walks options kind ps) ∙ ap (ok_as options kind (dataless ps)) (walks_pass options kind ps)
@@ -94,7 +94,7 @@ and_swap false true c = refl
 and_swap false false c = refl
 
 ok_insert : (options kind : ℕ) (s : Step) (p : Place) (ps : Places) → ok_below options kind (insert_place s p ps) ≡ ok_below options kind (below s p ps)
-unfolding ok_below insert_place if◌then◌else◌
+unfolding ok_below insert_place when◌then◌else◌
 ok_insert options kind s p none_below = refl
 ok_insert options kind s p (below r q ps) =
     cases (precedes r s)
@@ -116,7 +116,7 @@ dataless_sorted slot (below s (shown admits kind qs) ps) = ap (◌&&◌ (eqb (va
 
 -- a struct is no union, and its places below may stand in any order
 ok_struct : (options kind : ℕ) (is_bare ok : Bool) → is_struct kind ≡ true → ok_as options kind is_bare ok ≡ ok
-unfolding ok_as if◌then◌else◌
+unfolding ok_as when◌then◌else◌
 ok_struct options kind is_bare ok h = rw (ok_as, struct_other kind null h refl, struct_other kind union_kind h refl)
 
 mutual
@@ -152,7 +152,7 @@ unfolding in_name_order_of
 name_kept above (mk type nullable strategy number name fs) = refl
 
 order_insert : (above : ℕ) (f : Field) (fs : Fields) → in_name_order_below above (insert_field f fs) ≡ insert_field (in_name_order_of above f) (in_name_order_below above fs)
-unfolding in_name_order_below insert_field if◌then◌else◌
+unfolding in_name_order_below insert_field when◌then◌else◌
 order_insert above f no_fields = refl
 order_insert above f (more g fs) =
     cases (lt_name (name_in g) (name_in f))
@@ -165,13 +165,13 @@ order_by_name above no_fields = refl
 order_by_name above (more f fs) = order_insert above f (by_name fs) ∙ ap (insert_field (in_name_order_of above f)) (order_by_name above fs)
 
 order_gaps : (above slot n : ℕ) (fs : Fields) → in_name_order_below above (gaps slot n fs) ≡ gaps slot n (in_name_order_below above fs)
-unfolding in_name_order_below gaps if◌then◌else◌
+unfolding in_name_order_below gaps when◌then◌else◌
 order_gaps above slot zero fs = refl
 order_gaps above slot (suc n) fs = ap (more (gap slot)) (order_gaps above (slot + 1) n fs)
 
 -- only a struct is listed
 not_listed : (above options kind : ℕ) → kind_fits options kind ≡ true → eqb kind struct_kind ≡ false → is_listed above (type_of options kind) (strategy_of kind) ≡ false
-unfolding kind_back if◌then◌else◌
+unfolding kind_back when◌then◌else◌
 not_listed above options kind f n =
     cases (eqb (type_of options kind) struct && eqb (strategy_of kind) no_strategy)
     (λ e. both (eqb (type_of options kind) struct) (eqb (strategy_of kind) no_strategy) e λ a b.
@@ -189,7 +189,7 @@ not_map options kind n =
     choice P ((eqb kind utf8 || eqb kind large_utf8) && string_dictionary_encoding options) (λ _. choice P (string_as_large_utf8 options) (λ _. refl) (λ _. refl)) λ _. n
 
 map_type : (options kind : ℕ) → eqb (type_of options kind) map ≡ eqb kind map_kind
-unfolding type_of if◌then◌else◌
+unfolding type_of when◌then◌else◌
 map_type options kind = cases (eqb kind map_kind) (λ e. rw (eqb-true kind map_kind e)) (λ e. not_map options kind e ∙ sym e)
 
 -- fields that stand in no map, in order of names, whatever else they stand in
@@ -200,7 +200,7 @@ Ordered fs gs = (above : ℕ) → eqb above map ≡ false → in_name_order_belo
 order_arranged : (options kind : ℕ) (ps : Places) (above : ℕ) → eqb above map ≡ eqb kind map_kind → fit_below options kind 0 ps ≡ true →
     (not (eqb kind union_kind) || rising (steps_below ps)) ≡ true → Ordered (fields_of options kind 0 ps) (plain_fields options kind 0 (sorted_below ps)) → eqb kind struct_kind ≡ false →
     in_name_order_below above (arranged kind (fields_of options kind 0 ps)) ≡ wrapped kind (plain_fields options kind 0 (in_order (sorted_below ps)))
-unfolding arranged wrapped in_name_order_below if◌then◌else◌
+unfolding arranged wrapped in_name_order_below when◌then◌else◌
 order_arranged options kind ps above t f u e n =
     cases (eqb kind map_mode_kind)
     (λ b.
@@ -222,7 +222,7 @@ order_struct options ps f e =
     ap by_name (e struct refl) ∙ by_name_plain options struct_kind (sorted_below ps) refl (rw (steps_sorted ps) (named_fits options struct_kind 0 ps refl f))
 
 mutual
-  unfolding field_of plain_field sorted_place in_name_order_of fits ascends type_of strategy_of arranged wrapped if◌then◌else◌
+  unfolding field_of plain_field sorted_place in_name_order_of fits ascends type_of strategy_of arranged wrapped when◌then◌else◌
 
   -- a field in order of names is the sorted place's, emitted in order
   pub order_field : (options : ℕ) (x : List ℕ) (v : ℕ) (c : Place) → Off options → fits options c ≡ true → ascends c ≡ true →
@@ -244,18 +244,18 @@ mutual
   order_fields options kind slot i (below s p ps) o f u above m =
       fit_more options kind i s p ps f λ _ _ g h.
       both (ascends p) (ascend_below ps) u λ a b.
-      order_gaps above slot (if eqb kind union_kind then variant_of s - slot else 0) (more (field_of options (name_of s) (variant_of s) p) (fields_of options kind (variant_of s + 1) ps))
-      ∙ ap (gaps slot (if eqb kind union_kind then variant_of s - slot else 0))
+      order_gaps above slot (when eqb kind union_kind then variant_of s - slot else 0) (more (field_of options (name_of s) (variant_of s) p) (fields_of options kind (variant_of s + 1) ps))
+      ∙ ap (gaps slot (when eqb kind union_kind then variant_of s - slot else 0))
       (ap₂ more (order_field options (name_of s) (variant_of s) p o g a above m) (order_fields options kind (variant_of s + 1) (suc i) ps o h b above m))
 
 -- ---- the root
 -- the fields of a root in order
 unfoldable root_names : ℕ → Place → Fields
-root_names options (shown admits kind ps) = if eqb kind struct_kind then plain_fields options kind 0 ps else by_name (wrapped kind (plain_fields options kind 0 ps))
+root_names options (shown admits kind ps) = when eqb kind struct_kind then plain_fields options kind 0 ps else by_name (wrapped kind (plain_fields options kind 0 ps))
 
 root_order : (options : ℕ) (admits : Bool) (kind : ℕ) (ps : Places) → Off options → fits options (shown admits kind ps) ≡ true → ascends (shown admits kind ps) ≡ true →
     type_of options kind ≡ struct → in_name_order (arranged kind (fields_of options kind 0 ps)) ≡ root_names options (sorted_place (shown admits kind ps))
-unfolding in_name_order root_names sorted_place fits ascends arranged if◌then◌else◌
+unfolding in_name_order root_names sorted_place fits ascends arranged when◌then◌else◌
 root_order options admits kind ps o f u t =
     both (kind_fits options kind) (fit_below options kind 0 ps) f λ _ g.
     both (not (eqb kind union_kind) || rising (steps_below ps)) (ascend_below ps) u λ a b.
@@ -268,7 +268,7 @@ root_order options admits kind ps o f u t =
 pub root_reordered : (options end end' : ℕ) (c d : Place) (fs : Fields) → Off options → fits options c ≡ true → fits options d ≡ true → ascends c ≡ true → ascends d ≡ true →
     sorted_place c ≡ sorted_place d → root_fields end (field_of options root_name 0 c) ≡ accepted fs →
     (gs : Fields) × (root_fields end' (field_of options root_name 0 d) ≡ accepted gs) × (in_name_order fs ≡ in_name_order gs)
-unfolding sorted_place if◌then◌else◌
+unfolding sorted_place when◌then◌else◌
 root_reordered options end end' (shown a k ps) (shown b l qs) fs o f g u w e h =
     let p = root_field end (type_of options k) a (strategy_of k) 0 root_name (arranged k (fields_of options k 0 ps)) fs (rw (field_arranged options root_name 0 a k ps o) at h) in
     let n : a ≡ b = cc in
@@ -291,7 +291,7 @@ unfoldable mutual
   total_in weight (more f fs) = total_of weight f + total_in weight fs
 
 total_insert : (weight : ℕ → List ℕ → ℕ → ℕ) (f : Field) (fs : Fields) → total_in weight (insert_field f fs) ≡ total_of weight f + total_in weight fs
-unfolding total_in insert_field if◌then◌else◌
+unfolding total_in insert_field when◌then◌else◌
 total_insert weight f no_fields = refl
 total_insert weight f (more g fs) =
     cases (lt_name (name_in g) (name_in f)) (λ e. rw (insert_field, e, total_in, total_insert weight f fs) (omega arith)) (λ e. rw (insert_field, e, total_in))
@@ -302,7 +302,7 @@ total_by_name weight no_fields = refl
 total_by_name weight (more f fs) = total_insert weight f (by_name fs) ∙ ap (◌+◌ (total_of weight f)) (total_by_name weight fs)
 
 count_insert : (f : Field) (fs : Fields) → child_count (insert_field f fs) ≡ suc (child_count fs)
-unfolding insert_field if◌then◌else◌
+unfolding insert_field when◌then◌else◌
 count_insert f no_fields = refl
 count_insert f (more g fs) = cases (lt_name (name_in g) (name_in f)) (λ e. rw (insert_field, e, count_insert f fs)) (λ e. rw (insert_field, e))
 
@@ -317,7 +317,7 @@ count_order above no_fields = refl
 count_order above (more f fs) = ap suc (count_order above fs)
 
 mutual
-  unfolding total_in in_name_order_below if◌then◌else◌
+  unfolding total_in in_name_order_below when◌then◌else◌
 
   total_field : (weight : ℕ → List ℕ → ℕ → ℕ) (above : ℕ) (f : Field) → total_of weight (in_name_order_of above f) ≡ total_of weight f
   total_field weight above (mk type nullable strategy number name fs) =

@@ -3,7 +3,7 @@ use Rattle.std.specs.Prelude.{◌≡◌, refl, List, [], ◌∷◌, ◌++◌, Bo
 use Rattle.std.proofs.Common.{ap, sym, ◌∙◌, append-nil, arith, eqb-true, eq-eqb}
 use Rattle.std.proofs.Math.Option.{Option, none, some}
 use Rattle.std.proofs.lemmas.Bool.{false≢true}
-use Rattle.logic.specs.Test.{if◌then◌else◌}
+use Rattle.logic.specs.Test.{when◌then◌else◌}
 use Rattle.logic.specs.laws.Test.{cases, both, same_test}
 use Rattle.model.specs.Result.{Result, accepted}
 use Rattle.model.specs.Kinds.{is_container, Step, same, variant_of, is_variant}
@@ -124,7 +124,7 @@ Below o d ks ps = (s : Step) (steps : List Step) → Allowed o (depth_at (d + do
 
 first_split : (o d at : ℕ) (s : Step) (v : Value) (ps : Parts) (ks : Kids) → Below o d ks (part at s v ps) → (steps : List Step)
     → Allowed o (depth_at (d + dots_of s) steps) (place_at steps (kid_at s ks)) (standing steps (v ∷ []) ++ standing steps (parts_at s ps))
-unfolding parts_at if◌then◌else◌
+unfolding parts_at when◌then◌else◌
 first_split o d at s v ps ks h steps = rw (same_refl s, standing_append steps (v ∷ []) (parts_at s ps)) at (h s steps)
 
 -- where a list of values is allowed after one that was accepted
@@ -136,14 +136,14 @@ rest o d v vs t u steps p e a =
 
 rest_allowed : (o d at : ℕ) (s : Step) (v : Value) (ps : Parts) (ks : Kids) (t : Tree) → Below o d ks (part at s v ps) → is_proper o v ≡ true
     → see o (d + dots_of s) v (kid_at s ks) ≡ accepted t → Below o d (put s t ks) ps
-unfolding parts_at if◌then◌else◌
+unfolding parts_at when◌then◌else◌
 rest_allowed o d at s v ps ks t h p e q steps =
     cases (same q s)
     (λ f. rw (same_true q s f, kid_at_put_same) (rest o (d + dots_of s) v (parts_at s ps) (kid_at s ks) t steps p e (first_split o d at s v ps ks h steps)))
     (λ f. rw (kid_at_put_other q s t ks f) (rw f at (h q steps)))
 
 mutual
-  unfolding see standing place_at depth_at below is_whole is_proper all_shallow kinds_seen steps_in sights steps_seen allowed if◌then◌else◌
+  unfolding see standing place_at depth_at below is_whole is_proper all_shallow kinds_seen steps_in sights steps_seen allowed when◌then◌else◌
 
   value_good : (o d : ℕ) (v : Value) (t : Tree) → is_whole v ≡ true → is_proper o v ≡ true
       → ((steps : List Step) → Allowed o (depth_at d steps) (place_at steps t) (standing steps (v ∷ []))) → Good (see o d v t)

@@ -6,7 +6,7 @@ use Rattle.std.proofs.Math.Path.{ap}
 use mathlib.Core.List.{List, [], ◌∷◌}
 use Rattle.std.proofs.Math.Option.{Option, none, some}
 use Prim.Native.Nat.{ℕ, zero, suc, ◌+◌, ◌≤◌}
-use Rattle.logic.specs.Test.{if◌then◌else◌}
+use Rattle.logic.specs.Test.{when◌then◌else◌}
 use Rattle.refusal.specs.Number.{no_joint, too_many_places}
 use Rattle.coerce.specs.Joint.{joint}
 use Rattle.commands.specs.declared.Due.TheVariants as D
@@ -142,7 +142,7 @@ module _ (at : ℕ) where
   allowed_placed s ks = choice (Placed at) _ (λ _. refl) (λ _. tt)
 
   allowed_free : (s : Step) (ks : Kids) → clashes s (steps_of ks) ≡ false → allowed at s ks ≡ accepted true
-  unfolding allowed if◌then◌else◌
+  unfolding allowed when◌then◌else◌
   allowed_free s ks e = rw e
 
   room_placed : (s : Step) (n : ℕ) (ks : Kids) → Placed at (room at s n ks)

@@ -2,7 +2,7 @@
 use Rattle.std.specs.Prelude.{◌≡◌, refl, List, [], ◌∷◌, true, false, not, ℕ, ◌+◌, ◌≤◌, ltb}
 use Rattle.std.proofs.Common.{sym, ◌∙◌, true≢false, arith, ltb-false}
 use Rattle.std.proofs.Math.Option.{Option, none, some}
-use Rattle.logic.specs.Test.{if◌then◌else◌}
+use Rattle.logic.specs.Test.{when◌then◌else◌}
 use Rattle.logic.specs.laws.Test.{cases}
 use Rattle.refusal.specs.Number.{two_names, no_joint, too_many_places}
 use Rattle.coerce.specs.Joint.{joint}
@@ -31,7 +31,7 @@ Other m = m ≡ too_many_places → ⊥
 
 -- room is refused for two names, or for the bound
 pub room_no : {P : Type 0} (at : ℕ) (s : Step) (n : ℕ) (ks : Kids) (m p : ℕ) → room at s n ks ≡ refused m p → Other m → (clashes s (steps_of ks) ≡ true → allowed at s ks ≡ refused m p → P) → P
-unfolding room allowed if◌then◌else◌
+unfolding room allowed when◌then◌else◌
 room_no at s n ks m p e o k =
     cases (clashes s (steps_of ks))
     (λ f. let q : ◌≡◌ {A = Result ℕ} (refused two_names at) (refused m p) = rw f at e in k f (rw f (same_refusal q)))
@@ -46,7 +46,7 @@ room_no at s n ks m p e o k =
 -- for the bound, where it is reached, and the place is not there
 pub eleven_room : {P : Type 0} (at : ℕ) (s : Step) (n : ℕ) (ks : Kids) (p : ℕ) → room at s n ks ≡ refused too_many_places p
     → (clashes s (steps_of ks) ≡ false → has s (steps_of ks) ≡ false → place_limit ≤ n → at ≡ p → P) → P
-unfolding room if◌then◌else◌
+unfolding room when◌then◌else◌
 eleven_room at s n ks p e k =
     cases (clashes s (steps_of ks))
     (λ f. let q : ◌≡◌ {A = Result ℕ} (refused two_names at) (refused too_many_places p) = rw f at e in absurd (let z : two_names ≡ too_many_places = cc in omega arith))
@@ -89,7 +89,7 @@ make_no at (s ∷ ss) n ks m p v e o =
     (λ a f g. make_no at ss a (put s (kid_at s ks) ks) m p (and_right (not (is_variant s)) (no_variants ss) v) g o)
 
 mutual
-  unfolding observe see allowed if◌then◌else◌
+  unfolding observe see allowed when◌then◌else◌
 
   pub value_no : (o d : ℕ) (v : Value) (n : ℕ) (t : Tree) (m p : ℕ) → observe o d v n t ≡ refused m p → Other m → see o d v t ≡ refused m p
   value_no o d (cut n' at) n t m p e x = same_refusal e

@@ -1,7 +1,7 @@
 -- Refusal 11: the count of places is threaded, and acceptance is acceptance without it together with the size of the tree.
 use Rattle.std.specs.Prelude.{◌≡◌, refl, List, [], ◌∷◌, Bool, true, false, not, ◌&&◌, ◌||◌, ℕ, zero, suc, ◌+◌, ◌<◌, ◌≤◌, eqb, ltb}
 use Rattle.std.proofs.Common.{ap, sym, ◌∙◌, arith, ltb-true, lt-ltb}
-use Rattle.logic.specs.Test.{if◌then◌else◌}
+use Rattle.logic.specs.Test.{when◌then◌else◌}
 use Rattle.logic.specs.laws.Test.{cases}
 use Rattle.datatype.specs.Codes.{null}
 use Rattle.refusal.specs.Number.{two_names, too_many_places}
@@ -28,7 +28,7 @@ new s kids = one (not (has s (steps_of kids)))
 
 -- ---- sizes
 pub size_put : (s : Step) (t : Tree) (ks : Kids) → sizes (put s t ks) + size (kid_at s ks) ≡ sizes ks + (new s ks + size t)
-unfolding size put kid_at steps_of has if◌then◌else◌
+unfolding size put kid_at steps_of has when◌then◌else◌
 size_put s t no_kids = omega arith
 size_put s t (kid r n u ks) =
     cases (same s r)
@@ -60,7 +60,7 @@ Within n m = n ≤ place_limit → m ≤ place_limit
 
 pub room_ok : {P : Type 0} (at : ℕ) (s : Step) (n : ℕ) (ks : Kids) (m : ℕ) → room at s n ks ≡ accepted m
     → (clashes s (steps_of ks) ≡ false → n + new s ks ≡ m → Within n m → P) → P
-unfolding room if◌then◌else◌
+unfolding room when◌then◌else◌
 room_ok at s n ks m e k =
     cases (clashes s (steps_of ks))
     (λ f. let q : refused two_names at ≡ accepted m = rw f at e in not_refused q)
@@ -76,7 +76,7 @@ room_ok at s n ks m e k =
     (λ h. let q : refused too_many_places at ≡ accepted m = rw (f, g, h) at e in not_refused q)))
 
 room_for : (at : ℕ) (s : Step) (n : ℕ) (ks : Kids) → clashes s (steps_of ks) ≡ false → n + new s ks ≤ place_limit → room at s n ks ≡ accepted (n + new s ks)
-unfolding room if◌then◌else◌
+unfolding room when◌then◌else◌
 room_for at s n ks f h =
     cases (has s (steps_of ks))
     (λ g. let z : n ≡ n + 0 = omega arith in rw (f, g) (ap (λ (x : ℕ). accepted x) z))
@@ -97,7 +97,7 @@ positions_no_variants i zero = refl
 positions_no_variants i (suc n) = positions_no_variants (suc i) n
 
 pub made_no_variants : (k n before : ℕ) → no_variants (made k n before) ≡ true
-unfolding made if◌then◌else◌
+unfolding made when◌then◌else◌
 made_no_variants k n before =
     cases (eqb k sequence_kind) (λ e. rw e) (λ e.
     cases (eqb k map_kind) (λ f. rw (e, f)) (λ f.
@@ -123,7 +123,7 @@ counted_make at (s ∷ ss) n ks r e =
     (c.0, omega (arith, c.1, i, size_put s (kid_at s ks) ks), λ b. c.2 (l b))
 
 mutual
-  unfolding observe see allowed if◌then◌else◌
+  unfolding observe see allowed when◌then◌else◌
 
   pub counted : (o d : ℕ) (v : Value) (n : ℕ) (t : Tree) (r : Counted Tree) → observe o d v n t ≡ accepted r
       → (see o d v t ≡ accepted r.what) × (r.places + size t ≡ n + size r.what) × Within n r.places
@@ -206,7 +206,7 @@ counts_make at (s ∷ ss) n ks e h =
     (c.0, rw r c.1, c.2)
 
 pub allowed_ok : (at : ℕ) (s : Step) (ks : Kids) (x : Bool) → allowed at s ks ≡ accepted x → clashes s (steps_of ks) ≡ false
-unfolding allowed if◌then◌else◌
+unfolding allowed when◌then◌else◌
 allowed_ok at s ks x e = cases (clashes s (steps_of ks)) (λ f. let q : refused two_names at ≡ accepted x = rw f at e in not_refused q) (λ f. f)
 
 next_part_lem : (o d at : ℕ) (s : Step) (v : Value) (ps : Parts) (n : ℕ) (ks ks' : Kids) (q : Counted Tree) (t : Tree) → room at s n ks ≡ accepted (n + new s ks)

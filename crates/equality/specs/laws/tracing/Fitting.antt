@@ -5,7 +5,7 @@ use Rattle.std.specs.Prelude.{refl, Bool, true, false, not, ◌&&◌, ◌||◌, 
 use Rattle.std.proofs.Common.{ap, sym, ◌∙◌, true≢false, arith, eqb-true}
 use Rattle.std.proofs.lemmas.Bool.{false≢true}
 use Rattle.std.proofs.Math.Option.{none, some}
-use Rattle.logic.specs.Test.{if◌then◌else◌}
+use Rattle.logic.specs.Test.{when◌then◌else◌}
 use Rattle.logic.specs.laws.Test.{if_passed, if_failed, cases, both, neither}
 use Rattle.datatype.specs.Codes.{null}
 use Rattle.options.specs.Word.{string_as_large_utf8, string_type}
@@ -34,11 +34,11 @@ abbrev Fit : ℕ → ℕ → List Step → Type 0
 Fit o k ss = (kind_fits o k ≡ true) × (steps_fit k 0 ss ≡ true)
 
 string_fits : (o : ℕ) → kind_fits o (string_type o) ≡ true
-unfolding if◌then◌else◌
+unfolding when◌then◌else◌
 string_fits o = cases (string_as_large_utf8 o) (λ e. rw e) (λ e. rw e)
 
 joint_fits : (o k h j : ℕ) → kind_fits o k ≡ true → kind_fits o h ≡ true → joint o k h ≡ some j → kind_fits o j ≡ true
-unfolding if◌then◌else◌
+unfolding when◌then◌else◌
 joint_fits o k h j p q = joint_among (λ u. kind_fits o u ≡ true) o k h j p q refl refl refl (string_fits o)
 
 module _ (o k h j n : ℕ) (ps : Parts) (ss : List Step) (p : kind_fits o h ≡ true) (q : are_proper o h n 0 ps ≡ true) (g : Fit o k ss) where
@@ -59,7 +59,7 @@ module _ (o k h j n : ℕ) (ps : Parts) (ss : List Step) (p : kind_fits o h ≡ 
       (λ a. both (is_struct k) (is_struct h) a λ b c. other_mode h k 0 after c b (shown_fit (other_mode k h 0 ss b c g.1)))
 
   meets_fit : together o k h ≡ some j → Fit o j after
-  unfolding together steps_fit if◌then◌else◌
+  unfolding together steps_fit when◌then◌else◌
   meets_fit e =
       cases (not (is_container k || is_container h))
       (λ a. neither (is_container k) (is_container h) (not_is_true _ a) λ b c. types_fit b c (rw a at e)) λ a.
@@ -101,7 +101,7 @@ Each P none_below = Unit {0}
 Each P (below s p ps) = P p × Each P ps
 
 each_insert : (P : Place → Type 0) (s : Step) (p : Place) (ps : Places) → P p → Each P ps → Each P (insert_variant s p ps)
-unfolding insert_variant if◌then◌else◌
+unfolding insert_variant when◌then◌else◌
 each_insert P s p none_below a b = (a, tt)
 each_insert P s p (below r q ps) a b =
     cases (ltb (variant_of s) (variant_of r)) (λ e. rw e (a, b)) (λ e. rw e (b.0, each_insert P s p ps a b.1))
@@ -137,7 +137,7 @@ union_steps i [] = refl
 union_steps i (s ∷ ss) = rw (union_step i s, union_steps (suc i) ss)
 
 variants_insert : (s : Step) (p : Place) (ps : Places) → is_variant s ≡ true → all_variants (steps_below ps) ≡ true → all_variants (steps_below (insert_variant s p ps)) ≡ true
-unfolding insert_variant all_variants steps_below if◌then◌else◌
+unfolding insert_variant all_variants steps_below when◌then◌else◌
 variants_insert s p none_below v a = and_both v refl
 variants_insert s p (below r q ps) v a =
     cases (ltb (variant_of s) (variant_of r)) (λ e. rw (e, steps_below, all_variants) (and_both v a))
@@ -168,7 +168,7 @@ shown_sound o k b ps g d u a =
     (and_both g.0 w.0, and_both r w.1)
 
 place_sound : (o k : ℕ) (b : Bool) (ps : Places) → Fit o k (steps_below ps) → distinct (steps_below ps) ≡ true → Clear (steps_below ps) → Each (Sound o) ps
-    → Sound o (shown b k (if eqb k union_kind then by_number ps else ps))
+    → Sound o (shown b k (when eqb k union_kind then by_number ps else ps))
 place_sound o k b ps g d c a =
     cases (eqb k union_kind)
     (λ e.
@@ -187,20 +187,20 @@ record Grown (o : ℕ) (t : Tree) : Type 0 where
   proper : all_proper o values ≡ true
 
 unseen : (s : Step) (ks : Kids) → has s (steps_of ks) ≡ false → kid_at s ks ≡ fresh
-unfolding steps_of has kid_at if◌then◌else◌
+unfolding steps_of has kid_at when◌then◌else◌
 unseen s no_kids n = refl
 unseen s (kid r m t ks) n = neither (same s r) (has s (steps_of ks)) n λ a b. rw a (unseen s ks b)
 
 -- the kids after the first, where its step does not come again
 others_grown : (o m : ℕ) (s : Step) (t : Tree) (ks : Kids) → has s (steps_of ks) ≡ false → ((r : Step) → Grown o (kid_at r (kid s m t ks))) → (r : Step) → Grown o (kid_at r ks)
-unfolding kid_at see_all all_proper if◌then◌else◌
+unfolding kid_at see_all all_proper when◌then◌else◌
 others_grown o m s t ks n g r =
     cases (same r s)
     (λ e. rw (same_true r s e, unseen s ks n) (record { depth = 0; values = []; left = refl; proper = refl }))
     (λ e. rw e at (g r))
 
 mutual
-  unfolding place_of steps_of kid_at distinct steps_fit has if◌then◌else◌
+  unfolding place_of steps_of kid_at distinct steps_fit has when◌then◌else◌
 
   -- each kid is what the values below its step leave
   tree_sound : (o : ℕ) (m : Bool) (t : Tree) → Grown o t → Sound o (place_of m t)

@@ -5,7 +5,7 @@ use Rattle.std.proofs.Math.Path.{refl}
 use Rattle.std.proofs.Common.{sym, ◌∙◌, arith}
 use Rattle.std.proofs.lemmas.Bool.{false≢true}
 use mathlib.Core.List.{List, [], ◌∷◌, ◌++◌}
-use Rattle.logic.specs.Test.{if◌then◌else◌}
+use Rattle.logic.specs.Test.{when◌then◌else◌}
 use Rattle.logic.specs.All.{All}
 use Rattle.logic.specs.laws.Test.{cases, both}
 use Rattle.datatype.specs.Codes.{null}
@@ -61,18 +61,18 @@ taken_snoc r s ss x e f =
     rw (has_snoc r s ss, clashes_snoc r s ss, or_left_false (has r ss) (clashes r ss) x, or_right_false (has r ss) (clashes r ss) x, f, e) refl
 
 taken_put : (r s : Step) (t : Tree) (ks : Kids) → taken r (steps_of ks) ≡ false → same r s ≡ false → renames r s ≡ false → taken r (steps_of (put s t ks)) ≡ false
-unfolding sight if◌then◌else◌
+unfolding sight when◌then◌else◌
 taken_put r s t ks x e f =
     cases (has s (steps_of ks)) (λ g. rw (steps_put s t ks, g) x) (λ g. rw (steps_put s t ks, g) (taken_snoc r s (steps_of ks) x e f))
 
 module _ (S : List Step → Type 0) where
   held_kid : (s : Step) (ks : Kids) → HeldIn S ks → Held (Below s S) (kid_at s ks)
-  unfolding Held kid_at if◌then◌else◌
+  unfolding Held kid_at when◌then◌else◌
   held_kid s no_kids h = tt
   held_kid s (kid r n t ks) h = cases (same s r) (λ e. rw (e, same_true s r e) h.2) (λ e. rw e (held_kid s ks h.3))
 
   held_put : (s : Step) (t : Tree) (ks : Kids) → S (s ∷ []) → clashes s (steps_of ks) ≡ false → Held (Below s S) t → HeldIn S ks → HeldIn S (put s t ks)
-  unfolding Held put steps_of clashes has if◌then◌else◌
+  unfolding Held put steps_of clashes has when◌then◌else◌
   held_put s t no_kids i c h k = (i, refl, h, tt)
   held_put s t (kid r n u ks) i c h k =
       cases (same s r)

@@ -8,7 +8,7 @@ use mathlib.Core.List.{List, ◌∷◌, Permᴰ}
 use Rattle.std.proofs.Math.Option.{Option, none, some}
 use Rattle.std.proofs.Math.Dec.{eqb}
 use borrow.Author.Tests.{eqb-true, eqb-false, eq-eqb, ne_eqb, leb-false, lt-leb, ltb-true}
-use Rattle.logic.specs.Test.{if◌then◌else◌}
+use Rattle.logic.specs.Test.{when◌then◌else◌}
 use Rattle.logic.specs.laws.Test.{cases, both, neither}
 use Rattle.logic.specs.laws.Flag.{if_either}
 use Rattle.logic.specs.All.{All}
@@ -77,7 +77,7 @@ pub type_below : (o k : ℕ) → type_fits o k ≡ true → k < dictionary_utf8
 type_below o k f = ltb-true k dictionary_utf8 (and_left (ltb k dictionary_utf8) _ f)
 
 pub fits_joint : (o k : ℕ) → type_fits o k ≡ true → Fits o k
-unfolding fitting if◌then◌else◌
+unfolding fitting when◌then◌else◌
 fits_joint o k f =
     let r = and_right (ltb k dictionary_utf8) _ f in
     rw (and_left (ltb k dictionary_utf8) _ f) (cases (is_string k) (λ e. rw e (rw e at r)) (λ e. rw e))
@@ -85,11 +85,11 @@ fits_joint o k f =
 -- ---- two kinds
 module _ (o : ℕ) where
   together_null : (k : ℕ) → together o k null ≡ some k
-  unfolding together if◌then◌else◌
+  unfolding together when◌then◌else◌
   together_null k = cases (is_container k) (λ e. rw e) (λ e. rw e (joint_null o k))
 
   null_together : (k : ℕ) → together o null k ≡ some k
-  unfolding together if◌then◌else◌
+  unfolding together when◌then◌else◌
   null_together k =
       cases (is_container k)
       (λ e. rw e (cases (eqb k null) (λ f. rw (f, eqb-true k null f)) (λ f. rw f)))
@@ -106,12 +106,12 @@ module _ (o : ℕ) where
       (if_either (OnSome P) (same_container k h) pk tt))))
 
   together_types : (k h : ℕ) → (is_container k || is_container h) ≡ false → together o k h ≡ joint o k h
-  unfolding together if◌then◌else◌
+  unfolding together when◌then◌else◌
   together_types k h e = rw e
 
 module _ (o mode : ℕ) where
   string_suits : Suits o mode (string_type o)
-  unfolding if◌then◌else◌
+  unfolding when◌then◌else◌
   string_suits = cases (string_as_large_utf8 o) (λ e. record { fits = rw e; moded = rw e (λ z. absurd (false≢true z)) }) (λ e. record { fits = rw e; moded = rw e (λ z. absurd (false≢true z)) })
 
   -- a kind that fits and is no struct
@@ -119,11 +119,11 @@ module _ (o mode : ℕ) where
   other_suits k f n = record { fits = f; moded = λ s. absurd (true≢false (sym s ∙ n)) }
 
   pub null_suits : Suits o mode null
-  unfolding if◌then◌else◌
+  unfolding when◌then◌else◌
   null_suits = other_suits null refl refl
 
   together_suits : (k h u : ℕ) → Suits o mode k → Suits o mode h → together o k h ≡ some u → Suits o mode u
-  unfolding if◌then◌else◌
+  unfolding when◌then◌else◌
   together_suits k h u a b e =
       together_among o (Suits o mode) k h u a b (other_suits float64 refl refl) (other_suits int64 refl refl) (other_suits uint64 refl refl) string_suits e
 
@@ -135,8 +135,8 @@ module _ (o mode : ℕ) where
 
   -- where one of them is a container and neither is Null, they are the same or do not go together
   met : (k h : ℕ) → Suits o mode k → Suits o mode h → (is_container k || is_container h) ≡ true → eqb k null ≡ false → eqb h null ≡ false
-      → together o k h ≡ (if eqb k h then some k else none)
-  unfolding together if◌then◌else◌
+      → together o k h ≡ (when eqb k h then some k else none)
+  unfolding together when◌then◌else◌
   met k h a b c n m = rw (together, c, n, m, same_is k h a b)
 
 -- ---- three kinds: two that meet a third may change places
@@ -156,14 +156,14 @@ module _ (o : ℕ) (off : allow_to_string o ≡ false) (mode : ℕ) where
       lt-leb sequence_kind u (omega arith)
 
   joint_not_null : (k h u : ℕ) → eqb k null ≡ false → eqb h null ≡ false → joint o k h ≡ some u → eqb u null ≡ false
-  unfolding if◌then◌else◌
+  unfolding when◌then◌else◌
   joint_not_null k h u n m e =
       joint_among (λ t. eqb t null ≡ false) o k h u n m refl refl refl (cases (string_as_large_utf8 o) (λ q. rw q) (λ q. rw q)) e
 
   -- with a container among three kinds that are not Null, all are the same or they do not go together
   three : (t a b : ℕ) → Ok t → Ok a → Ok b → eqb t null ≡ false → eqb a null ≡ false → eqb b null ≡ false → ((is_container t || is_container a) || is_container b) ≡ true
-      → onward (together o t a) (λ u. together o u b) ≡ (if eqb t a && eqb t b then some t else none)
-  unfolding if◌then◌else◌
+      → onward (together o t a) (λ u. together o u b) ≡ (when eqb t a && eqb t b then some t else none)
+  unfolding when◌then◌else◌
   three t a b x y z n m l c =
       cases (is_container t || is_container a)
       (λ d. rw (met o mode t a x y d n m) (
@@ -188,7 +188,7 @@ module _ (o : ℕ) (off : allow_to_string o ≡ false) (mode : ℕ) where
       apart k h e f = cases (eqb k h) (λ q. let g : is_container h ≡ false = rw (eqb-true k h q) at e in absurd (false≢true (sym g ∙ f))) (λ q. q)
 
   together_swap : (t a b : ℕ) → Ok t → Ok a → Ok b → onward (together o t a) (λ u. together o u b) ≡ onward (together o t b) (λ u. together o u a)
-  unfolding and_then if◌then◌else◌
+  unfolding and_then when◌then◌else◌
   together_swap t a b x y z =
       cases (eqb a null) (λ n. rw (eqb-true a null n, together_null o t) (sym (onward_keeps (together o t b) _ (together_null o)))) λ n.
       cases (eqb b null) (λ m. rw (eqb-true b null m, together_null o t) (onward_keeps (together o t a) _ (together_null o))) λ m.
@@ -196,7 +196,7 @@ module _ (o : ℕ) (off : allow_to_string o ≡ false) (mode : ℕ) where
       cases ((is_container t || is_container a) || is_container b)
       (λ c.
       let d : ((is_container t || is_container b) || is_container a) ≡ true = sym (or_last (is_container t) (is_container a) (is_container b)) ∙ c in
-      three t a b x y z l n m c ∙ ap (λ (q : Bool). if q then some t else none) (and_comm (eqb t a) (eqb t b)) ∙ sym (three t b a x z y l m n d))
+      three t a b x y z l n m c ∙ ap (λ (q : Bool). when q then some t else none) (and_comm (eqb t a) (eqb t b)) ∙ sym (three t b a x z y l m n d))
       (λ c.
       neither (is_container t || is_container a) (is_container b) c λ d g.
       neither (is_container t) (is_container a) d λ e f.

@@ -2,7 +2,7 @@
 use Rattle.std.specs.Prelude.{◌≡◌, refl, List, [], ◌∷◌, ◌++◌, true, ℕ, suc, ◌+◌, ◌≤◌, length}
 use Rattle.std.proofs.Common.{ap, sym, ◌∙◌, append_assoc, append-nil, arith, length-append}
 use Rattle.std.proofs.lemmas.Bool.{false≢true}
-use Rattle.logic.specs.Test.{if◌then◌else◌}
+use Rattle.logic.specs.Test.{when◌then◌else◌}
 use Rattle.logic.specs.laws.Test.{cases}
 use Rattle.refusal.specs.Number.{too_many_places}
 use Rattle.model.specs.Result.{accepted, refused}
@@ -18,7 +18,7 @@ use Rattle.equality.specs.laws.tracing.Bound.{bind_no, not_accepted, Other, elev
 
 -- ---- a tree has as many places more as commands needed
 need_new : (at : ℕ) (s : Step) (ks : Kids) → length (need at s ks) ≡ new s ks
-unfolding if◌then◌else◌
+unfolding when◌then◌else◌
 need_new at s ks = cases (has s (steps_of ks)) (λ e. rw e) (λ e. rw e)
 
 needed_sizes : (at : ℕ) (ss : List Step) (ks : Kids) → sizes (make_all ss ks) ≡ sizes ks + length (needed at ss ks)
@@ -34,7 +34,7 @@ needed_sizes at (s ∷ ss) ks =
     )
 
 mutual
-  unfolding see needs allowed if◌then◌else◌
+  unfolding see needs allowed when◌then◌else◌
 
   pub needs_size : (o d : ℕ) (v : Value) (t t' : Tree) → see o d v t ≡ accepted t' → size t' ≡ size t + length (needs o d v t)
   needs_size o d (cut n at) t t' e = not_accepted (sym e)
@@ -90,7 +90,7 @@ reaches_later n m p xs ys h r =
 -- a place that there is no room for
 reaches_need : (at : ℕ) (s : Step) (n : ℕ) (ks : Kids) (p : ℕ) (more : List ℕ) → n ≤ place_limit → room at s n ks ≡ refused too_many_places p
     → Reaches n p (need at s ks ++ more)
-unfolding if◌then◌else◌
+unfolding when◌then◌else◌
 reaches_need at s n ks p more h e = eleven_room at s n ks p e λ free there l q. rw (there, q) (reaches_now n p more (omega arith))
 
 reaches_made : (at : ℕ) (ss : List Step) (n : ℕ) (ks : Kids) (p : ℕ) → n ≤ place_limit → make at ss n ks ≡ refused too_many_places p
@@ -106,7 +106,7 @@ reaches_made at (s ∷ ss) n ks p h e =
     (reaches_made at ss m (put s (kid_at s ks) ks) p (l h) g))
 
 mutual
-  unfolding observe needs is_whole if◌then◌else◌
+  unfolding observe needs is_whole when◌then◌else◌
 
   reaches_value : (o d : ℕ) (v : Value) (n : ℕ) (t : Tree) (p : ℕ) → is_whole v ≡ true → n ≤ place_limit → observe o d v n t ≡ refused too_many_places p
       → Reaches n p (needs o d v t)
@@ -181,7 +181,7 @@ goes_on : (n m : ℕ) (xs ys : List ℕ) → n + length xs ≡ m → m + length 
 goes_on n m xs ys e h = omega (arith, length-append xs ys)
 
 mutual
-  unfolding observe needs is_whole if◌then◌else◌
+  unfolding observe needs is_whole when◌then◌else◌
 
   within_value : (o d : ℕ) (v : Value) (n : ℕ) (t : Tree) (m p : ℕ) → Other m → n ≤ place_limit → observe o d v n t ≡ refused m p → n + length (needs o d v t) ≤ place_limit
   within_value o d (cut n' at) n t m p x h e = omega arith

@@ -3,7 +3,7 @@ use Rattle.std.specs.Prelude.{◌≡◌, refl, List, [], ◌∷◌, ◌++◌, Bo
 use Rattle.std.proofs.Common.{ap, sym, ◌∙◌, arith, eqb-true}
 use Rattle.std.proofs.Math.Option.{Option, none, some}
 use Rattle.std.proofs.lemmas.Bool.{false≢true}
-use Rattle.logic.specs.Test.{if◌then◌else◌}
+use Rattle.logic.specs.Test.{when◌then◌else◌}
 use Rattle.logic.specs.laws.Test.{cases, both}
 use Rattle.datatype.specs.Codes.{null}
 use Rattle.refusal.specs.Number.{too_deep, mismatch, no_joint}
@@ -68,7 +68,7 @@ whole_append [] ws = refl
 whole_append (v ∷ vs) ws = rw (whole_append vs ws) (and_assoc (is_whole v) (all_whole vs) (all_whole ws))
 
 parts_proper : (o k n i : ℕ) (s : Step) (ps : Parts) → are_proper o k n i ps ≡ true → all_proper o (parts_at s ps) ≡ true
-unfolding is_proper all_proper parts_at if◌then◌else◌
+unfolding is_proper all_proper parts_at when◌then◌else◌
 parts_proper o k n i s no_parts p = refl
 parts_proper o k n i s (cut_off l at) p = refl
 parts_proper o k n i s (part at r v ps) p =
@@ -77,7 +77,7 @@ parts_proper o k n i s (part at r v ps) p =
     cases (same s r) (λ e. rw e (and_both (and_right (part_fits k i r) (is_proper o v) q) ih)) (λ e. rw e ih)
 
 parts_whole : (s : Step) (ps : Parts) → are_whole ps ≡ true → all_whole (parts_at s ps) ≡ true
-unfolding is_whole all_whole parts_at if◌then◌else◌
+unfolding is_whole all_whole parts_at when◌then◌else◌
 parts_whole s no_parts p = refl
 parts_whole s (cut_off l at) p = refl
 parts_whole s (part at r v ps) p =
@@ -129,11 +129,11 @@ has_snoc s r [] = or_false (same s r)
 has_snoc s r (q ∷ ss) = rw (has_snoc s r ss) (sym (or_assoc (same s q) (has s ss) (same s r)))
 
 pub has_sight : (s : Step) (ss : List Step) → has s (sight s ss) ≡ true
-unfolding sight if◌then◌else◌
+unfolding sight when◌then◌else◌
 has_sight s ss = cases (has s ss) (λ e. rw (e, e)) (λ e. rw e (rw (has_snoc, same_refl) (or_true (has s ss))))
 
 pub has_kept : (s r : Step) (ss : List Step) → has s ss ≡ true → has s (sight r ss) ≡ true
-unfolding sight if◌then◌else◌
+unfolding sight when◌then◌else◌
 has_kept s r ss h = cases (has r ss) (λ e. rw e h) (λ e. rw (e, has_snoc, h))
 
 pub has_sights : (s : Step) (rs ss : List Step) → has s ss ≡ true → has s (sights rs ss) ≡ true
@@ -143,7 +143,7 @@ has_sights s (r ∷ rs) ss h = has_sights s rs (sight r ss) (has_kept s r ss h)
 
 -- a step is there afterwards if it was, or was shown
 pub has_sight_is : (a s : Step) (ss : List Step) → has a (sight s ss) ≡ (has a ss || same a s)
-unfolding sight if◌then◌else◌
+unfolding sight when◌then◌else◌
 has_sight_is a s ss =
     cases (has s ss)
     (λ e. rw e (cases (same a s) (λ f. rw (f, same_true a s f, e)) (λ f. rw (f, or_false (has a ss)))))
@@ -156,7 +156,7 @@ has_sights_is a (r ∷ rs) ss = rw (has_sights_is a rs (sight r ss), has_sight_i
 
 -- steps that were seen are not seen for the first time again
 sight_again : (s : Step) (ss : List Step) → has s ss ≡ true → sight s ss ≡ ss
-unfolding sight if◌then◌else◌
+unfolding sight when◌then◌else◌
 sight_again s ss h = rw h
 
 pub sights_again : (rs ss : List Step) → sights rs (sights rs ss) ≡ sights rs ss
@@ -165,7 +165,7 @@ sights_again [] ss = refl
 sights_again (r ∷ rs) ss = ap (sights rs) (sight_again r (sights rs (sight r ss)) (has_sights r rs (sight r ss) (has_sight r ss))) ∙ sights_again rs (sight r ss)
 
 pub steps_put : (s : Step) (t : Tree) (ks : Kids) → steps_of (put s t ks) ≡ sight s (steps_of ks)
-unfolding steps_of put sight has if◌then◌else◌
+unfolding steps_of put sight has when◌then◌else◌
 steps_put s t no_kids = refl
 steps_put s t (kid r n u ks) =
     cases (same s r)
@@ -192,7 +192,7 @@ parts_steps o d (part at s v ps) ks ks' e =
 
 -- the parts of a tuple that was read whole are its positions
 tuple_steps : (o n i : ℕ) (ps : Parts) → are_whole ps ≡ true → are_proper o tuple_kind n i ps ≡ true → (m : ℕ) × (steps_in ps ≡ positions_from i m) × (i + m ≡ n)
-unfolding is_whole is_proper steps_in if◌then◌else◌
+unfolding is_whole is_proper steps_in when◌then◌else◌
 tuple_steps o n i no_parts w p = (0, refl, omega (arith, eqb-true i n p))
 tuple_steps o n i (cut_off l at) w p = absurd (false≢true w)
 tuple_steps o n i (part at (field name) v ps) w p = absurd (false≢true p)
@@ -217,7 +217,7 @@ tuple_again o n ps ss w p =
 -- so that a tuple makes them all at its own command says no more than its parts
 pub made_fixed : (o k n : ℕ) (ps : Parts) (before : ℕ) (ss : List Step) → are_whole ps ≡ true → are_proper o k n 0 ps ≡ true
     → sights (steps_in ps) (sights (made k n before) ss) ≡ sights (steps_in ps) (sights (fixed_steps k) ss)
-unfolding made fixed_steps sights if◌then◌else◌
+unfolding made fixed_steps sights when◌then◌else◌
 made_fixed o k n ps before ss w p =
     cases (eqb k sequence_kind) (λ e. rw e) (λ e.
     cases (eqb k map_kind) (λ f. rw (e, f)) (λ f.
@@ -250,15 +250,15 @@ all_steps o d (v ∷ vs) t t' e p =
 -- ---- how many containers held a step
 unfoldable pub held_at : Step → Kids → ℕ
 held_at s no_kids = 0
-held_at s (kid r held tree kids) = if same s r then held else held_at s kids
+held_at s (kid r held tree kids) = when same s r then held else held_at s kids
 
 held_put : (s r : Step) (t : Tree) (ks : Kids) → held_at s (put r t ks) ≡ held_at s ks
-unfolding held_at put if◌then◌else◌
+unfolding held_at put when◌then◌else◌
 held_put s r t no_kids = cases (same s r) (λ e. rw e) (λ e. rw e)
 held_put s r t (kid q n u ks) =
     cases (same r q)
     (λ e. rw e)
-    (λ e. rw e (ap (λ (m : ℕ). if same s q then n else m) (held_put s r t ks)))
+    (λ e. rw e (ap (λ (m : ℕ). when same s q then n else m) (held_put s r t ks)))
 
 held_make_all : (s : Step) (ss : List Step) (ks : Kids) → held_at s (make_all ss ks) ≡ held_at s ks
 unfolding make_all
@@ -284,7 +284,7 @@ holds_has s (part at r v ps) ss e =
     (λ q. holds_has s ps (sight r ss) (rw q at e))
 
 held_tally : (s : Step) (ps : Parts) (ks : Kids) → (holds s ps ≡ true → has s (steps_of ks) ≡ true) → held_at s (tally ps ks) ≡ held_at s ks + one (holds s ps)
-unfolding held_at tally steps_of has if◌then◌else◌
+unfolding held_at tally steps_of has when◌then◌else◌
 held_tally s ps no_kids h = cases (holds s ps) (λ e. absurd (false≢true (h e))) (λ e. rw e)
 held_tally s ps (kid r n t ks) h =
     cases (same s r)
@@ -310,10 +310,10 @@ all_held o d s (v ∷ vs) t t' e =
 -- ---- kinds that meet, apart from where
 unfoldable pub together : ℕ → ℕ → ℕ → Option ℕ
 together options kind other =
-    if not (is_container kind || is_container other) then joint options kind other
-    else if eqb other null then some kind
-    else if eqb kind null then some other
-    else if same_container kind other then some kind
+    when not (is_container kind || is_container other) then joint options kind other
+    else when eqb other null then some kind
+    else when eqb kind null then some other
+    else when same_container kind other then some kind
     else none
 
 -- one after another
@@ -331,8 +331,8 @@ is_deep depth kind = is_container kind && leb depth_limit depth
 
 -- meeting is being together, where it is not too deep
 meet_is : (o d at k h : ℕ) → meet o d at k h
-    ≡ (if is_deep d h then refused too_deep at else or_refused (if not (is_container k || is_container h) then no_joint else mismatch) at (together o k h))
-unfolding meet together if◌then◌else◌
+    ≡ (when is_deep d h then refused too_deep at else or_refused (when not (is_container k || is_container h) then no_joint else mismatch) at (together o k h))
+unfolding meet together when◌then◌else◌
 meet_is o d at k h =
     cases (is_deep d h) (λ e. rw e) (λ e.
     cases (not (is_container k || is_container h)) (λ f. rw (e, f)) (λ f.
@@ -345,16 +345,16 @@ given n at none a e = not_refused e
 given n at (some b) a e = cc
 
 pub meet_shallow : (o d at k h j : ℕ) → meet o d at k h ≡ accepted j → is_deep d h ≡ false
-unfolding if◌then◌else◌
+unfolding when◌then◌else◌
 meet_shallow o d at k h j e =
     cases (is_deep d h) (λ f. let q : refused too_deep at ≡ accepted j = rw f at (sym (meet_is o d at k h) ∙ e) in not_refused q) (λ f. f)
 
 pub meet_together : (o d at k h j : ℕ) → meet o d at k h ≡ accepted j → together o k h ≡ some j
-unfolding if◌then◌else◌
+unfolding when◌then◌else◌
 meet_together o d at k h j e = given _ at (together o k h) j (rw (meet_shallow o d at k h j e) at (sym (meet_is o d at k h) ∙ e))
 
 pub together_meet : (o d at k h j : ℕ) → is_deep d h ≡ false → together o k h ≡ some j → meet o d at k h ≡ accepted j
-unfolding if◌then◌else◌
+unfolding when◌then◌else◌
 together_meet o d at k h j e f = rw (meet_is, e, f)
 
 -- the kind that the kinds seen leave, one after another

@@ -2,7 +2,7 @@
 use Rattle.std.specs.Prelude.{◌≡◌, refl, Bool, true, false, ◌&&◌, List, [], ◌∷◌, ◌++◌, ℕ, suc, ◌+◌, ◌≤◌, ◌<◌, eqb, length}
 use Rattle.std.proofs.Common.{ap, sym, ◌∙◌, true≢false, arith, length-append, eqb-true, eq-eqb}
 use Rattle.std.proofs.lemmas.Bool.{false≢true, eqb-false}
-use Rattle.logic.specs.Test.{if◌then◌else◌}
+use Rattle.logic.specs.Test.{when◌then◌else◌}
 use Rattle.logic.specs.laws.Test.{cases, both, neither}
 use Rattle.model.specs.Kinds.{sequence_kind, map_kind, tuple_kind, union_kind, is_container, is_struct, Step, field, element, position, key, value, variant, same}
 use Rattle.model.specs.Reading.{Parts, no_parts, cut_off, part}
@@ -21,7 +21,7 @@ steps_fit k i (s ∷ ss) = step_fits k i s && steps_fit k (suc i) ss
 
 -- a step may stand anywhere, or is the only one with its number
 slot : {P : Type 0} (k i : ℕ) (s : Step) → step_fits k i s ≡ true → (((j : ℕ) → step_fits k j s ≡ true) → P) → (((r : Step) → step_fits k i r ≡ true → s ≡ r) → P) → P
-unfolding step_back if◌then◌else◌
+unfolding step_back when◌then◌else◌
 slot k i (field name) f anywhere alone = anywhere (λ j. f)
 slot k i element f anywhere alone = alone λ r g. rw (eqb-true k sequence_kind (and_left (eqb k sequence_kind) (eqb i 0) f)) at (step_back_lem k i r g)
 slot k i (position j) f anywhere alone =
@@ -79,13 +79,13 @@ snoc_fits k i s (r ∷ ss) g f =
 
 -- so steps that fit still fit with one more
 sight_fits : (k i : ℕ) (s : Step) (ss : List Step) → step_fits k i s ≡ true → i ≤ length ss → steps_fit k 0 ss ≡ true → steps_fit k 0 (sight s ss) ≡ true
-unfolding sight if◌then◌else◌
+unfolding sight when◌then◌else◌
 sight_fits k i s ss f l g =
     cases (has s ss) (λ e. rw e g)
     (λ e. rw e (snoc_fits k 0 s ss g (slot k i s f (λ anywhere. anywhere _) (λ alone. comes_next k i 0 s ss alone f g e (omega arith) (omega arith)))))
 
 longer : (s : Step) (ss : List Step) → length ss ≤ length (sight s ss)
-unfolding sight if◌then◌else◌
+unfolding sight when◌then◌else◌
 longer s ss = cases (has s ss) (λ e. rw e (omega arith)) (λ e. rw (e, length-append ss (s ∷ [])) (omega arith))
 
 -- ---- the parts of a value
@@ -163,7 +163,7 @@ seen_long s ss = some_there (sight s ss) (has_sight s ss)
     some_there (r ∷ rs) h = omega arith
 
 pub fixed_fit : (k : ℕ) (ss : List Step) → steps_fit k 0 ss ≡ true → steps_fit k 0 (sights (fixed_steps k) ss) ≡ true
-unfolding fixed_steps sights if◌then◌else◌
+unfolding fixed_steps sights when◌then◌else◌
 fixed_fit k ss g =
     cases (eqb k sequence_kind) (λ e. rw e (sight_fits k 0 element ss (and_both e refl) (omega arith) g)) λ e.
     cases (eqb k map_kind)
@@ -171,7 +171,7 @@ fixed_fit k ss g =
     (λ f. rw (e, f) g)
 
 pub room_first : (k : ℕ) (ss : List Step) → Room k 0 (sights (fixed_steps k) ss)
-unfolding fixed_steps sights if◌then◌else◌
+unfolding fixed_steps sights when◌then◌else◌
 room_first k ss (field name) h = omega arith
 room_first k ss element h = omega arith
 room_first k ss (position j) h = omega (arith, eqb-true j 0 (and_right (eqb k tuple_kind) (eqb j 0) h))
@@ -181,7 +181,7 @@ room_first k ss (variant number name) h = omega arith
 
 -- a value of no container shows no step
 nothing_fixed : (k : ℕ) (ss : List Step) → is_container k ≡ false → sights (fixed_steps k) ss ≡ ss
-unfolding fixed_steps sights if◌then◌else◌
+unfolding fixed_steps sights when◌then◌else◌
 nothing_fixed k ss c =
     cases (eqb k sequence_kind) (λ e. absurd (true≢false (ap is_container (sym (eqb-true k sequence_kind e)) ∙ c))) λ e.
     cases (eqb k map_kind) (λ f. absurd (true≢false (ap is_container (sym (eqb-true k map_kind f)) ∙ c))) (λ f. rw (e, f))

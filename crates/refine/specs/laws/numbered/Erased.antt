@@ -4,7 +4,7 @@ use Rattle.std.proofs.Common.{ap, sym, subst, ◌∙◌, true≢false, mod-eq_of
 use Rattle.std.proofs.Math.Path.{fun_ext}
 use Rattle.std.proofs.lemmas.Bool.{false≢true}
 use Rattle.std.proofs.Math.Nat.{add-zero}
-use Rattle.logic.specs.Test.{if◌then◌else◌}
+use Rattle.logic.specs.Test.{when◌then◌else◌}
 use Rattle.logic.specs.laws.Test.{cases, neither}
 use Rattle.model.specs.Result.{Result, accepted, refused, ◌>>=◌}
 use Rattle.model.specs.Kinds.{sequence_kind, map_kind, tuple_kind, is_container, Step, same}
@@ -85,7 +85,7 @@ mid_steps mnil = refl
 mid_steps (mcons {s = s} e f l d g i) = ap (λ (rs : List Step). s ∷ rs) (mid_steps i)
 
 mid_kid : {seen : Step → Bool} {N most : ℕ} (s : Step) {ks : Spots} {K : Kids} → Mid seen N most ks K → has s (steps_s ks) ≡ true → (kid_at s K ≡ erase (spot_at s ks)) × Marked most (spot_at s ks)
-unfolding steps_s has kid_at spot_at if◌then◌else◌
+unfolding steps_s has kid_at spot_at when◌then◌else◌
 mid_kid s mnil e = absurd (false≢true e)
 mid_kid s (mcons {s = r} {ks = ks} e f l d g i) a =
     cases (same s r) (λ q. rw q (refl, g)) (λ q. let a' : has s (steps_s ks) ≡ true = rw q at a in rw q (mid_kid s i a'))
@@ -109,17 +109,17 @@ add_has r s n no_spots = or_false (same r s)
 add_has r s n (child r' h x u ks) = ap (λ (b : Bool). same r r' || b) (add_has r s n ks) ∙ or_assoc (same r r') (has r (steps_s ks)) (same r s)
 
 put_steps : (s : Step) (N : ℕ) (v : Spot) (ks : Spots) → steps_s (put_s s N v ks) ≡ steps_s ks
-unfolding steps_s put_s if◌then◌else◌
+unfolding steps_s put_s when◌then◌else◌
 put_steps s N v no_spots = refl
 put_steps s N v (child r h x u ks) = cases (same s r) (λ q. rw q refl) (λ q. rw q (ap (λ (rs : List Step). r ∷ rs) (put_steps s N v ks)))
 
 -- past a child at another step
 kid_other : (s r : Step) → same s r ≡ false → (h : ℕ) (t : Tree) (K : Kids) → kid_at s (kid r h t K) ≡ kid_at s K
-unfolding kid_at if◌then◌else◌
+unfolding kid_at when◌then◌else◌
 kid_other s r e h t K = rw e refl
 
 put_other : (s r : Step) → same s r ≡ false → (t : Tree) (h : ℕ) (u : Tree) (K : Kids) → put s t (kid r h u K) ≡ kid r h u (put s t K)
-unfolding put if◌then◌else◌
+unfolding put when◌then◌else◌
 put_other s r e t h u K = rw e refl
 
 -- a place put back in its place
@@ -129,7 +129,7 @@ put_back s r e h t K = put_other s r e (kid_at s (kid r h t K)) h t K ∙ ap (λ
 -- a new child, which this sample has not seen
 mid_add : {seen : Step → Bool} {N most : ℕ} (s : Step) (n : ℕ) {ks : Spots} {K : Kids} → seen s ≡ false → 0 < N → has s (steps_s ks) ≡ false → Mid seen N most ks K
     → Mid seen N most (add_s s n ks) (put s (kid_at s K) K)
-unfolding steps_s has add_s kid_at put if◌then◌else◌
+unfolding steps_s has add_s kid_at put when◌then◌else◌
 mid_add {seen = seen} {N = N} s n w l a mnil =
     let e : ◌≡◌ {A = ℕ} 0 (0 + one (seen s)) = rw w refl in
     mcons {s = s} {x = 0} {u = new_spot n} e (ne_eqb 0 N (λ z. omega arith) ∙ sym w) (omega arith, l) refl (omega arith, tt) mnil
@@ -153,8 +153,8 @@ mid_away {seen = seen} s a (mcons {s = r} {g = g'} {ks = ks} e f l d g i) =
     mcons (e ∙ ap (λ (b : Bool). g' + one b) (sym w)) (f ∙ sym w) l d g (mid_away s q i)
 
 -- a child counted at first sight
-held_once : (h g x N : ℕ) (b : Bool) → g < N → N < 2 ^ 32 → eqb x N ≡ b → h ≡ g + one b → (if eqb x N then h else onward h) ≡ g + 1
-unfolding if◌then◌else◌
+held_once : (h g x N : ℕ) (b : Bool) → g < N → N < 2 ^ 32 → eqb x N ≡ b → h ≡ g + one b → (when eqb x N then h else onward h) ≡ g + 1
+unfolding when◌then◌else◌
 held_once h g x N true l m y z = rw y z
 held_once h g x N false l m y z =
     let e : h ≡ g = z ∙ add-zero g in
@@ -163,7 +163,7 @@ held_once h g x N false l m y z =
 
 mid_put : {seen : Step → Bool} {N most : ℕ} (s : Step) (v : Spot) {ks : Spots} {K : Kids} → N < 2 ^ 32 → has s (steps_s ks) ≡ true → Marked most v → Mid seen N most ks K
     → Mid (Seen seen s) N most (put_s s N v ks) (put s (erase v) K)
-unfolding steps_s has put_s put if◌then◌else◌
+unfolding steps_s has put_s put when◌then◌else◌
 mid_put s v m a gv mnil = absurd (false≢true a)
 mid_put {seen = seen} {N = N} s v m a gv (mcons {s = r} {h = h} {g = g'} {x = x} {u = u} {ks = ks} {K = K} e f l d g i) =
     cases (same s r)
@@ -179,17 +179,17 @@ mid_put {seen = seen} {N = N} s v m a gv (mcons {s = r} {h = h} {g = g'} {x = x}
 
 -- ---- the model's places below
 has_kid : (s : Step) (K : Kids) → has s (steps_of K) ≡ true → put s (kid_at s K) K ≡ K
-unfolding steps_of has put kid_at if◌then◌else◌
+unfolding steps_of has put kid_at when◌then◌else◌
 has_kid s no_kids e = absurd (false≢true e)
 has_kid s (kid r h t K) e = cases (same s r) (λ q. rw q refl) (λ q. let e' : has s (steps_of K) ≡ true = rw q at e in put_back s r q h t K ∙ ap (kid r h t) (has_kid s K e'))
 
 put_put : (s : Step) (t t' : Tree) (K : Kids) → put s t' (put s t K) ≡ put s t' K
-unfolding put if◌then◌else◌
+unfolding put when◌then◌else◌
 put_put s t t' no_kids = rw (same_refl s) refl
 put_put s t t' (kid r h u K) = cases (same s r) (λ q. rw q (rw q refl)) (λ q. rw q (rw q (ap (kid r h u) (put_put s t t' K))))
 
 kid_put : (s : Step) (t : Tree) (K : Kids) → kid_at s (put s t K) ≡ t
-unfolding put kid_at if◌then◌else◌
+unfolding put kid_at when◌then◌else◌
 kid_put s t no_kids = rw (same_refl s) refl
 kid_put s t (kid r h u K) = cases (same s r) (λ q. rw q (rw q refl)) (λ q. rw q (rw q (kid_put s t K)))
 
@@ -200,7 +200,7 @@ data Makes (seen : Step → Bool) (N most : ℕ) (s : Step) (K : Kids) : Result 
   made_not : {m b : ℕ} → Makes seen N most s K (refused m b) (refused m b)
 
 make_erase : (seen : Step → Bool) (N most : ℕ) (s : Step) (at n : ℕ) (ks : Spots) (K : Kids) → 0 < N → Mid seen N most ks K → Only seen ks → Makes seen N most s K (make_s at s n ks) (room at s n K)
-unfolding make_s room if◌then◌else◌
+unfolding make_s room when◌then◌else◌
 make_erase seen N most s at n ks K l i o =
     rw (mid_steps i) (cases (clashes s (steps_s ks))
     (λ c. rw c made_not)
@@ -238,7 +238,7 @@ tally_none no_kids = refl
 tally_none (kid s h t K) = rw (add-zero h, tally_none K) refl
 
 made_none : (k r j : ℕ) → is_container k ≡ false → made k r j ≡ []
-unfolding made if◌then◌else◌
+unfolding made when◌then◌else◌
 made_none k r j c =
     let i : k < sequence_kind = leb-false sequence_kind k c in
     rw (ne_eqb k sequence_kind (λ e. omega arith), ne_eqb k map_kind (λ e. omega arith), ne_eqb k tuple_kind (λ e. omega arith))
@@ -298,7 +298,7 @@ module _ (options depth N most all : ℕ) (N-small : N < 2 ^ 32) (at : ℕ) (s :
 
 -- `most` bounds the values so far, and `all` those with this one: below 2 ^ 32, so that no count wraps
 mutual
-  unfolding walk observe holds if◌then◌else◌
+  unfolding walk observe holds when◌then◌else◌
 
   walk_erase : (options depth most all : ℕ) (v : Value) (n : ℕ) (u : Spot) → Bare v → Marked most u → most + nodes v ≤ all → all < 2 ^ 32
       → Erases all (walk options depth v n u) (observe options depth v n (erase u))

@@ -4,7 +4,7 @@ use Rattle.std.proofs.Math.Path.{refl}
 use Rattle.std.proofs.Common.{ap, sym, ◌∙◌, true≢false, arith, eqb-true, eq-eqb, ne_eqb}
 use Rattle.std.proofs.Math.Bool.{or-false, or_assoc, true}
 use Rattle.std.proofs.lemmas.Bool.{false≢true}
-use Rattle.logic.specs.Test.{if◌then◌else◌}
+use Rattle.logic.specs.Test.{when◌then◌else◌}
 use Rattle.logic.specs.laws.Test.{cases}
 use Rattle.model.specs.Kinds.{Step, same}
 use Rattle.model.specs.Tracing.{has}
@@ -91,7 +91,7 @@ has_below q (spot p b k m ks) e = or_right (eqb q p) (within_in q ks) e
 
 -- the child that is found is below
 pub found : (q : ℕ) (s : Step) (ks : Spots) → has s (steps_s ks) ≡ true → within q (spot_at s ks) ≡ true → within_in q ks ≡ true
-unfolding has steps_s spot_at if◌then◌else◌
+unfolding has steps_s spot_at when◌then◌else◌
 found q s no_spots e a = absurd (false≢true e)
 found q s (child r h m u ks) e a =
     cases (same s r)
@@ -100,7 +100,7 @@ found q s (child r h m u ks) e a =
 
 -- a child in a good tree is good, and its number is above
 pub child_good : (n c : ℕ) (s : Step) (ks : Spots) → GoodIn n c ks → has s (steps_s ks) ≡ true → Good n (spot_at s ks) × (c < num (spot_at s ks))
-unfolding has steps_s spot_at if◌then◌else◌
+unfolding has steps_s spot_at when◌then◌else◌
 child_good n c s no_spots g e = absurd (false≢true e)
 child_good n c s (child r h m u ks) g e =
     cases (same s r)
@@ -139,14 +139,14 @@ add_among s n no_spots = rw (same_refl s) refl
 add_among s n (child r h m u ks) = or_right (same s r) _ (add_among s n ks)
 
 pub add_found : (s : Step) (n : ℕ) (ks : Spots) → has s (steps_s ks) ≡ false → spot_at s (add_s s n ks) ≡ new_spot n
-unfolding add_s has steps_s spot_at if◌then◌else◌
+unfolding add_s has steps_s spot_at when◌then◌else◌
 add_found s n no_spots e = rw (same_refl s) refl
 add_found s n (child r h m u ks) e = let d = both_false (same s r) (has s (steps_s ks)) e in rw d.0 (add_found s n ks d.1)
 
 -- a child that has grown
 module _ (n n' : ℕ) (s : Step) (N : ℕ) (v : Spot) (l : n ≤ n') (gv : Good n' v) where
   pub put_has : (q : ℕ) (ks : Spots) → has s (steps_s ks) ≡ true → within q v ≡ within q (spot_at s ks) → within_in q (put_s s N v ks) ≡ within_in q ks
-  unfolding put_s has steps_s spot_at if◌then◌else◌
+  unfolding put_s has steps_s spot_at when◌then◌else◌
   put_has q no_spots e w = refl
   put_has q (child r h m u ks) e w =
       cases (same s r)
@@ -154,12 +154,12 @@ module _ (n n' : ℕ) (s : Step) (N : ℕ) (v : Spot) (l : n ≤ n') (gv : Good 
       (λ d. let e' : has s (steps_s ks) ≡ true = rw d at e in let w' : within q v ≡ within q (spot_at s ks) = rw d at w in rw d (ap (λ (x : Bool). within q u || x) (put_has q ks e' w')))
 
   put_near : (r : Step) (ks : Spots) → near_in r (put_s s N v ks) ≡ near_in r ks
-  unfolding put_s near_in if◌then◌else◌
+  unfolding put_s near_in when◌then◌else◌
   put_near r no_spots = refl
   put_near r (child q h m u ks) = cases (same s q) (λ d. rw d) (λ d. rw (d, put_near r ks))
 
   pub put_good : (c : ℕ) (ks : Spots) → GoodIn n c ks → has s (steps_s ks) ≡ true → num v ≡ num (spot_at s ks) → ((q : ℕ) → q < n → within q v ≡ within q (spot_at s ks)) → GoodIn n' c (put_s s N v ks)
-  unfolding put_s has steps_s spot_at if◌then◌else◌
+  unfolding put_s has steps_s spot_at when◌then◌else◌
   put_good c no_spots g e w k = tt
   put_good c (child r h m u ks) g e w k =
       cases (same s r)

@@ -1,7 +1,7 @@
 -- The tree with its places' numbers and marks, and the same walk over it as the model's: what stands between the words of the table and the
 -- model's tree.
 use Rattle.std.specs.Prelude.{Bool, false, ◌||◌, List, [], ◌∷◌, ℕ, ◌+◌, eqb, ltb}
-use Rattle.logic.specs.Test.{if◌then◌else◌}
+use Rattle.logic.specs.Test.{when◌then◌else◌}
 use Rattle.datatype.specs.Codes.{null}
 use Rattle.refusal.specs.Number.{two_names, too_many_places}
 use Rattle.model.specs.Result.{Result, refused, ◌>>=◌}
@@ -43,12 +43,12 @@ new_spot n = spot n false null 0 no_spots
 
 unfoldable pub spot_at : Step → Spots → Spot
 spot_at s no_spots = new_spot 0
-spot_at s (child r h m u ks) = if same s r then u else spot_at s ks
+spot_at s (child r h m u ks) = when same s r then u else spot_at s ks
 
 -- a child counted once in a sample, and then changed
 unfoldable pub put_s : Step → ℕ → Spot → Spots → Spots
 put_s s sample v no_spots = no_spots
-put_s s sample v (child r h m u ks) = if same s r then child r (if eqb m sample then h else onward h) sample v ks else child r h m u (put_s s sample v ks)
+put_s s sample v (child r h m u ks) = when same s r then child r (when eqb m sample then h else onward h) sample v ks else child r h m u (put_s s sample v ks)
 
 unfoldable pub add_s : Step → ℕ → Spots → Spots
 add_s s n no_spots = child s 0 0 (new_spot n) no_spots
@@ -56,9 +56,9 @@ add_s s n (child r h m u ks) = child r h m u (add_s s n ks)
 
 unfoldable pub make_s : ℕ → Step → ℕ → Spots → Result (Counted Spots)
 make_s at s n ks =
-    if clashes s (steps_s ks) then refused two_names at
-    else if has s (steps_s ks) then counted n ks
-    else if ltb n place_limit then counted (n + 1) (add_s s n ks)
+    when clashes s (steps_s ks) then refused two_names at
+    else when has s (steps_s ks) then counted n ks
+    else when ltb n place_limit then counted (n + 1) (add_s s n ks)
     else refused too_many_places at
 
 unfoldable pub make_all_s : ℕ → List Step → ℕ → Spots → Result (Counted Spots)
@@ -67,7 +67,7 @@ make_all_s at (s ∷ ss) n ks = make_s at s n ks >>= λ r. make_all_s at ss r.pl
 
 -- the number of the sample that a value is, where it is a container
 abbrev pub sample_of : ℕ → ℕ → ℕ
-sample_of kind samples = if is_container kind then onward samples else samples
+sample_of kind samples = when is_container kind then onward samples else samples
 
 unfoldable mutual
   pub walk : ℕ → ℕ → Value → ℕ → Spot → Result (Counted Spot)

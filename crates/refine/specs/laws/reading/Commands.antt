@@ -6,7 +6,7 @@ use Rattle.std.proofs.Math.Option.{Option, none, some}
 use Rattle.std.proofs.Math.Dec.{eqb}
 use Rattle.std.proofs.Math.ListN.{get_or-map}
 use borrow.Author.Tests.{eqb-true, leb-true, not-false}
-use Rattle.logic.specs.Test.{if◌then◌else◌}
+use Rattle.logic.specs.Test.{when◌then◌else◌}
 use Rattle.logic.specs.laws.Test.{cases, both}
 use Rattle.datatype.specs.Codes.{null}
 use Rattle.options.specs.Word.{map_as_struct, string_as_large_utf8, bytes_as_large_binary, guess_dates, string_type, binary_type}
@@ -47,8 +47,8 @@ use Rattle.refine.specs.laws.reading.Steps.{Stands}
 use Rattle.commands.specs.Bytes.{Bytes}
 
 -- what holds of two choices by one test
-pub choices : {A B : Type 0} (R : A → B → Type 0) (t : Bool) {a b : A} {c d : B} → R a c → R b d → R (if t then a else b) (if t then c else d)
-unfolding if◌then◌else◌
+pub choices : {A B : Type 0} (R : A → B → Type 0) (t : Bool) {a b : A} {c d : B} → R a c → R b d → R (when t then a else b) (when t then c else d)
+unfolding when◌then◌else◌
 choices R true p q = p
 choices R false p q = q
 
@@ -144,7 +144,7 @@ module _ (commands text : List ℕ) (bytes : Bytes commands) (at : ℕ) where
 
   name_says : (due : Due) → ((c : Command) (b : ℕ) → read_command commands text at due ≡ R.Command c b → eqb (get_or commands at 0) end_byte ≡ false → NameGood text (some (name_at commands (at + 1))))
       → Says text (field_part commands at (read_command commands text at due)) (field_next commands text at (read_command commands text at due))
-  unfolding if◌then◌else◌
+  unfolding when◌then◌else◌
   name_says due k =
       read_cases (read_command commands text at due)
       (λ c b e. rw e (cases (eqb (get_or commands at 0) end_byte) (λ n. rw n says_end) (λ n. rw n (says_step (field_stands text (name_at commands (at + 1)) (k c b e n))))))
@@ -175,11 +175,11 @@ pub data Shapes (text : List ℕ) : FlatShape.Shape → Shape → Type 0 where
   nothing : Shapes text H.NoValue no_value
 
 string_plain : (options : ℕ) → is_container (string_type options) ≡ false
-unfolding if◌then◌else◌
+unfolding when◌then◌else◌
 string_plain options = cases (string_as_large_utf8 options) (λ e. rw e) (λ e. rw e)
 
 binary_plain : (options : ℕ) → is_container (binary_type options) ≡ false
-unfolding if◌then◌else◌
+unfolding when◌then◌else◌
 binary_plain options = cases (bytes_as_large_binary options) (λ e. rw e) (λ e. rw e)
 
 text_plain : (options : ℕ) (s : List ℕ) → is_container (text_type options s) ≡ false
@@ -196,7 +196,7 @@ text_plain options s =
 -- all but 10 and 11, which begin no value of their own
 pub shape_says : (options : ℕ) (text : List ℕ) (c : Command) → NameGood text (name_of c) → (byte_of c ≡ some_byte → ⊥) → (byte_of c ≡ newtype_byte → ⊥) →
     Shapes text (shape_at options text c) (shape_of options text c)
-unfolding shape_at shape_of if◌then◌else◌
+unfolding shape_at shape_of when◌then◌else◌
 shape_says options text C.Unit g x y = leaves refl
 shape_says options text C.Bool g x y = leaves refl
 shape_says options text C.I8 g x y = leaves refl

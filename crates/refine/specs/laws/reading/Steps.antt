@@ -2,7 +2,7 @@
 use Rattle.std.specs.Prelude.{◌≡◌, refl, Bool, true, false, not, ◌&&◌, List, [], ◌-◌, ℕ, ◌+◌, ◌*◌, ◌/◌, ◌%◌, ◌<◌, eqb, leb}
 use Rattle.std.proofs.Common.{sym, ap, ap₂, ◌∙◌, true≢false, arith, eqb-true, eq-eqb, ne_eqb, le-leb}
 use Rattle.std.proofs.lemmas.Bool.{false≢true, eqb-false}
-use Rattle.logic.specs.Test.{if◌then◌else◌}
+use Rattle.logic.specs.Test.{when◌then◌else◌}
 use Rattle.logic.specs.laws.Test.{cases, both, same_test}
 use Rattle.text.specs.declared.Name.{Name}
 use Rattle.text.specs.Name.{bytes_of, eq_name, dots}
@@ -45,7 +45,7 @@ near s r = eqb (step_code_of s) (step_code_of r) && eq_name (name_sought s) (nam
 
 -- ---- a step is its code and its name
 pub step_back_lem : (s : Step) → step_by (step_code_of s) (name_in s) ≡ s
-unfolding step_by if◌then◌else◌
+unfolding step_by when◌then◌else◌
 step_back_lem (field name) = refl
 step_back_lem element = refl
 step_back_lem (position i) =
@@ -196,8 +196,8 @@ dots_of_lem value = refl
 dots_of_lem (variant k name) = refl
 
 -- the flat search's test
-pub test_is : (s r : Step) → (if eqb (step_code_of r) (step_code_of s) then (if eqb (step_code_of s) field_code then eq_name (name_in r) (name_in s) else true) else false) ≡ near s r
-unfolding if◌then◌else◌ near
+pub test_is : (s r : Step) → (when eqb (step_code_of r) (step_code_of s) then (when eqb (step_code_of s) field_code then eq_name (name_in r) (name_in s) else true) else false) ≡ near s r
+unfolding when◌then◌else◌ near
 test_is s r =
     cases (eqb (step_code_of r) (step_code_of s))
     (λ e.

@@ -2,7 +2,7 @@
 use Rattle.std.specs.Prelude.{◌≡◌, refl, List, [], ℕ, zero, suc, ◌+◌, ◌≤◌, length, ltb}
 use Rattle.std.proofs.Common.{◌∙◌, add-one, arith, le-ltb}
 use Rattle.std.proofs.Math.Option.{Option, none, some}
-use Rattle.logic.specs.Test.{if◌then◌else◌}
+use Rattle.logic.specs.Test.{when◌then◌else◌}
 use Rattle.logic.specs.laws.Test.{cases}
 use Rattle.logic.specs.Turns.{turns, after}
 use Rattle.refusal.specs.declared.Refusal.{Refusal}
@@ -34,7 +34,7 @@ pub data Ends (text : List ℕ) : Result (Counted Spot) → Out → Type 0 where
 
 batch_sim : (options : ℕ) (commands text : List ℕ) → Bytes commands → (f at n : ℕ) (t : List ℕ) (u : Spot) → at ≤ length commands → length commands ≤ at + f → num u ≡ 0 → Fits text t n u
     → Ends text (walk_all options (records_from f options commands text at) n u) (turns (record_turn commands text options) record_stop (suc f) (state 0 at n t))
-unfolding turns after record_turn records_from walk_all if◌then◌else◌
+unfolding turns after record_turn records_from walk_all when◌then◌else◌
 batch_sim options commands text bytes zero at n t u y e z h =
     let l : length commands ≤ at = omega arith in
     rw (le-ltb at (length commands) l) (ends z h)

@@ -8,7 +8,7 @@ use Prim.Native.Nat.{ℕ, zero, suc, ◌+◌, ◌<◌, ◌≤◌}
 use Rattle.std.proofs.Math.ListN.{get_or}
 use Rattle.std.proofs.lemmas.List.{get_or-replicate, length-replicate}
 use borrow.Author.Tests.{eqb-true, eqb-false, ne_eqb}
-use Rattle.logic.specs.Test.{if◌then◌else◌}
+use Rattle.logic.specs.Test.{when◌then◌else◌}
 use Rattle.logic.specs.laws.Test.{cases}
 use Rattle.logic.specs.Turns.{turns, after}
 use Rattle.text.specs.declared.Name.{Name}
@@ -66,13 +66,13 @@ module _ (text t : List ℕ) (f : Flat.Step) (s : Step) (st : Stands text f s) w
       rw (w, v, c.says, st.code, st.bytes) (test_is s r)
 
   further : (r : Step) (h m : ℕ) (u : Spot) (ks : Spots) (c : ℕ) → near s r ≡ false → Sought text t s ks c → Sought text t s (child r h m u ks) c
-  unfolding near_in has clashes steps_s spot_at if◌then◌else◌
+  unfolding near_in has clashes steps_s spot_at when◌then◌else◌
   further r h m u ks c e (absent z a) = absent z (rw e a)
   further r h m u ks c e (present z a b d) = present (rw (far_same s r e) z) (rw (far_same s r e) a) (rw (far_renames s r e) b) d
   further r h m u ks c e (another z a b) = another z (rw (far_renames s r e) a) b
 
   here : (n x p : ℕ) (r : Step) (h m : ℕ) (u : Spot) (ks : Spots) → (num u ≡ 0 → ⊥) → near_in r ks ≡ false → Cell text t (num u) x p r h m → near s r ≡ true → Sought text t s (child r h m u ks) (num u)
-  unfolding near_in has clashes steps_s spot_at if◌then◌else◌
+  unfolding near_in has clashes steps_s spot_at when◌then◌else◌
   here n x p r h m u ks z a c e =
       let v : word t (num u) name_word ≡ c.name = c.row 3 (omega arith) in
       let w : bytes_at text t (num u) ≡ name_in r = rw v c.says in
@@ -82,7 +82,7 @@ module _ (text t : List ℕ) (f : Flat.Step) (s : Step) (st : Stands text f s) w
 
   seek : (n p c g : ℕ) (ks : Spots) → n ≤ place_limit → place_limit < c + g → GoodIn n c ks → RepIn text t p ks
       → Sought text t s ks (turns (find_turn text (code_of f) (name_of f) t) (λ c. 0) g (first_of ks))
-  unfolding turns after find_turn near_in if◌then◌else◌
+  unfolding turns after find_turn near_in when◌then◌else◌
   seek n p c zero no_spots z l d r = absent refl refl
   seek n p c (suc g) no_spots z l d r = absent refl refl
   seek n p c zero (child q h m u ks) z l d r = absurd (let b = bounded n (num u) u d.1 (self u) in omega (arith, d.0))
@@ -101,7 +101,7 @@ module _ (text t : List ℕ) (f : Flat.Step) (s : Step) (st : Stands text f s) w
       rw x (seek n p p turn_limit ks h.most (omega arith) h.good.2 h.rep.1)
 
   pub picked : (n p c : ℕ) (ks : Spots) → GoodIn n c ks → RepIn text t p ks → near_in s ks ≡ true → Picked text t s ks
-  unfolding near_in has steps_s spot_at if◌then◌else◌
+  unfolding near_in has steps_s spot_at when◌then◌else◌
   picked n p c no_spots g r e = absurd (false≢true e)
   picked n p c (child q h m u ks) g r e =
       cases (near s q)
@@ -138,7 +138,7 @@ still_has r s n no_spots e = absurd (false≢true e)
 still_has r s n (child q h m u ks) e = or_cases (same r q) (has r (steps_s ks)) e (λ a. or_left (same r q) _ a) (λ a. or_right (same r q) _ (still_has r s n ks a))
 
 pub still_at : (r s : Step) (n : ℕ) (ks : Spots) → has r (steps_s ks) ≡ true → spot_at r (add_s s n ks) ≡ spot_at r ks
-unfolding add_s has steps_s spot_at if◌then◌else◌
+unfolding add_s has steps_s spot_at when◌then◌else◌
 still_at r s n no_spots e = absurd (false≢true e)
 still_at r s n (child q h m u ks) e = cases (same r q) (λ d. rw d refl) (λ d. let e' : has r (steps_s ks) ≡ true = rw d at e in rw d (still_at r s n ks e'))
 
@@ -194,7 +194,7 @@ row_other t p base q f v xs n r g l = word_other t q f v p (base + g) (n g l) �
 
 -- the link to the new child
 abbrev joined : ℕ → ℕ → List ℕ → List ℕ
-joined p n t = if eqb (word t p first_word) 0 then with_word t p first_word n else with_word t (word t p last_word) next_word n
+joined p n t = when eqb (word t p first_word) 0 then with_word t p first_word n else with_word t (word t p last_word) next_word n
 
 record Linked (t t₀ : List ℕ) (n p : ℕ) (s : Step) (b : Bool) (k m : ℕ) (ks : Spots) : Type 0 where
   size : length t₀ ≡ length t
@@ -203,7 +203,7 @@ record Linked (t t₀ : List ℕ) (n p : ℕ) (s : Step) (b : Bool) (k m : ℕ) 
   rest : (q f : ℕ) → f < place_words → (q ≡ p → f ≡ first_word → ⊥) → (within_in q ks ≡ true → q ≡ last_from 0 ks → f ≡ next_word → ⊥) → word t₀ q f ≡ word t q f
 
 linked_is : (text t : List ℕ) (n p : ℕ) (s : Step) (b : Bool) (k m : ℕ) (ks : Spots) → Fits text t n (spot p b k m ks) → Linked t (joined p n t) n p s b k m ks
-unfolding add_s if◌then◌else◌
+unfolding add_s when◌then◌else◌
 linked_is text t n p s b k m no_spots h =
     let short : n < link_limit = omega (arith, h.most) in
     let e : word t p first_word ≡ 0 = h.rep.0 3 (omega arith) in

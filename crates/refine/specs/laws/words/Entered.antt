@@ -4,7 +4,7 @@ use Rattle.std.proofs.Math.Path.{refl}
 use Rattle.std.proofs.Common.{ap, sym, subst, ◌∙◌, arith, eqb-true, eq-eqb, lt-ltb, ltb-true, ltb-false}
 use Rattle.std.proofs.Math.Bool.{or-false, or_assoc}
 use Rattle.std.proofs.lemmas.Bool.{false≢true, eqb-false}
-use Rattle.logic.specs.Test.{if◌then◌else◌}
+use Rattle.logic.specs.Test.{when◌then◌else◌}
 use Rattle.logic.specs.laws.Test.{cases}
 use Rattle.text.specs.Name.{bytes_of}
 use Rattle.text.specs.Tag.{tag_of}
@@ -29,12 +29,12 @@ use Rattle.refine.specs.laws.words.Child.{far_has, Sought, absent, picked, still
 -- ---- links
 -- a link that stands in the table
 full_follow : (t : List ℕ) (q f n v : ℕ) → word t q f ≡ v → q < v → v < n → follow q f n t ≡ v
-unfolding follow if◌then◌else◌
+unfolding follow when◌then◌else◌
 full_follow t q f n v e l i = rw (e, lt-ltb q v l, lt-ltb v n i)
 
 -- links to places below n are those that a search with n places follows
 narrow_follow : (t : List ℕ) (q f n m : ℕ) → n ≤ m → ((follow q f m t ≡ 0 → ⊥) → follow q f m t < n) → follow q f n t ≡ follow q f m t
-unfolding follow if◌then◌else◌
+unfolding follow when◌then◌else◌
 narrow_follow t q f n m l k =
     let w : ℕ = word t q f in
     cases (ltb q w)
@@ -235,7 +235,7 @@ module _ (text t : List ℕ) (n p : ℕ) (b : Bool) (k m : ℕ) (ks : Spots) (h 
     t₅ = with_word t₄ end.place end.field n
 
     entered_is : entered p (step_code_of s) n t₄ ≡ t₅
-    unfolding entered if◌then◌else◌
+    unfolding entered when◌then◌else◌
     entered_is = rw (lt-ltb field_code (step_code_of s) numbered, same_end) refl
 
     elsewhere : (q f : ℕ) → f < place_words → (q ≡ end.place → f ≡ end.field → ⊥) → word t₅ q f ≡ word t₄ q f
@@ -369,7 +369,7 @@ grown_tag text t n p b k m ks s t' g at v h =
 
 pub make_after : (text t : List ℕ) (n p : ℕ) (x : Flat.Step) (s : Step) (b : Bool) (k m : ℕ) (ks : Spots) → Stands text x s → near_in s ks ≡ false → Fits text t n (spot p b k m ks) → n < place_limit
     → After text t n (spot p b k m ks) (entered p (code_of x) n (tagged text (name_of x) (position_in p t) n (appended p (code_of x) (name_of x) n t))) (n + 1) (spot p b k m (add_s s n ks))
-unfolding entered tagged if◌then◌else◌
+unfolding entered tagged when◌then◌else◌
 make_after text t n p x s b k m ks st far h room =
     let t₄ : List ℕ = tagged text (name_of x) (position_in p t) n (appended p (code_of x) (name_of x) n t) in
     let t₂ : List ℕ = appended p (code_of x) (name_of x) n t in

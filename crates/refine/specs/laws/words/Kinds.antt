@@ -2,7 +2,7 @@
 use Rattle.std.specs.Prelude.{◌≡◌, refl, true, not, ◌||◌, ◌&&◌, ◌-◌, ℕ, ◌≤◌, eqb, leb}
 use Rattle.std.proofs.Math.Option.{Option, none, some}
 use Rattle.std.proofs.Common.{arith, eqb-true, eq-eqb, leb-true, le-leb}
-use Rattle.logic.specs.Test.{if◌then◌else◌}
+use Rattle.logic.specs.Test.{when◌then◌else◌}
 use Rattle.logic.specs.laws.Test.{same_test}
 use Rattle.datatype.specs.Codes.{null}
 use Rattle.refusal.specs.declared.Refusal.TheVariants as F
@@ -44,5 +44,5 @@ meets options depth levels at kind other e =
 
 -- a container that meets its place has a level left
 pub met_level : (options levels kind other j : ℕ) → is_container other ≡ true → meeting options levels kind other ≡ M.Kind j → levels ≡ 0 → ⊥
-unfolding meeting if◌then◌else◌
+unfolding meeting when◌then◌else◌
 met_level options levels kind other j c e z = let w : M.Refused F.TooDeep ≡ M.Kind j = rw (c, eq-eqb levels 0 z) at e in let y : ◌≡◌ {A = ℕ} 0 1 = cc in omega arith

@@ -3,14 +3,13 @@ use Rattle.std.specs.Prelude.{◌≡◌, Bool, true, ◌&&◌, ltb}
 use Rattle.std.proofs.Math.Path.{refl, ap, subst}
 use Rattle.std.proofs.Common.{sym, ◌∙◌, le_refl}
 use mathlib.Core.List.{List, [], ◌∷◌}
-use Rattle.std.proofs.Math.Option.{none}
 use Rattle.std.proofs.Math.Bool.{false}
 use Rattle.std.proofs.lemmas.Bool.{false≢true}
 use Prim.Native.Nat.{ℕ, zero, suc, ◌+◌, ◌*◌, ◌<◌, ◌≤◌}
 use native.Mathlib.Omega.{arith}
 use Rattle.std.proofs.Math.Dec.{eqb}
 use borrow.Author.Tests.{eqb-true, eqb-false, ne_eqb, ltb-true, ltb-false, le-leb, lt-leb}
-use Rattle.logic.specs.Test.{if◌then◌else◌}
+use Rattle.logic.specs.Test.{when◌then◌else◌}
 use Rattle.logic.specs.laws.Test.{cases}
 use Rattle.datatype.specs.Codes.{null}
 use Rattle.refusal.specs.declared.Refusal.{Refusal}
@@ -144,7 +143,7 @@ module _ (text : List ℕ) (p : ℕ) (b : Bool) (k m at c last : ℕ) where
 
   append_all : (left i : ℕ) (t : List ℕ) (n : ℕ) (ks : Spots) → i + left ≡ last → Fits text (with_word t p block_word i) n (spot p b k m ks) →
       Appended c i n ks → Appends i t n ks (make_all_s at (positions_from i left) n ks) (appended_from p i left n t)
-  unfolding make_all_s make_s appended_from if◌then◌else◌
+  unfolding make_all_s make_s appended_from when◌then◌else◌
   append_all zero i t n ks e h a =
       let d : i ≡ last = omega arith in
       let u : Spot = spot p b k m ks in
@@ -186,7 +185,7 @@ module _ (text t : List ℕ) (n p : ℕ) (b : Bool) (k m at : ℕ) where
 
   ensure_positions : (positions : ℕ) (ks : Spots) → Fits text t n (spot p b k m ks) →
       EnsuresAll text p b k m ks t n at (make_all_s at (positions_from 0 positions) n ks) (positions_made text p positions n t)
-  unfolding positions_made if◌then◌else◌
+  unfolding positions_made when◌then◌else◌
   ensure_positions positions no_spots h =
       let e : word t p first_word ≡ 0 = h.rep.0 3 (omega arith) in
       let z : with_word t p block_word 0 ≡ t = subst (λ (v : ℕ). with_word t p block_word v ≡ t) (no_positions (word t p block_word) h.rep.2) (with_word_lem t p block_word) in

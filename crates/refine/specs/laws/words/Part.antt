@@ -6,7 +6,7 @@ use Rattle.std.proofs.Math.Bool.{true, false}
 use Rattle.std.proofs.lemmas.Bool.{false≢true}
 use Rattle.std.proofs.Math.Dec.{eqb}
 use borrow.Author.Tests.{eqb-true, eqb-false, ne_eqb, lt-ltb, ltb-true, ltb-false, lt-leb, le-leb}
-use Rattle.logic.specs.Test.{if◌then◌else◌}
+use Rattle.logic.specs.Test.{when◌then◌else◌}
 use Rattle.logic.specs.laws.Test.{cases, both}
 use Rattle.refusal.specs.declared.Refusal.{Refusal}
 use Rattle.refusal.specs.Number.{number_of}
@@ -39,7 +39,7 @@ pub data Ensures (text : List ℕ) (s : Step) (p : ℕ) (b : Bool) (k m : ℕ) (
 
 ensure_by : (text t : List ℕ) (n p : ℕ) (x : Flat.Step) (s : Step) (at : ℕ) (b : Bool) (k m : ℕ) (ks : Spots) → Stands text x s → Fits text t n (spot p b k m ks)
     → (c : ℕ) → Sought text t s ks c → Ensures text s p b k m ks t n at (make_s at s n ks) (ensured_by text p (code_of x) (name_of x) n t c)
-unfolding ensured_by confirmed make_s if◌then◌else◌
+unfolding ensured_by confirmed make_s when◌then◌else◌
 ensure_by text t n p x s at b k m ks st h c (absent z far) =
     rw (z, far_clashes s ks far, far_has s ks far)
     (cases (ltb n place_limit)
@@ -90,7 +90,7 @@ module _ (text t : List ℕ) (n p : ℕ) (b : Bool) (k m : ℕ) (ks : Spots) (h 
       (λ a. ltb-false i (word t p block_word) a)
 
   child_sought : (x : Flat.Step) (s : Step) → Stands text x s → Sought text t s ks (child_at text p x n t)
-  unfolding child_at if◌then◌else◌
+  unfolding child_at when◌then◌else◌
   child_sought S.Element s st = sought text t S.Element s st n p b k m ks h
   child_sought S.Key s st = sought text t S.Key s st n p b k m ks h
   child_sought S.Value s st = sought text t S.Value s st n p b k m ks h
@@ -112,49 +112,49 @@ ensure_is text t n p x s at b k m ks st h = ensure_by text t n p x s at b k m ks
 -- ---- the child's cell is touched
 -- the mark and the count of the samples that held it, in the parent's sample N
 unfoldable pub touch : ℕ → ℕ → List ℕ → List ℕ
-touch c N t = if eqb (word t c mark_word) N then t else with_word (with_word t c held_word (onward (word t c held_word))) c mark_word N
+touch c N t = when eqb (word t c mark_word) N then t else with_word (with_word t c held_word (onward (word t c held_word))) c mark_word N
 
 pub touched_is : (t : List ℕ) (p c N : ℕ) → word t p samples_word ≡ N → touched p c t ≡ touch c N t
 unfolding touched touch
 touched_is t p c N e = rw e
 
 touch_row : (t : List ℕ) (c N x p r nm h m : ℕ) → IsTable t → IsRow c → Row t c next_word (cell_words x p r nm h m) →
-    Row (touch c N t) c next_word (cell_words x p r nm (if eqb m N then h else onward h) N)
-unfolding touch if◌then◌else◌
+    Row (touch c N t) c next_word (cell_words x p r nm (when eqb m N then h else onward h) N)
+unfolding touch when◌then◌else◌
 touch_row t c N x p r nm h m l i w =
     let e₈ : word t c held_word ≡ h = w 4 (omega arith) in
     let e₉ : word t c mark_word ≡ m = w 5 (omega arith) in
     rw (e₉, e₈) (go (eqb m N) refl)
   where
-    go : (d : Bool) → eqb m N ≡ d → Row (if d then t else with_word (with_word t c held_word (onward h)) c mark_word N) c next_word (cell_words x p r nm (if d then h else onward h) N)
+    go : (d : Bool) → eqb m N ≡ d → Row (when d then t else with_word (with_word t c held_word (onward h)) c mark_word N) c next_word (cell_words x p r nm (when d then h else onward h) N)
     go true e = subst (λ (y : ℕ). Row t c next_word (cell_words x p r nm h y)) (eqb-true m N e) w
     go false e = row_set (with_word t c held_word (onward h)) c next_word 5 N (cell_words x p r nm (onward h) m) (rw length_with l) i (omega arith) (in_whole refl) (omega arith)
         (row_set t c next_word 4 (onward h) (cell_words x p r nm h m) l i (omega arith) (in_whole refl) (omega arith) w)
 
 touch_other : (t : List ℕ) (c N q f : ℕ) → f < place_words → (q ≡ c → (f ≡ held_word → ⊥) × (f ≡ mark_word → ⊥)) → word (touch c N t) q f ≡ word t q f
-unfolding touch if◌then◌else◌
+unfolding touch when◌then◌else◌
 touch_other t c N q f l d =
     cases (eqb (word t c mark_word) N)
     (λ e. rw e refl)
     (λ e. rw e (word_other (with_word t c held_word (onward (word t c held_word))) c mark_word N q f (λ y. (d y).1) ∙ word_other t c held_word (onward (word t c held_word)) q f (λ y. (d y).0)))
 
 touch_size : (t : List ℕ) (c N : ℕ) → length (touch c N t) ≡ length t
-unfolding touch if◌then◌else◌
+unfolding touch when◌then◌else◌
 touch_size t c N = cases (eqb (word t c mark_word) N) (λ e. rw e refl) (λ e. rw (e, length_with, length_with) refl)
 
 child_rep : (text t : List ℕ) (p : ℕ) (s : Step) (ks : Spots) → RepIn text t p ks → has s (steps_s ks) ≡ true → Rep text t (spot_at s ks)
-unfolding has steps_s spot_at if◌then◌else◌
+unfolding has steps_s spot_at when◌then◌else◌
 child_rep text t p s no_spots r e = absurd (false≢true e)
 child_rep text t p s (child q h m u ks) r e = cases (same s q) (λ d. rw d r.1) (λ d. let e' : has s (steps_s ks) ≡ true = rw d at e in rw d (child_rep text t p s ks r.2 e'))
 
 module _ (s : Step) (N : ℕ) (v : Spot) where
   put_first : (ks : Spots) → has s (steps_s ks) ≡ true → num v ≡ num (spot_at s ks) → first_of (put_s s N v ks) ≡ first_of ks
-  unfolding has steps_s spot_at put_s if◌then◌else◌
+  unfolding has steps_s spot_at put_s when◌then◌else◌
   put_first no_spots e w = refl
   put_first (child q h m u ks) e w = cases (same s q) (λ d. let w' : num v ≡ num u = rw d at w in rw d w') (λ d. rw d refl)
 
   put_last : (c : ℕ) (ks : Spots) → has s (steps_s ks) ≡ true → num v ≡ num (spot_at s ks) → last_from c (put_s s N v ks) ≡ last_from c ks
-  unfolding has steps_s spot_at put_s if◌then◌else◌
+  unfolding has steps_s spot_at put_s when◌then◌else◌
   put_last c no_spots e w = refl
   put_last c (child q h m u ks) e w =
       cases (same s q)
@@ -162,7 +162,7 @@ module _ (s : Step) (N : ℕ) (v : Spot) where
       (λ d. let e' : has s (steps_s ks) ≡ true = rw d at e in let w' : num v ≡ num (spot_at s ks) = rw d at w in rw d (put_last (num u) ks e' w'))
 
   put_at : (r : Step) (ks : Spots) → num v ≡ num (spot_at s ks) → num (spot_at r (put_s s N v ks)) ≡ num (spot_at r ks)
-  unfolding spot_at put_s if◌then◌else◌
+  unfolding spot_at put_s when◌then◌else◌
   put_at r no_spots w = refl
   put_at r (child q h m u ks) w =
       cases (same s q)
@@ -170,7 +170,7 @@ module _ (s : Step) (N : ℕ) (v : Spot) where
       (λ d. let w' : num v ≡ num (spot_at s ks) = rw d at w in rw d (cases (same r q) (λ a. rw a refl) (λ a. rw a (put_at r ks w'))))
 
   put_steps : (ks : Spots) → steps_s (put_s s N v ks) ≡ steps_s ks
-  unfolding steps_s put_s if◌then◌else◌
+  unfolding steps_s put_s when◌then◌else◌
   put_steps no_spots = refl
   put_steps (child q h m u ks) = cases (same s q) (λ d. rw d refl) (λ d. rw (d, put_steps ks) refl)
 
@@ -182,15 +182,15 @@ module _ (s : Step) (N : ℕ) (v : Spot) where
   -- the children, one of them changed
   module _ (text t t' : List ℕ) (n p : ℕ) (rv : Rep text t' v) where
     put_rep : (c : ℕ) (ks : Spots) → GoodIn n c ks → RepIn text t p ks → has s (steps_s ks) ≡ true → num v ≡ num (spot_at s ks)
-        → ((x : ℕ) (r : Step) (h m : ℕ) → Cell text t (num (spot_at s ks)) x p r h m → Cell text t' (num (spot_at s ks)) x p r (if eqb m N then h else onward h) N)
+        → ((x : ℕ) (r : Step) (h m : ℕ) → Cell text t (num (spot_at s ks)) x p r h m → Cell text t' (num (spot_at s ks)) x p r (when eqb m N then h else onward h) N)
         → ((q f : ℕ) → f < place_words → within_in q ks ≡ true → within q (spot_at s ks) ≡ false → word t' q f ≡ word t q f) → RepIn text t' p (put_s s N v ks)
-    unfolding has steps_s spot_at put_s if◌then◌else◌
+    unfolding has steps_s spot_at put_s when◌then◌else◌
     put_rep c no_spots g r e w cell o = tt
     put_rep c (child q h m u ks) g r e w cell o =
         cases (same s q)
         (λ d.
         let w' : num v ≡ num u = rw d at w in
-        let cell' : (x : ℕ) (r : Step) (h m : ℕ) → Cell text t (num u) x p r h m → Cell text t' (num u) x p r (if eqb m N then h else onward h) N = rw d at cell in
+        let cell' : (x : ℕ) (r : Step) (h m : ℕ) → Cell text t (num u) x p r h m → Cell text t' (num u) x p r (when eqb m N then h else onward h) N = rw d at cell in
         let o' : (a f : ℕ) → f < place_words → within a u || within_in a ks ≡ true → within a u ≡ false → word t' a f ≡ word t a f = rw d at o in
         rw d (
           rw w' (cell' (first_of ks) q h m r.0),
@@ -200,7 +200,7 @@ module _ (s : Step) (N : ℕ) (v : Spot) where
         (λ d.
         let e' : has s (steps_s ks) ≡ true = rw d at e in
         let w' : num v ≡ num (spot_at s ks) = rw d at w in
-        let cell' : (x : ℕ) (r : Step) (h m : ℕ) → Cell text t (num (spot_at s ks)) x p r h m → Cell text t' (num (spot_at s ks)) x p r (if eqb m N then h else onward h) N = rw d at cell in
+        let cell' : (x : ℕ) (r : Step) (h m : ℕ) → Cell text t (num (spot_at s ks)) x p r h m → Cell text t' (num (spot_at s ks)) x p r (when eqb m N then h else onward h) N = rw d at cell in
         let o' : (a f : ℕ) → f < place_words → within a u || within_in a ks ≡ true → within a (spot_at s ks) ≡ false → word t' a f ≡ word t a f = rw d at o in
         let off : (a : ℕ) → within a u ≡ true → within a (spot_at s ks) ≡ false = λ a j. un_true (within a (spot_at s ks)) (λ i. not_both (within_in a ks) (found a s ks e' i) (g.2 a j)) in
         let in_u : (a f : ℕ) → f < place_words → within a u ≡ true → word t' a f ≡ word t a f = λ a f l j. o' a f l (or_left (within a u) (within_in a ks) j) (off a j) in

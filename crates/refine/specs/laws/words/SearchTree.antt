@@ -4,7 +4,7 @@ use Rattle.std.proofs.Math.Path.{refl}
 use Rattle.std.proofs.Common.{ap, sym, ◌∙◌, arith, eqb-true, le-ltb}
 use Rattle.std.proofs.Math.Bool.{or-false, or_assoc, true, false}
 use Rattle.std.proofs.lemmas.Bool.{false≢true}
-use Rattle.logic.specs.Test.{if◌then◌else◌}
+use Rattle.logic.specs.Test.{when◌then◌else◌}
 use Rattle.logic.specs.laws.Test.{cases}
 use Rattle.words.specs.Word.{place_words, word}
 use Rattle.model.specs.Kinds.{Step, same}
@@ -56,7 +56,7 @@ same_follow t t' q f n e = rw e
 
 -- a link of zero leads nowhere
 pub null_follow : (t : List ℕ) (q f n : ℕ) → word t q f ≡ 0 → follow q f n t ≡ 0
-unfolding follow if◌then◌else◌
+unfolding follow when◌then◌else◌
 null_follow t q f n e = rw (e, le-ltb q 0 (omega arith))
 
 pub in_tree : (q : ℕ) (ks : Spots) → num_in q ks ≡ true → within_in q ks ≡ true
@@ -201,13 +201,13 @@ mutual
 
 -- the tree of a child
 pub indexes_at : (t : List ℕ) (s : Step) (ks : Spots) → IndexesIn t ks → has s (steps_s ks) ≡ true → Indexes t (spot_at s ks)
-unfolding has steps_s spot_at if◌then◌else◌
+unfolding has steps_s spot_at when◌then◌else◌
 indexes_at t s no_spots x e = absurd (false≢true e)
 indexes_at t s (child r h m u ks) x e = cases (same s r) (λ d. rw d x.0) (λ d. let e' : has s (steps_s ks) ≡ true = rw d at e in rw d (indexes_at t s ks x.1 e'))
 
 -- no child of a place stands below another
 pub child_apart : (n c q : ℕ) (s : Step) (ks : Spots) → GoodIn n c ks → has s (steps_s ks) ≡ true → num_in q ks ≡ true → within_in q (below_s (spot_at s ks)) ≡ false
-unfolding has steps_s spot_at if◌then◌else◌
+unfolding has steps_s spot_at when◌then◌else◌
 child_apart n c q s no_spots g e i = absurd (false≢true e)
 child_apart n c q s (child r h m u ks) g e i =
     cases (same s r)
@@ -224,7 +224,7 @@ child_apart n c q s (child r h m u ks) g e i =
 -- a child that has changed
 module _ (s : Step) (N : ℕ) (v : Spot) where
   pub put_nums : (q : ℕ) (ks : Spots) → num v ≡ num (spot_at s ks) → num_in q (put_s s N v ks) ≡ num_in q ks
-  unfolding spot_at put_s if◌then◌else◌
+  unfolding spot_at put_s when◌then◌else◌
   put_nums q no_spots w = refl
   put_nums q (child r h m u ks) w =
       cases (same s r)
@@ -233,7 +233,7 @@ module _ (s : Step) (N : ℕ) (v : Spot) where
 
   pub indexes_put : (n c : ℕ) (t t' : List ℕ) (ks : Spots) → GoodIn n c ks → has s (steps_s ks) ≡ true → Indexes t' v
       → ((q f : ℕ) → f < place_words → within_in q ks ≡ true → within q (spot_at s ks) ≡ false → word t' q f ≡ word t q f) → IndexesIn t ks → IndexesIn t' (put_s s N v ks)
-  unfolding has steps_s spot_at put_s if◌then◌else◌
+  unfolding has steps_s spot_at put_s when◌then◌else◌
   indexes_put n c t t' no_spots g e y w x = tt
   indexes_put n c t t' (child r h m u ks) g e y w x =
       cases (same s r)

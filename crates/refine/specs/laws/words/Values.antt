@@ -8,7 +8,7 @@ use Prim.Native.Nat.{◌-◌, ℕ, zero, suc, ◌+◌, ◌*◌, ◌<◌, ◌≤�
 use native.Mathlib.Omega.{arith}
 use Rattle.std.proofs.Math.ListN.{length, get_or}
 use borrow.Author.Tests.{eqb-true, eqb-false, ne_eqb, ltb-true, ltb-false, leb-false, le-ltb}
-use Rattle.logic.specs.Test.{if◌then◌else◌}
+use Rattle.logic.specs.Test.{when◌then◌else◌}
 use Rattle.logic.specs.laws.Test.{cases}
 use Rattle.logic.specs.Turns.{turns, after}
 use Rattle.datatype.specs.Codes.{null}
@@ -50,12 +50,12 @@ use Rattle.refine.specs.laws.words.Made.{EnsuresAll, all_there, ensure_made, not
 
 -- ---- one value
 walk_marked : (options depth n p : ℕ) (b : Bool) (k m : ℕ) (ks : Spots) (v : Value) → walk options depth (marked true v) n (spot p b k m ks) ≡ walk options depth v n (spot p true k m ks)
-unfolding walk if◌then◌else◌
+unfolding walk when◌then◌else◌
 walk_marked options depth n p b k m ks (val at b' k' r ps) = rw (or-true b) refl
 walk_marked options depth n p b k m ks (cut x at) = refl
 
 unmarked : (v : Value) → marked false v ≡ v
-unfolding if◌then◌else◌
+unfolding when◌then◌else◌
 unmarked (val at b k r ps) = refl
 unmarked (cut x at) = refl
 
@@ -84,7 +84,7 @@ module _ (options : ℕ) (commands text : List ℕ) (bytes : Bytes commands) (de
     (reads : (levels ≡ 0 → ⊥) → (down : ℕ) → Reads options commands text (depth + (1 + down)) (inner down)) where
   leaf_sim : (null : Bool) (k lo here a n : ℕ) (t : List ℕ) (u : Spot) → is_container k ≡ false → lo ≤ a → a ≤ length commands → Fits text t n u
       → Agrees text commands t n u lo (walk options depth (val here null k 0 no_parts) n u) (observed options null k levels here a (num u) n t) (some a)
-  unfolding walk make_all_s made observed stored if◌then◌else◌
+  unfolding walk make_all_s made observed stored when◌then◌else◌
   leaf_sim null k lo here a n t (spot p b j₀ m ks) i y z h =
       let w : word t p kind_word ≡ j₀ = h.rep.0 0 (omega arith) in
       let l : k < sequence_kind = leb-false sequence_kind k i in
@@ -100,7 +100,7 @@ module _ (options : ℕ) (commands text : List ℕ) (bytes : Bytes commands) (de
     where
       go : (null : Bool) (x : Met) →
           Agrees text commands t n (spot p b j₀ m ks) lo (of_met here x >>= λ j. counted n (spot p (b || null) j m ks))
-          (on_met here t (λ j. out (T.Next a n) (if null then with_word (with_word t p kind_word j) p null_word 1 else with_word t p kind_word j)) x)
+          (on_met here t (λ j. out (T.Next a n) (when null then with_word (with_word t p kind_word j) p null_word 1 else with_word t p kind_word j)) x)
           (some a)
       go null (M.Refused x) = balked
       go true (M.Kind j) =
@@ -122,7 +122,7 @@ module _ (options : ℕ) (commands text : List ℕ) (bytes : Bytes commands) (de
   container_sim : (k r f here at n : ℕ) (t : List ℕ) (u : Spot) → is_container k ≡ true → at ≤ length commands → 4 * length commands + 2 ≤ 4 * at + f → Fits text t n u
       → Agrees text commands t n u at (walk options depth (val here false k r (read_parts f options commands text k r 0 at).0) n u)
       (container_by commands text options levels inner k r here at (num u) n t) (read_parts f options commands text k r 0 at).1
-  unfolding walk container_by container_made if◌then◌else◌
+  unfolding walk container_by container_made when◌then◌else◌
   container_sim k r f here at n t (spot p b j₀ m ks) c y i h =
       let w : word t p kind_word ≡ j₀ = h.rep.0 0 (omega arith) in
       rw (w, meets options depth levels here j₀ k level, c, or-false b) (go (meeting options levels j₀ k) refl)
@@ -143,7 +143,7 @@ module _ (options : ℕ) (commands text : List ℕ) (bytes : Bytes commands) (de
       (walk options depth (val here false union_kind 0
       (part here (variant k (bytes_of text name)) (read_in f options commands text c here at).0 no_parts)) n u)
       (variant_by text options levels inner k name c here at (num u) n t) (read_in f options commands text c here at).1
-  unfolding walk make_all_s made variant_by variant_held held if◌then◌else◌
+  unfolding walk make_all_s made variant_by variant_held held when◌then◌else◌
   choice_sim c k name f here at n t (spot p b j₀ m ks) st y i h =
       let w : word t p kind_word ≡ j₀ = h.rep.0 0 (omega arith) in
       rw (w, meets options depth levels here j₀ union_kind level, or-false b) (go (meeting options levels j₀ union_kind) refl)
@@ -217,7 +217,7 @@ module _ (options : ℕ) (commands text : List ℕ) (bytes : Bytes commands) (de
       → Agrees text commands t n u (at + 1) (walk options depth (read_value f options commands text at).0 n u)
       (after_chain commands text options levels inner (num u) n (turns (past_turn commands (num u)) (λ s. s) g (chain at t)))
       (read_value f options commands text at).1
-  unfolding turns after past_turn markedFlat read_value shape_of if◌then◌else◌
+  unfolding turns after past_turn markedFlat read_value shape_of when◌then◌else◌
   chain_sim zero f at n t u y e i h = absurd (omega arith)
   chain_sim (suc g) zero at n t u y e i h = absurd (omega arith)
   chain_sim (suc g) (suc zero) at n t u y e i h =
