@@ -11,8 +11,6 @@ use Rattle.std.specs.Prelude.{◌↔◌, ℕ}
 use Rattle.model.specs.Answer.{Batch, Buffers, answer}
 use Rattle.model.specs.Census.{SameCensus}
 use Rattle.model.specs.Demand3.{Plain, Accepted, SameSchema, StructRecords, NoPlaceBoth, AreRecords, Split, NoShorter, SameButOrder, batch, with_records, records_of}
-use Rattle.equality.specs.laws.census.Equal.{equal_exactly}
-use Rattle.equality.specs.laws.reordering.Batches.{accepted_split, batch_again}
 
 pub record Demand3 : Type 0 where
   -- schemas are equal exactly when censuses are
@@ -30,12 +28,3 @@ pub record Demand3 : Type 0 where
       → (records others : List (List ℕ)) → AreRecords b records → Permᴰ records others
       → (lent' : Buffers) → NoShorter lent lent'
       → Accepted (answer (with_records b others) lent') × SameButOrder (answer b lent) (answer (with_records b others) lent')
-
-pub demand_3 : Demand3
-demand_3 =
-    record {
-      equal = λ options plain commands text lent a s b commands' text' lent' a' s' b'.
-          equal_exactly options plain commands text commands' text' lent lent' a a' s s';
-      split = accepted_split;
-      reordered = λ b plain lent a s both. batch_again b plain lent a both;
-    }

@@ -4,7 +4,7 @@ use mathlib.Core.List.{List, Permᴰ}
 use Rattle.model.specs.Answer.{Batch, Buffers, Answer, answer}
 use Rattle.model.specs.Census.{SameCensus}
 use Rattle.model.specs.Demand3.{Plain, Accepted, SameSchema, StructRecords, NoPlaceBoth, AreRecords, Split, NoShorter, SameButOrder, batch, with_records, records_of}
-use Rattle.equality.specs.Demand3.{demand_3}
+use Rattle.equality.proofs.Demand3.{demand_3}
 
 -- struct records that were accepted
 abbrev pub Took : Batch → Answer → Type 0

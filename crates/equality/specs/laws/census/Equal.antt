@@ -23,9 +23,9 @@ use Rattle.equality.specs.laws.tracing.Count.{size, traced}
 use Rattle.equality.specs.laws.tracing.Place.{see_all_whole}
 use Rattle.equality.specs.laws.reading.Records.{values_proper}
 use Rattle.equality.specs.laws.census.Kind.{kind_seen_lem}
-use Rattle.equality.specs.laws.census.View.{view, view_census, same_view, distinct_canon}
+use Rattle.equality.specs.laws.census.View.{view, view_census, same_view}
 use Rattle.equality.specs.laws.emission.Records.{schema_encoded}
-use Rattle.equality.specs.laws.emission.Fields.{kind_at, root_kind, same_root, root_canon}
+use Rattle.equality.specs.laws.emission.Fields.{kind_at, root_kind}
 use Rattle.equality.specs.laws.tracing.Fitting.{tree_fits, tree_ascends}
 use Rattle.equality.specs.laws.emission.Accepted.{took, holds}
 
@@ -74,7 +74,7 @@ unfolding kind_seen kinds_seen container_seen type_seen non_null when◌then◌e
 struct_kind_lem o [] h e = absurd (true≢false (sym e))
 struct_kind_lem o (v ∷ vs) h e = rw h.0
 
-root_struct : (b : Batch) (schema : Fields) → Plain b.options → StructRecords b → (t : Traced b schema) → kind_at (place_of false t.tree) ≡ struct_kind
+pub root_struct : (b : Batch) (schema : Fields) → Plain b.options → StructRecords b → (t : Traced b schema) → kind_at (place_of false t.tree) ≡ struct_kind
 root_struct b schema off r t =
     let o = b.options in
     let k : kind_at (place_of false t.tree) ≡ kind_seen o (kinds_seen (records_of b)) = kind_place t.tree ∙ kind_seen_lem o 0 (records_of b) t.tree off.to_string_off t.proper t.seen in
@@ -82,10 +82,10 @@ root_struct b schema off r t =
     k ∙ struct_kind_lem o (records_of b) r (rw k at s)
 
 -- ---- what two answers hold
-bytes_same : (fs gs : Fields) (a b : Answer) → Holds fs a → Holds gs b → SameSchema a b → fs ≡ gs
+pub bytes_same : (fs gs : Fields) (a b : Answer) → Holds fs a → Holds gs b → SameSchema a b → fs ≡ gs
 bytes_same fs gs a b h k s = schema_encoded fs gs (sym h.bytes_of_records ∙ s.bytes_of_records ∙ k.bytes_of_records) (sym h.name_bytes ∙ s.name_bytes ∙ k.name_bytes)
 
-same_bytes : (fs gs : Fields) (a b : Answer) → Holds fs a → Holds gs b → fs ≡ gs → SameSchema a b
+pub same_bytes : (fs gs : Fields) (a b : Answer) → Holds fs a → Holds gs b → fs ≡ gs → SameSchema a b
 same_bytes fs gs a b h k e =
     record {
       records = h.records ∙ ap count_in e ∙ sym k.records;
@@ -94,49 +94,5 @@ same_bytes fs gs a b h k e =
       name_bytes = h.name_bytes ∙ ap names_in e ∙ sym k.name_bytes;
     }
 
-accepted_injective : {fs gs : Fields} → accepted fs ≡ accepted gs → fs ≡ gs
+pub accepted_injective : {fs gs : Fields} → accepted fs ≡ accepted gs → fs ≡ gs
 accepted_injective e = cc
-
--- ---- two batches under one options word
-module _ (o : ℕ) (off : Plain o) (cs text cs' text' : List ℕ) where
-  abbrev first : Batch
-  first = record { options = o; commands = cs; text = text }
-
-  abbrev second : Batch
-  second = record { options = o; commands = cs'; text = text' }
-
-  module _ (fs gs : Fields) (t : Traced first fs) (u : Traced second gs) (r : StructRecords first) (q : StructRecords second) where
-    same_schema : fs ≡ gs → SameCensus o (records_of first) (records_of second)
-    unfolding SameCensus
-    same_schema e steps =
-        let c = same_root o (length cs) (length cs') (place_of false t.tree) (place_of false u.tree) gs off.enums_off
-        (tree_fits o 0 (records_of first) t.tree false t.proper t.seen) (tree_fits o 0 (records_of second) u.tree false u.proper u.seen)
-        (tree_ascends o 0 (records_of first) t.tree false t.proper t.seen) (tree_ascends o 0 (records_of second) u.tree false u.proper u.seen)
-        (root_struct first fs off r t ∙ sym (root_struct second gs off q u)) (rw e at t.root) u.root in
-        sym (view_census o off.to_string_off 0 steps false (records_of first) t.tree t.proper t.seen)
-        ∙ ap (view steps) c
-        ∙ view_census o off.to_string_off 0 steps false (records_of second) u.tree u.proper u.seen
-
-    same_census : SameCensus o (records_of first) (records_of second) → fs ≡ gs
-    unfolding SameCensus
-    same_census h =
-        let c = same_view (canon (place_of false t.tree)) (canon (place_of false u.tree)) (distinct_canon o off.to_string_off 0 (records_of first) t.tree t.proper t.seen)
-        (λ steps. view_census o off.to_string_off 0 steps false (records_of first) t.tree t.proper t.seen ∙ h steps
-        ∙ sym (view_census o off.to_string_off 0 steps false (records_of second) u.tree u.proper u.seen)) in
-        let e = root_canon o (length cs) (length cs') (place_of false t.tree) (place_of false u.tree) fs off.enums_off
-        (tree_fits o 0 (records_of first) t.tree false t.proper t.seen) (tree_fits o 0 (records_of second) u.tree false u.proper u.seen)
-        (tree_ascends o 0 (records_of first) t.tree false t.proper t.seen) (tree_ascends o 0 (records_of second) u.tree false u.proper u.seen)
-        c t.root in
-        accepted_injective (sym e ∙ u.root)
-
-  -- schemas are equal exactly when censuses are
-  pub equal_exactly : (lent lent' : Buffers) → Accepted (answer first lent) → Accepted (answer second lent') → StructRecords first → StructRecords second
-      → SameSchema (answer first lent) (answer second lent') ↔ SameCensus o (records_of first) (records_of second)
-  equal_exactly lent lent' a a' r q =
-      let x = took first lent a in
-      let y = took second lent' a' in
-      let t = traced_schema first x.schema x.gives in
-      let u = traced_schema second y.schema y.gives in (
-        λ s. same_schema x.schema y.schema t u r q (bytes_same x.schema y.schema (answer first lent) (answer second lent') (holds first lent x) (holds second lent' y) s),
-        λ h. same_bytes x.schema y.schema (answer first lent) (answer second lent') (holds first lent x) (holds second lent' y) (same_census x.schema y.schema t u r q h),
-      )

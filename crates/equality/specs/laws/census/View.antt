@@ -220,7 +220,7 @@ children_distinct : (k : ℕ) (ss : List Step) → distinct ss ≡ true → dist
 unfolding when◌then◌else◌
 children_distinct k ss d = cases (eqb k struct_kind) (λ e. rw e d) (λ e. rw e (distinct_set ss ∙ d))
 
-census_distinct : (o : ℕ) (steps : List Step) (lacking : Bool) (vs : List Value) (i : Said) → census o steps lacking vs ≡ some i → distinct i.children ≡ true
+pub census_distinct : (o : ℕ) (steps : List Step) (lacking : Bool) (vs : List Value) (i : Said) → census o steps lacking vs ≡ some i → distinct i.children ≡ true
 unfolding census when◌then◌else◌
 census_distinct o [] lacking vs i e =
     let q = ap (λ (i : Said). i.children) (some_injective _ i e) in
@@ -229,7 +229,3 @@ census_distinct o (s ∷ steps) lacking vs i e =
     cases (has s (steps_seen vs []))
     (λ a. census_distinct o steps _ (Census.below s vs) i (rw a at e))
     (λ a. let k : none ≡ some i = rw a at e in absurd (let z : ◌≡◌ {A = ℕ} 0 1 = cc in omega arith))
-
-pub distinct_canon : (o : ℕ) → allow_to_string o ≡ false → (d : ℕ) (vs : List Value) (t : Tree) → all_proper o vs ≡ true → see_all o d vs fresh ≡ accepted t → Distinct (canon (place_of false t))
-unfolding Distinct
-distinct_canon o f d vs t p e steps i h = census_distinct o steps false vs i (sym (view_census o f d steps false vs t p e) ∙ h)

@@ -12,7 +12,7 @@ use Rattle.model.specs.Emission.{Place, shown, Places, none_below, below, Field,
 use Rattle.equality.specs.laws.Base.{and_left, not_refused}
 use Rattle.equality.specs.laws.Proper.{is_binary, type_fits, kind_fits, fits, fit_below}
 use Rattle.equality.specs.laws.emission.Canon.{canon}
-use Rattle.equality.specs.laws.emission.InOrder.{Off, ascends, field_arranged, field_plain, fit_more, fits_canon, plain_field, plain_fields, step_back_lem, step_back, wrapped}
+use Rattle.equality.specs.laws.emission.InOrder.{Off, ascends, field_arranged, fit_more, plain_field, plain_fields, step_back_lem, step_back, wrapped}
 
 -- ---- a kind, read back from a type and a strategy
 unfoldable pub kind_back : ℕ → ℕ → ℕ → ℕ
@@ -123,19 +123,6 @@ mutual
       let t = plains_same options kind (variant_of s + 1) (suc i) ps qs f3 g3 (rw (← x) at u.1) in
       λ j. below (x j) (a.0 j) (t j)
 
--- ---- the field that is emitted for a place
--- equal fields are those of places with one canon, one name and one number
-pub same_field : (options : ℕ) (x y : List ℕ) (v w : ℕ) (c d : Place) → Off options → fits options c ≡ true → fits options d ≡ true → ascends c ≡ true → ascends d ≡ true →
-    field_of options x v c ≡ field_of options y w d → (canon c ≡ canon d) × (x ≡ y) × (v ≡ w)
-same_field options x y v w c d o f g a b e =
-    plain_same options x y v w (canon c) (canon d) (fits_canon options c f a) (fits_canon options d g b)
-    (sym (field_plain options x v c o f a) ∙ e ∙ field_plain options y w d o g b)
-
--- places with one canon have one field
-pub same_canon : (options : ℕ) (x : List ℕ) (v : ℕ) (c d : Place) → Off options → fits options c ≡ true → fits options d ≡ true → ascends c ≡ true → ascends d ≡ true →
-    canon c ≡ canon d → field_of options x v c ≡ field_of options x v d
-same_canon options x v c d o f g a b e = field_plain options x v c o f a ∙ ap (plain_field options x v) e ∙ sym (field_plain options x v d o g b)
-
 -- ---- the root
 abbrev pub kind_at : Place → ℕ
 kind_at (shown admits kind ps) = kind
@@ -164,26 +151,8 @@ root_kind options end (shown admits kind ps) fs o f e =
     cases (eqb kind map_mode_kind) (λ b. rw (eqb-true kind map_mode_kind b)) (λ b.
     let z : struct_kind ≡ kind = rw (strategy_of, a, b) at k in rw (← z)))
 
--- equal schemas of two roots of one kind are those of roots with one canon
-pub same_root : (options end end' : ℕ) (c d : Place) (fs : Fields) → Off options → fits options c ≡ true → fits options d ≡ true → ascends c ≡ true → ascends d ≡ true →
-    kind_at c ≡ kind_at d → root_fields end (field_of options root_name 0 c) ≡ accepted fs → root_fields end' (field_of options root_name 0 d) ≡ accepted fs → canon c ≡ canon d
-same_root options end end' (shown a k ps) (shown b l qs) fs o f g u w z e h =
-    let p = root_field end (type_of options k) a (strategy_of k) 0 root_name (arranged k (fields_of options k 0 ps)) fs (rw (field_arranged options root_name 0 a k ps o) at e) in
-    let q = root_field end' (type_of options l) b (strategy_of l) 0 root_name (arranged l (fields_of options l 0 qs)) fs (rw (field_arranged options root_name 0 b l qs o) at h) in
-    let n : a ≡ b = p.0 ∙ sym q.0 in
-    let m = p.2 ∙ sym q.2 in
-    let t : field_of options root_name 0 (shown a k ps) ≡ field_of options root_name 0 (shown b l qs) =
-    field_arranged options root_name 0 a k ps o ∙ (λ i. mk (type_of options (z i)) (n i) (strategy_of (z i)) 0 root_name (m i)) ∙ sym (field_arranged options root_name 0 b l qs o) in
-    (same_field options root_name root_name 0 0 (shown a k ps) (shown b l qs) o f g u w t).0
-
 -- where the commands end does not matter to what is accepted
-root_end : (end end' : ℕ) (f : Field) (fs : Fields) → root_fields end f ≡ accepted fs → root_fields end' f ≡ accepted fs
+pub root_end : (end end' : ℕ) (f : Field) (fs : Fields) → root_fields end f ≡ accepted fs → root_fields end' f ≡ accepted fs
 unfolding when◌then◌else◌
 root_end end end' (mk type nullable strategy number name fs) gs e =
     let h = root_field end type nullable strategy number name fs gs e in rw (h.0, h.1, h.2)
-
--- roots with one canon have one schema
-pub root_canon : (options end end' : ℕ) (c d : Place) (fs : Fields) → Off options → fits options c ≡ true → fits options d ≡ true → ascends c ≡ true → ascends d ≡ true →
-    canon c ≡ canon d → root_fields end (field_of options root_name 0 c) ≡ accepted fs → root_fields end' (field_of options root_name 0 d) ≡ accepted fs
-root_canon options end end' c d fs o f g u w z e =
-    root_end end end' (field_of options root_name 0 d) fs (ap (root_fields end) (sym (same_canon options root_name 0 c d o f g u w z)) ∙ e)

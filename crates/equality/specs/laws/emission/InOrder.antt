@@ -215,7 +215,7 @@ pub canons_in_order : (options kind : ℕ) (ps : Places) → is_struct kind ≡ 
     (not (eqb kind union_kind) || rising (steps_below ps)) ≡ true → in_order (canons ps) ≡ canons ps
 canons_in_order options kind ps = order_fits options kind ps (canons ps) (steps_canons ps)
 
-arranged_plain : (options kind : ℕ) (ps : Places) → fit_below options kind 0 ps ≡ true → (not (eqb kind union_kind) || rising (steps_below ps)) ≡ true →
+pub arranged_plain : (options kind : ℕ) (ps : Places) → fit_below options kind 0 ps ≡ true → (not (eqb kind union_kind) || rising (steps_below ps)) ≡ true →
     arranged kind (plain_fields options kind 0 (canons ps)) ≡ wrapped kind (plain_fields options kind 0 (when eqb kind struct_kind then canons ps else in_order (canons ps)))
 unfolding arranged wrapped when◌then◌else◌
 arranged_plain options kind ps f u =
@@ -241,32 +241,12 @@ pub field_arranged : (options : ℕ) (x : List ℕ) (v : ℕ) (admits : Bool) (k
 unfolding field_of when◌then◌else◌
 field_arranged options x v admits kind ps o = rw (field_of, and_off (eqb kind union_kind && dataless ps) (enums_without_data_as_strings options) o)
 
-mutual
-  unfolding field_of plain_field canon fits ascends
-
-  -- the field of a place is its canon's, emitted in order
-  pub field_plain : (options : ℕ) (x : List ℕ) (v : ℕ) (c : Place) → Off options → fits options c ≡ true → ascends c ≡ true → field_of options x v c ≡ plain_field options x v (canon c)
-  field_plain options x v (shown admits kind ps) o f u =
-      both (kind_fits options kind) (fit_below options kind 0 ps) f λ _ g.
-      both (not (eqb kind union_kind) || rising (steps_below ps)) (ascend_below ps) u λ a b.
-      field_arranged options x v admits kind ps o
-      ∙ ap (mk (type_of options kind) admits (strategy_of kind) v x) (ap (arranged kind) (fields_plain options kind 0 0 ps o g b) ∙ arranged_plain options kind ps g a)
-
-  fields_plain : (options kind slot i : ℕ) (ps : Places) → Off options → fit_below options kind i ps ≡ true → ascend_below ps ≡ true →
-      fields_of options kind slot ps ≡ plain_fields options kind slot (canons ps)
-  fields_plain options kind slot i none_below o f u = refl
-  fields_plain options kind slot i (below s p ps) o f u =
-      fit_more options kind i s p ps f λ _ _ g h.
-      both (ascends p) (ascend_below ps) u λ a b.
-      ap (gaps slot (when eqb kind union_kind then variant_of s - slot else 0))
-      (ap₂ more (field_plain options (name_of s) (variant_of s) p o g a) (fields_plain options kind (variant_of s + 1) (suc i) ps o h b))
-
 -- ---- the canon of a place that fits does so too
 -- a step to one of the places below a struct, or a union, fits at any of them
 abbrev pub Loose : ℕ → Type 0
 Loose kind = (i j : ℕ) (s : Step) → step_fits kind i s ≡ true → step_fits kind j s ≡ true
 
-struct_loose : (kind : ℕ) → is_struct kind ≡ true → Loose kind
+pub struct_loose : (kind : ℕ) → is_struct kind ≡ true → Loose kind
 struct_loose kind h i j s f = rw (is_field_lem kind i s h f) h
 
 pub fit_anywhere : (options kind i j : ℕ) (ps : Places) → Loose kind → fit_below options kind i ps ≡ true → fit_below options kind j ps ≡ true
@@ -288,28 +268,10 @@ fit_insert options kind i s p (below r q ps) l a b c f =
     more_fits options kind i r q (insert_place s p ps) a1 g c1 (fit_insert options kind (suc i) s p ps l (l i (suc i) s a) b3 c f1)))
     (λ e. rw e (more_fits options kind i s p (below r q ps) a b c (fit_anywhere options kind i (suc i) (below r q ps) l f)))
 
-fit_in_order : (options kind i : ℕ) (ps : Places) → Loose kind → fit_below options kind i ps ≡ true → fit_below options kind i (in_order ps) ≡ true
+pub fit_in_order : (options kind i : ℕ) (ps : Places) → Loose kind → fit_below options kind i ps ≡ true → fit_below options kind i (in_order ps) ≡ true
 unfolding in_order
 fit_in_order options kind i none_below l f = f
 fit_in_order options kind i (below s p ps) l f =
     fit_more options kind i s p ps f λ a b c d.
     fit_insert options kind i s p (in_order ps) l a (rw (steps_in_order ps) (has_set s (steps_below ps) ∙ b)) c
     (fit_in_order options kind i ps l (fit_anywhere options kind (suc i) i ps l d))
-
-mutual
-  unfolding canon fits ascends when◌then◌else◌
-
-  pub fits_canon : (options : ℕ) (c : Place) → fits options c ≡ true → ascends c ≡ true → fits options (canon c) ≡ true
-  fits_canon options (shown admits kind ps) f u =
-      both (kind_fits options kind) (fit_below options kind 0 ps) f λ h g.
-      both (not (eqb kind union_kind) || rising (steps_below ps)) (ascend_below ps) u λ a b.
-      let k = fits_canons options kind 0 ps g b in
-      and_both h (cases (eqb kind struct_kind) (λ e. rw e k) (λ e. rw e (
-      cases (is_struct kind) (λ n. fit_in_order options kind 0 (canons ps) (struct_loose kind n) k) (λ n. rw (canons_in_order options kind ps n g a) k))))
-
-  fits_canons : (options kind i : ℕ) (ps : Places) → fit_below options kind i ps ≡ true → ascend_below ps ≡ true → fit_below options kind i (canons ps) ≡ true
-  fits_canons options kind i none_below f u = refl
-  fits_canons options kind i (below s p ps) f u =
-      fit_more options kind i s p ps f λ a b c d.
-      both (ascends p) (ascend_below ps) u λ v w.
-      more_fits options kind i s (canon p) (canons ps) a (rw (steps_canons ps) b) (fits_canon options p c v) (fits_canons options kind (suc i) ps d w)

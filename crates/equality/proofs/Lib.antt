@@ -1,0 +1,3 @@
+pub mod Canon
+pub mod Equal
+pub mod Demand3
