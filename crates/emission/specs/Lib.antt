@@ -1,3 +1,2 @@
-pub mod Refinement
 pub mod laws
 pub mod Emits

@@ -3,4 +3,3 @@ pub mod order
 pub mod firstwalk
 pub mod secondwalk
 pub mod tree
-pub mod Emitted

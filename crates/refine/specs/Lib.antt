@@ -1,3 +1,2 @@
 pub mod Tree
-pub mod Refinement
 pub mod laws

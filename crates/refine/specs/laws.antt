@@ -1,4 +1,3 @@
 pub mod reading
 pub mod numbered
 pub mod words
-pub mod Outcome

@@ -25,11 +25,11 @@ use Rattle.samples.specs.Samples.{from_samples}
 use Rattle.leaves.specs.Leaves.{Out, out}
 use Rattle.commands.specs.Bytes.{Bytes}
 use Rattle.refine.specs.Tree.{outcome, tree_of}
-use Rattle.refine.specs.Refinement.{traced_is_model}
+use Rattle.refine.proofs.Refinement.{traced_is_model}
 use Rattle.schema.specs.declared.Emitted.TheVariants as E
 use Rattle.schema.specs.Emit.{Answered, answered, to_schema_at}
 use Rattle.order.specs.Sort.{sorted_places}
-use Rattle.emission.specs.Refinement.{schema_is_model}
+use Rattle.emission.proofs.Refinement.{schema_is_model}
 use Rattle.emission.specs.Emits.{Emits}
 use Rattle.refusal.specs.declared.Refusal.{Refusal}
 use Rattle.refusal.specs.declared.Refusal.TheVariants as F

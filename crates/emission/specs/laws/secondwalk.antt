@@ -2,6 +2,5 @@ pub mod Fields
 pub mod Walk
 pub mod Neat
 pub mod Writing
-pub mod Root
 pub mod Words
 pub mod Children

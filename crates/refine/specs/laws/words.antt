@@ -1,10 +1,3 @@
 pub mod Places
-pub mod Child
-pub mod Part
-pub mod Entered
 pub mod SearchTree
-pub mod Parts
 pub mod Kinds
-pub mod Made
-pub mod Batch
-pub mod Values

@@ -57,9 +57,6 @@ step_back_lem (variant k name) =
     let e : (5 + 2 * k - 5) / 2 ≡ k = omega arith in
     rw (ne_eqb (5 + 2 * k) 0 (omega arith), ne_eqb (5 + 2 * k) 1 (omega arith), ne_eqb (5 + 2 * k) 2 (omega arith), ne_eqb (5 + 2 * k) 3 (omega arith), ne_eqb ((5 + 2 * k) % 2) 0 (omega arith), e)
 
-step_is : (s r : Step) → step_code_of s ≡ step_code_of r → name_in s ≡ name_in r → s ≡ r
-step_is s r e f = sym (step_back_lem s) ∙ ap₂ step_by e f ∙ step_back_lem r
-
 -- ---- fields and variants by their codes
 sought_field : (s : Step) → step_code_of s ≡ field_code → name_sought s ≡ name_in s
 sought_field (field name) e = refl
@@ -77,7 +74,7 @@ sought_other key e = refl
 sought_other value e = refl
 sought_other (variant k name) e = refl
 
-sought_all : (s : Step) → is_variant s ≡ false → name_sought s ≡ name_in s
+pub sought_all : (s : Step) → is_variant s ≡ false → name_sought s ≡ name_in s
 sought_all (field name) e = refl
 sought_all element e = refl
 sought_all (position i) e = refl
@@ -85,10 +82,10 @@ sought_all key e = refl
 sought_all value e = refl
 sought_all (variant k name) e = absurd (true≢false e)
 
-abbrev variant_code : ℕ → Bool
+abbrev pub variant_code : ℕ → Bool
 variant_code code = leb 5 code && eqb (code % 2) 1
 
-variant_code_lem : (s : Step) → is_variant s ≡ variant_code (step_code_of s)
+pub variant_code_lem : (s : Step) → is_variant s ≡ variant_code (step_code_of s)
 variant_code_lem (field name) = refl
 variant_code_lem element = refl
 variant_code_lem (position i) = rw (ne_eqb ((4 + 2 * i) % 2) 1 (omega arith)) (and_no (leb 5 (4 + 2 * i)))
@@ -100,7 +97,7 @@ variant_code_lem key = refl
 variant_code_lem value = refl
 variant_code_lem (variant k name) = rw (le-leb 5 (5 + 2 * k) (omega arith), eq-eqb ((5 + 2 * k) % 2) 1 (omega arith))
 
-number_code : (s : Step) → is_variant s ≡ true → 5 + 2 * variant_of s ≡ step_code_of s
+pub number_code : (s : Step) → is_variant s ≡ true → 5 + 2 * variant_of s ≡ step_code_of s
 number_code (field name) e = absurd (false≢true e)
 number_code element e = absurd (false≢true e)
 number_code (position i) e = absurd (false≢true e)
@@ -113,7 +110,7 @@ pub near_codes : (s r : Step) → near s r ≡ true → step_code_of s ≡ step_
 unfolding near
 near_codes s r e = both (eqb (step_code_of s) (step_code_of r)) (eq_name (name_sought s) (name_sought r)) e λ p q. eqb-true (step_code_of s) (step_code_of r) p
 
-near_names : (s r : Step) → near s r ≡ true → name_sought s ≡ name_sought r
+pub near_names : (s r : Step) → near s r ≡ true → name_sought s ≡ name_sought r
 unfolding near
 near_names s r e = both (eqb (step_code_of s) (step_code_of r)) (eq_name (name_sought s) (name_sought r)) e λ p q. eq_name_true (name_sought s) (name_sought r) q
 
@@ -134,13 +131,6 @@ near_number s r e l = near_by s r e (sought_other s (λ d. omega arith) ∙ sym 
 
 pub near_sym : (s r : Step) → near s r ≡ near r s
 near_sym s r = same_test (near s r) (near r s) (λ e. near_by r s (sym (near_codes s r e)) (sym (near_names s r e))) (λ e. near_by s r (sym (near_codes r s e)) (sym (near_names r s e)))
-
--- the names of near steps are equal exactly where the steps are
-pub near_name : (s r : Step) → near s r ≡ true → eq_name (name_in r) (name_in s) ≡ same s r
-near_name s r e =
-    same_test (eq_name (name_in r) (name_in s)) (same s r)
-    (λ f. rw (step_is s r (near_codes s r e) (sym (eq_name_true (name_in r) (name_in s) f))) (same_refl r))
-    (λ f. rw (same_true s r f) (eq_name_refl (name_in r)))
 
 -- steps that are not near are neither equal nor two names of one variant
 pub far_same : (s r : Step) → near s r ≡ false → same s r ≡ false
@@ -168,22 +158,6 @@ same_renames s r e = rw e (go (is_variant s && is_variant r) (eqb (variant_of s)
     go true false = refl
     go false true = refl
     go false false = refl
-
--- near steps that are not equal are two names of one variant
-pub near_renames : (s r : Step) → near s r ≡ true → same s r ≡ false → renames s r ≡ true
-near_renames s r e f =
-    let c : step_code_of s ≡ step_code_of r = near_codes s r e in
-    let v : is_variant s ≡ is_variant r = variant_code_lem s ∙ ap variant_code c ∙ sym (variant_code_lem r) in
-    cases (is_variant s)
-    (λ a.
-    let b : is_variant r ≡ true = sym v ∙ a in
-    let x : 5 + 2 * variant_of s ≡ step_code_of s = number_code s a in
-    let y : 5 + 2 * variant_of r ≡ step_code_of r = number_code r b in
-    rw (a, b, eq-eqb (variant_of s) (variant_of r) (omega arith), f))
-    (λ a.
-    let b : is_variant r ≡ false = sym v ∙ a in
-    let same_name : name_in s ≡ name_in r = sym (sought_all s a) ∙ near_names s r e ∙ sought_all r b in
-    absurd (true≢false (sym (rw (step_is s r c same_name) (same_refl r)) ∙ f)))
 
 -- ---- what the words of a child say of its step
 pub dots_of_lem : (s : Step) → dots_of s ≡ 1 + dots (name_in s)

@@ -29,7 +29,7 @@ use Rattle.places.specs.Layout.{samples_word}
 use Rattle.refine.specs.laws.numbered.Tree.{Spot, spot, Spots, num, steps_s, spot_at, put_s, walk, walk_parts}
 use Rattle.refine.specs.laws.reading.Steps.{name_in, dots_of_lem, Stands}
 use Rattle.refine.specs.laws.words.Places.{Fits, After, stays, and_then}
-use Rattle.refine.specs.laws.words.Part.{Ensures, there, no_place, ensure_is, touch, touched_is, child_fits, lift}
+use Rattle.refine.proofs.words.Part.{Ensures, there, no_place, ensure_is, touch, touched_is, child_fits, lift}
 use Rattle.refine.specs.laws.reading.Commands.{Says, says_end, says_step, says_bad, part_says, shape_in}
 use Rattle.commands.specs.Bytes.{Bytes}
 

@@ -18,7 +18,7 @@ use Rattle.refine.specs.laws.numbered.Numbers.{first_of, Good, GoodIn, bounded, 
 use Rattle.refine.specs.laws.words.Places.{Cell, Rep, RepIn}
 use Rattle.refine.specs.laws.numbered.Erased.{erase, erase_in, erased}
 use Rattle.commands.specs.Bytes.{Bytes}
-use Rattle.refine.specs.laws.words.Batch.{Ends, ends, turned_down_lem, flat_is_walk}
+use Rattle.refine.proofs.words.Batch.{Ends, ends, turned_down_lem, flat_is_walk}
 
 one_is : (b : Bool) → eqb (one b) 1 ≡ b
 one_is true = refl

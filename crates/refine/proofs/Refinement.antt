@@ -8,7 +8,7 @@ use Rattle.model.specs.Tracing.{trace}
 use Rattle.samples.specs.Samples.{from_samples}
 use Rattle.refine.specs.Tree.{outcome}
 use Rattle.commands.specs.Bytes.{Bytes}
-use Rattle.refine.specs.laws.Outcome.{flat_outcome}
+use Rattle.refine.proofs.Outcome.{flat_outcome}
 use Rattle.refine.specs.laws.numbered.Erased.{walk_is_model}
 
 pub traced_is_model : (options : ℕ) (commands text : List ℕ) → Bytes commands → length commands ≤ input_limit →

@@ -11,7 +11,7 @@ use Rattle.samples.specs.Samples.{from_samples}
 use Rattle.leaves.specs.Leaves.{out}
 use Rattle.commands.specs.Bytes.{Bytes}
 use Rattle.refine.specs.laws.numbered.Erased.{erase, erased, walk_is_model}
-use Rattle.refine.specs.laws.words.Batch.{flat_is_walk}
+use Rattle.refine.proofs.words.Batch.{flat_is_walk}
 use Rattle.schema.specs.Emit.{to_schema_at}
 use Rattle.order.specs.Sort.{sorted_places}
 use Rattle.emission.specs.laws.order.Arranged.{FitS}
@@ -20,7 +20,7 @@ use Rattle.emission.specs.laws.tree.Cover.{cover}
 use Rattle.emission.specs.laws.tree.Fit.{fit}
 use Rattle.emission.specs.laws.secondwalk.Neat.{neat}
 use Rattle.emission.specs.Emits.{Emits}
-use Rattle.emission.specs.laws.Emitted.{emitted_is_model, tree_said}
+use Rattle.emission.proofs.Emitted.{emitted_is_model, tree_said}
 
 -- what is emitted of a batch that was traced, its children put in order, is what the model gives
 pub schema_is_model : (options : ℕ) (commands text : List ℕ) → Bytes commands → length commands ≤ input_limit →

@@ -41,12 +41,12 @@ use Rattle.places.specs.Layout.{kind_word, null_word, samples_word}
 use Rattle.refine.specs.laws.numbered.Tree.{Spot, spot, Spots, num, make_all_s, walk, walk_parts}
 use Rattle.refine.specs.laws.reading.Steps.{Stands}
 use Rattle.refine.specs.laws.words.Places.{Fits, After, stays, and_then, set_kind, set_null, set_samples}
-use Rattle.refine.specs.laws.words.Part.{ensure_is}
+use Rattle.refine.proofs.words.Part.{ensure_is}
 use Rattle.refine.specs.laws.reading.Commands.{command_name, shape_in, Shapes, leaves, opens, chooses, nothing, shape_says, byte_is, starts, some_read, newtype_read}
 use Rattle.commands.specs.Bytes.{Bytes}
-use Rattle.refine.specs.laws.words.Parts.{Agrees, went, balked, agrees_after, wrap, read_in, Fuel, low, Reads, after_ensure, parts_sim}
+use Rattle.refine.proofs.words.Parts.{Agrees, went, balked, agrees_after, wrap, read_in, Fuel, low, Reads, after_ensure, parts_sim}
 use Rattle.refine.specs.laws.words.Kinds.{meets, met_level, of_met}
-use Rattle.refine.specs.laws.words.Made.{EnsuresAll, all_there, ensure_made, not_all}
+use Rattle.refine.proofs.words.Made.{EnsuresAll, all_there, ensure_made, not_all}
 
 -- ---- one value
 walk_marked : (options depth n p : ℕ) (b : Bool) (k m : ℕ) (ks : Spots) (v : Value) → walk options depth (marked true v) n (spot p b k m ks) ≡ walk options depth v n (spot p true k m ks)

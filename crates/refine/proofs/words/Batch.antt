@@ -20,11 +20,11 @@ use Rattle.leaves.specs.Leaves.{Out, out}
 use Rattle.places.specs.Layout.{kind_word, root_word, block_word}
 use Rattle.refine.specs.laws.numbered.Tree.{Spot, no_spots, num, new_spot, walk_all}
 use Rattle.refine.specs.laws.words.Places.{no_block, Fits}
-use Rattle.refine.specs.laws.words.Child.{zero_row}
+use Rattle.refine.proofs.words.Child.{zero_row}
 use Rattle.refine.specs.laws.words.SearchTree.{index_none}
 use Rattle.commands.specs.Bytes.{Bytes}
-use Rattle.refine.specs.laws.words.Parts.{Agrees, went, balked}
-use Rattle.refine.specs.laws.words.Values.{readers_read}
+use Rattle.refine.proofs.words.Parts.{Agrees, went, balked}
+use Rattle.refine.proofs.words.Values.{readers_read}
 
 -- ---- the batch
 -- the whole run: refused alike, or the same count of places and a table that says the tree from place 0 on

@@ -24,7 +24,8 @@ use Rattle.places.specs.Layout.{kind_word, first_word, last_word, root_word, blo
 use Rattle.growth.specs.Growth.{linked, appended, described}
 use Rattle.search.specs.Search.{is_at, find_turn, find_from, find_in}
 use Rattle.refine.specs.laws.numbered.Tree.{Spot, spot, Spots, no_spots, child, num, below_s, steps_s, new_spot, spot_at, add_s}
-use Rattle.refine.specs.laws.reading.Steps.{near, near_name, near_renames, far_same, far_renames, same_renames, step_code_of, name_in, test_is, Stands, unpacked}
+use Rattle.refine.specs.laws.reading.Steps.{near, far_same, far_renames, same_renames, step_code_of, name_in, test_is, Stands, unpacked}
+use Rattle.refine.proofs.reading.Near.{near_name, near_renames}
 use Rattle.refine.specs.laws.numbered.Numbers.{first_of, last_from, within, within_in, near_in, Good, GoodIn, both_false, or_right, not_both, un_true, bounded, bounded_in, self, has_add_old, add_good, not_below, or_left, has_num, has_below}
 use Rattle.refine.specs.laws.words.Places.{own_words, cell_words, Row, Cell, Block, no_block, Rep, RepIn, same_cell, same_block, row_set, frame, Fits, in_row}
 

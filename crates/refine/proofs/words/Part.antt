@@ -28,8 +28,8 @@ use Rattle.refine.specs.laws.numbered.Numbers.{first_of, last_from, within, with
 use Rattle.refine.specs.laws.words.Places.{cell_words, Row, Cell, Block, Rep, RepIn, same_cell, same_block, row_set, frame, frame_in, Fits, After, stays}
 use Rattle.refine.specs.laws.words.SearchTree.{num_in, in_tree, index_kept, indexes_frame, indexes_at, child_apart, put_nums, indexes_put}
 use Rattle.refine.specs.laws.reading.Commands.{position_stands}
-use Rattle.refine.specs.laws.words.Child.{far_has, far_clashes, Sought, absent, present, another, sought}
-use Rattle.refine.specs.laws.words.Entered.{make_after, numbered_sought}
+use Rattle.refine.proofs.words.Child.{far_has, far_clashes, Sought, absent, present, another, sought}
+use Rattle.refine.proofs.words.Entered.{make_after, numbered_sought}
 
 -- ---- a child for a step
 pub data Ensures (text : List ℕ) (s : Step) (p : ℕ) (b : Bool) (k m : ℕ) (ks : Spots) (t : List ℕ) (n at : ℕ) : Result (Counted Spots) → Ensuring → Type 0 where

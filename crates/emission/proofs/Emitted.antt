@@ -18,7 +18,7 @@ use Rattle.refine.specs.laws.numbered.Tree.{Spot, spot, Spots, no_spots, child, 
 use Rattle.refine.specs.laws.numbered.Numbers.{Good}
 use Rattle.refine.specs.laws.words.Places.{Rep, Fits}
 use Rattle.refine.specs.laws.numbered.Erased.{erase}
-use Rattle.refine.specs.laws.words.Batch.{Ends, ends}
+use Rattle.refine.proofs.words.Batch.{Ends, ends}
 use Rattle.walk.specs.declared.Walked.{Walked}
 use Rattle.walk.specs.declared.Walked.TheVariants as W
 use Rattle.walk.specs.Walk.{walked}
@@ -28,7 +28,7 @@ use Rattle.emission.specs.laws.firstwalk.Places.{many_s}
 use Rattle.emission.specs.laws.firstwalk.Children.{fields_of_field}
 use Rattle.emission.specs.laws.firstwalk.Walk.{Sane, SaneIn, WalkSays, first_walk}
 use Rattle.emission.specs.laws.secondwalk.Words.{Neat, NeatIn}
-use Rattle.emission.specs.laws.secondwalk.Root.{finishes}
+use Rattle.emission.proofs.secondwalk.Root.{finishes}
 use Rattle.emission.specs.Emits.{Finishes, Emits}
 
 -- the root's fields, where they are accepted

@@ -24,7 +24,7 @@ use Rattle.refine.specs.laws.reading.Steps.{near, near_codes, near_number, step_
 use Rattle.refine.specs.laws.numbered.Numbers.{last_from, within, within_in, near_in, GoodIn, or_left, or_right, not_both, bounded, bounded_in, self, child_good, has_add_old, add_found}
 use Rattle.refine.specs.laws.words.SearchTree.{num_in, Links, at_root, at_left, at_right, Apart, Index, same_follow, null_follow, in_tree, end_known, end_link, end_child, seek_other, seek_same, index_none, indexes_frame_in, add_nums, indexes_add}
 use Rattle.refine.specs.laws.words.Places.{Block, RepIn, same_block, frame_in, Fits, After}
-use Rattle.refine.specs.laws.words.Child.{far_has, Sought, absent, picked, still_at, Grown, append_grown}
+use Rattle.refine.proofs.words.Child.{far_has, Sought, absent, picked, still_at, Grown, append_grown}
 
 -- ---- links
 -- a link that stands in the table

@@ -32,9 +32,9 @@ use Rattle.refine.specs.laws.numbered.Tree.{Spot, spot, Spots, no_spots, child, 
 use Rattle.refine.specs.laws.reading.Steps.{near, Stands}
 use Rattle.refine.specs.laws.numbered.Numbers.{first_of, near_in, near_add, add_among, add_found}
 use Rattle.refine.specs.laws.words.Places.{Block, Fits, After, stays, and_then, in_row}
-use Rattle.refine.specs.laws.words.Child.{far_has, far_clashes, still_has, still_at, still_first, append_grown}
-use Rattle.refine.specs.laws.words.Entered.{block_after}
-use Rattle.refine.specs.laws.words.Part.{Ensures, there, no_place, ensure_is}
+use Rattle.refine.proofs.words.Child.{far_has, far_clashes, still_has, still_at, still_first, append_grown}
+use Rattle.refine.proofs.words.Entered.{block_after}
+use Rattle.refine.proofs.words.Part.{Ensures, there, no_place, ensure_is}
 use Rattle.refine.specs.laws.reading.Commands.{choices, element_stands, key_stands, value_stands, position_stands}
 
 -- ---- the places that a container makes at once

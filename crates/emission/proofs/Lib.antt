@@ -1,0 +1,3 @@
+pub mod secondwalk
+pub mod Emitted
+pub mod Refinement

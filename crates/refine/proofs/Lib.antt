@@ -1,0 +1,4 @@
+pub mod reading
+pub mod words
+pub mod Outcome
+pub mod Refinement
