@@ -1,34 +1,22 @@
 -- What rests on the order that a canon has: what it says is distinct, it fits, and fields are equal exactly where canons are.
-use Rattle.equality.specs.laws.census.View.{said_of, view, steps_places, find_places, places_in, find_ordered, set_ordered, distinct_seen, samples_fresh, held_fresh, kid_fresh, steps_fresh, distinct_none, view_census, Distinct, same_view, same_views, census_distinct}
-use Rattle.equality.specs.laws.emission.InOrder.{ascends, ascend_below, wrapped, plain_field, plain_fields, fit_more, more_fits, step_back, struct_other, step_back_lem, Named, is_field_lem, named_fits, by_name_plain, steps_canons, order_fits, canons_in_order, arranged_plain, Off, field_arranged, Loose, struct_loose, fit_anywhere, fit_in_order}
-use Rattle.equality.specs.laws.emission.Fields.{kind_back, kind_back_lem, plain_same, kind_at, root_field, root_kind, root_end}
-use Rattle.std.specs.Prelude.{◌≡◌, refl, Bool, true, false, not, ◌&&◌, ◌||◌, List, [], ◌∷◌, ℕ, suc, ◌+◌, ◌-◌, ◌≤◌, ◌<◌, eqb, ltb, zero, ◌++◌}
-use Rattle.std.proofs.Common.{ap, ap₂, sym, ◌∙◌, true≢false, arith, eqb-true, ne_eqb, ltb-true, le-ltb}
-use Rattle.std.proofs.lemmas.Bool.{false≢true}
+use Rattle.equality.specs.laws.census.View.{view_census, Distinct, census_distinct}
+use Rattle.equality.specs.laws.emission.InOrder.{ascends, ascend_below, plain_field, plain_fields, fit_more, more_fits, steps_canons, canons_in_order, arranged_plain, Off, field_arranged, struct_loose, fit_in_order}
+use Rattle.equality.specs.laws.emission.Fields.{plain_same, kind_at, root_field, root_end}
+use Rattle.std.specs.Prelude.{◌≡◌, refl, true, false, not, ◌||◌, List, ℕ, suc, ◌+◌, ◌-◌, eqb}
+use Rattle.std.proofs.Common.{ap, ap₂, sym, ◌∙◌}
 use Rattle.logic.specs.Test.{when◌then◌else◌}
-use Rattle.logic.specs.laws.Test.{cases, both, neither}
-use Rattle.datatype.specs.Codes.{struct, no_strategy, null, dictionary_utf8, dictionary_large_utf8, large_list, tuple_as_struct, map_as_struct, unknown_variant}
-use Rattle.options.specs.Word.{enums_without_data_as_strings, sequence_as_large_list, string_as_large_utf8, string_dictionary_encoding, string_type, binary_type, list_type, dictionary_type, allow_to_string}
-use Rattle.text.specs.Name.{lt_name}
-use Rattle.model.specs.Kinds.{sequence_kind, struct_kind, map_kind, union_kind, tuple_kind, map_mode_kind, is_struct, Step, field, element, position, key, value, variant, same, variant_of}
-use Rattle.model.specs.Tracing.{has, Tree, node, Kids, no_kids, kid, kids_of, samples_of, fresh, steps_of, kid_at, dots_of}
-use Rattle.model.specs.Emission.{Place, shown, Places, none_below, below, dataless, Field, mk, Fields, no_fields, more, type_of, strategy_of, entries_name, name_of, name_in, insert_field, by_name, gaps, arranged, field_of, fields_of, gap, root_fields, root_name, by_number, is_missing, place_of, places_of}
-use Rattle.equality.specs.laws.Base.{and_left, and_right, and_both, not_is_true, same_sym, not_refused, or_left_false, or_right_false, same_true, same_refl}
-use Rattle.equality.specs.laws.Proper.{kind_fits, step_fits, steps_below, fits, fit_below, is_binary, type_fits, all_proper}
-use Rattle.equality.specs.laws.emission.Canon.{insert_place, in_order, canon, canons}
-use Rattle.equality.specs.laws.reordering.Sorting.{precedes, leads, ordered, under, rising, has_insert, has_set, steps_insert, steps_in_order, in_order_already, distinct, find, find_in_order, find_by_number, set_by_number, distinct_set}
-use Rattle.coerce.specs.Joint.{is_string}
+use Rattle.logic.specs.laws.Test.{cases, both}
+use Rattle.options.specs.Word.{allow_to_string}
+use Rattle.model.specs.Kinds.{struct_kind, union_kind, is_struct, variant_of}
+use Rattle.model.specs.Tracing.{Tree, fresh}
+use Rattle.model.specs.Emission.{Place, shown, Places, none_below, below, mk, Fields, more, type_of, strategy_of, name_of, gaps, arranged, field_of, fields_of, root_fields, root_name, place_of}
+use Rattle.equality.specs.laws.Base.{and_both}
+use Rattle.equality.specs.laws.Proper.{kind_fits, steps_below, fits, fit_below, all_proper}
+use Rattle.equality.specs.laws.emission.Canon.{canon, canons}
+use Rattle.equality.specs.laws.reordering.Sorting.{rising}
 use Rattle.model.specs.Result.{accepted}
-use Rattle.std.proofs.Math.Bool.{or-false}
-use Rattle.std.proofs.Math.Option.{Option, none, some}
-use Rattle.logic.specs.Maybe.{and_then}
 use Rattle.model.specs.Reading.{Value}
-use Rattle.model.specs.Census.{Said, census, children_of, as_set, steps_seen, steps_in, parts_of, kind_in, fixed_steps, sight, sights, kinds_seen, kind_seen, samples, holders, is_lacking, any_null}
 use Rattle.model.specs.Unbounded.{see_all}
-use Rattle.equality.specs.laws.census.Standing.{kid_of_values}
-use Rattle.equality.specs.laws.tracing.Place.{held_at, has_snoc, all_null, all_samples, all_held, all_steps, below_proper}
-use Rattle.equality.specs.laws.census.Kind.{kind_seen_lem}
-use Rattle.model.specs.Census as Census
 
 -- nothing is said twice below a canon
 pub distinct_canon : (o : ℕ) → allow_to_string o ≡ false → (d : ℕ) (vs : List Value) (t : Tree) → all_proper o vs ≡ true → see_all o d vs fresh ≡ accepted t → Distinct (canon (place_of false t))

@@ -1,33 +1,16 @@
 -- Schemas are equal exactly when censuses are, of two accepted batches of struct records.
 use Rattle.equality.specs.laws.census.Equal.{Traced, traced_schema, root_struct, bytes_same, same_bytes, accepted_injective}
 use Rattle.equality.proofs.Canon.{distinct_canon, same_root, root_canon}
-use Rattle.std.specs.Prelude.{◌≡◌, refl, ◌↔◌, true, ◌||◌, List, [], ◌∷◌, ℕ, ◌≤◌, eqb, length}
+use Rattle.std.specs.Prelude.{◌≡◌, ◌↔◌, List, ℕ, length}
 use Rattle.std.proofs.Math.Path.{ap, sym}
-use Rattle.std.proofs.Common.{◌∙◌, true≢false}
+use Rattle.std.proofs.Common.{◌∙◌}
 use Rattle.std.proofs.Math.Bool.{false}
-use Rattle.std.proofs.Math.Option.{Option, none, some}
-use Rattle.logic.specs.Test.{when◌then◌else◌}
-use Rattle.logic.specs.All.{All}
-use Rattle.coerce.specs.Census.{type_seen, non_null}
-use Rattle.model.specs.Result.{Result, accepted, refused}
-use Rattle.model.specs.Kinds.{struct_kind, tuple_kind, is_struct}
-use Rattle.model.specs.Reading.{Value}
-use Rattle.model.specs.Tracing.{Tree, node, kind_of, fresh, place_limit, trace}
-use Rattle.model.specs.Emission.{Fields, place_of, walk, field_of, root_fields, root_name, to_schema, records_in, names_in, count_in}
-use Rattle.model.specs.Answer.{Batch, Buffers, Answer, schema_of, answer}
-use Rattle.model.specs.Census.{kind_in, kinds_seen, container_seen, kind_seen, SameCensus}
-use Rattle.model.specs.Demand3.{Plain, Accepted, SameSchema, StructRecords, Holds, records_of}
-use Rattle.equality.specs.laws.Base.{bind_ok, not_refused}
-use Rattle.model.specs.Unbounded.{see_all}
-use Rattle.equality.specs.laws.Proper.{all_proper}
+use Rattle.model.specs.Emission.{Fields, place_of}
+use Rattle.model.specs.Answer.{Batch, Buffers, answer}
+use Rattle.model.specs.Census.{SameCensus}
+use Rattle.model.specs.Demand3.{Plain, Accepted, SameSchema, StructRecords, records_of}
 use Rattle.equality.specs.laws.emission.Canon.{canon}
-use Rattle.equality.specs.laws.tracing.Count.{size, traced}
-use Rattle.equality.specs.laws.tracing.Place.{see_all_whole}
-use Rattle.equality.specs.laws.reading.Records.{values_proper}
-use Rattle.equality.specs.laws.census.Kind.{kind_seen_lem}
 use Rattle.equality.specs.laws.census.View.{view, view_census, same_view}
-use Rattle.equality.specs.laws.emission.Records.{schema_encoded}
-use Rattle.equality.specs.laws.emission.Fields.{kind_at, root_kind}
 use Rattle.equality.specs.laws.tracing.Fitting.{tree_fits, tree_ascends}
 use Rattle.equality.specs.laws.emission.Accepted.{took, holds}
 

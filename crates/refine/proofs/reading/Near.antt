@@ -1,19 +1,14 @@
 -- Near steps: a step is its code and its name, so the names of near steps tell whether the steps are equal or two names of one variant.
-use Rattle.std.specs.Prelude.{◌≡◌, refl, Bool, true, false, not, ◌&&◌, List, [], ◌-◌, ℕ, ◌+◌, ◌*◌, ◌/◌, ◌%◌, ◌<◌, eqb, leb}
-use Rattle.std.proofs.Common.{sym, ap, ap₂, ◌∙◌, true≢false, arith, eqb-true, eq-eqb, ne_eqb, le-leb}
-use Rattle.std.proofs.lemmas.Bool.{false≢true, eqb-false}
-use Rattle.logic.specs.Test.{when◌then◌else◌}
-use Rattle.logic.specs.laws.Test.{cases, both, same_test}
-use Rattle.text.specs.declared.Name.{Name}
-use Rattle.text.specs.Name.{bytes_of, eq_name, dots}
+use Rattle.std.specs.Prelude.{◌≡◌, true, false, ◌+◌, ◌*◌}
+use Rattle.std.proofs.Common.{sym, ap, ap₂, ◌∙◌, true≢false, arith, eq-eqb}
+use Rattle.logic.specs.laws.Test.{cases, same_test}
+use Rattle.text.specs.Name.{eq_name}
 use Rattle.text.specs.laws.Name.{eq_name_true, eq_name_refl}
-use Rattle.model.specs.Kinds.{Step, field, element, position, key, value, variant, same, variant_of, is_variant}
-use Rattle.model.specs.Tracing.{dots_of, renames}
+use Rattle.model.specs.Kinds.{Step, same, variant_of, is_variant}
+use Rattle.model.specs.Tracing.{renames}
 use Rattle.equality.specs.laws.Base.{same_true, same_refl}
-use Rattle.shapes.specs.declared.Step as Flat
-use Rattle.shapes.specs.Steps.{Inside, field_code, code_of, name_of, packed_name, unpacked_name}
 use Rattle.refine.specs.Tree.{step_by}
-use Rattle.refine.specs.laws.reading.Steps.{step_code_of, name_in, name_sought, near, step_back_lem, sought_all, variant_code, variant_code_lem, number_code, near_codes, near_names}
+use Rattle.refine.specs.laws.reading.Steps.{step_code_of, name_in, near, step_back_lem, sought_all, variant_code, variant_code_lem, number_code, near_codes, near_names}
 
 step_is : (s r : Step) → step_code_of s ≡ step_code_of r → name_in s ≡ name_in r → s ≡ r
 step_is s r e f = sym (step_back_lem s) ∙ ap₂ step_by e f ∙ step_back_lem r

@@ -1,7 +1,7 @@
 -- What the places of the schema say, step by step, is what the census says; and places that say the same everywhere are equal.
 use Rattle.std.specs.Prelude.{◌≡◌, refl, Bool, true, false, not, ◌&&◌, ◌||◌, List, [], ◌∷◌, ◌++◌, ℕ, ◌+◌, eqb, ltb}
 use Rattle.std.proofs.Math.Path.{ap}
-use Rattle.std.proofs.Common.{ap₂, sym, ◌∙◌, arith, eqb-true}
+use Rattle.std.proofs.Common.{ap₂, ◌∙◌, arith, eqb-true}
 use Rattle.std.proofs.Math.Bool.{or-false}
 use Rattle.std.proofs.Math.Option.{Option, none, some}
 use Rattle.logic.specs.Test.{when◌then◌else◌}

@@ -11,8 +11,7 @@ use Rattle.model.specs.Kinds.{sequence_kind, struct_kind, map_kind, union_kind, 
 use Rattle.model.specs.Emission.{Place, shown, Places, none_below, below, Field, mk, Fields, no_fields, more, type_of, strategy_of, entries_name, name_of, gap, gaps, arranged, field_of, fields_of, root_fields, root_name}
 use Rattle.equality.specs.laws.Base.{and_left, not_refused}
 use Rattle.equality.specs.laws.Proper.{is_binary, type_fits, kind_fits, fits, fit_below}
-use Rattle.equality.specs.laws.emission.Canon.{canon}
-use Rattle.equality.specs.laws.emission.InOrder.{Off, ascends, field_arranged, fit_more, plain_field, plain_fields, step_back_lem, step_back, wrapped}
+use Rattle.equality.specs.laws.emission.InOrder.{Off, field_arranged, fit_more, plain_field, plain_fields, step_back_lem, step_back, wrapped}
 
 -- ---- a kind, read back from a type and a strategy
 unfoldable pub kind_back : ℕ → ℕ → ℕ → ℕ

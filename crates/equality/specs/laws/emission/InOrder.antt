@@ -12,8 +12,8 @@ use Rattle.model.specs.Kinds.{sequence_kind, struct_kind, map_kind, union_kind, 
 use Rattle.model.specs.Tracing.{has}
 use Rattle.model.specs.Emission.{Place, shown, Places, none_below, below, dataless, Field, mk, Fields, no_fields, more, type_of, strategy_of, entries_name, name_of, name_in, insert_field, by_name, gaps, arranged, field_of, fields_of}
 use Rattle.equality.specs.laws.Base.{and_left, and_right, and_both, not_is_true, same_sym}
-use Rattle.equality.specs.laws.Proper.{kind_fits, step_fits, steps_below, fits, fit_below}
-use Rattle.equality.specs.laws.emission.Canon.{insert_place, in_order, canon, canons}
+use Rattle.equality.specs.laws.Proper.{step_fits, steps_below, fits, fit_below}
+use Rattle.equality.specs.laws.emission.Canon.{insert_place, in_order, canons}
 use Rattle.equality.specs.laws.reordering.Sorting.{precedes, leads, ordered, under, rising, has_insert, has_set, steps_insert, steps_in_order, in_order_already}
 
 -- ---- the premise on unions: the numbers of their variants rise, as `by_number` leaves them where no two are the same

@@ -1,6 +1,6 @@
 -- A step by its code and its name, as the words of the table have it, and which steps the flat search takes for one another.
 use Rattle.std.specs.Prelude.{◌≡◌, refl, Bool, true, false, not, ◌&&◌, List, [], ◌-◌, ℕ, ◌+◌, ◌*◌, ◌/◌, ◌%◌, ◌<◌, eqb, leb}
-use Rattle.std.proofs.Common.{sym, ap, ap₂, ◌∙◌, true≢false, arith, eqb-true, eq-eqb, ne_eqb, le-leb}
+use Rattle.std.proofs.Common.{sym, ◌∙◌, true≢false, arith, eqb-true, eq-eqb, ne_eqb, le-leb}
 use Rattle.std.proofs.lemmas.Bool.{false≢true, eqb-false}
 use Rattle.logic.specs.Test.{when◌then◌else◌}
 use Rattle.logic.specs.laws.Test.{cases, both, same_test}
@@ -9,7 +9,7 @@ use Rattle.text.specs.Name.{bytes_of, eq_name, dots}
 use Rattle.text.specs.laws.Name.{eq_name_true, eq_name_refl}
 use Rattle.model.specs.Kinds.{Step, field, element, position, key, value, variant, same, variant_of, is_variant}
 use Rattle.model.specs.Tracing.{dots_of, renames}
-use Rattle.equality.specs.laws.Base.{same_true, same_refl}
+use Rattle.equality.specs.laws.Base.{same_true}
 use Rattle.shapes.specs.declared.Step as Flat
 use Rattle.shapes.specs.Steps.{Inside, field_code, code_of, name_of, packed_name, unpacked_name}
 use Rattle.refine.specs.Tree.{step_by}
