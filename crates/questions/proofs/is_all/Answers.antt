@@ -6,13 +6,13 @@ use Rattle.questions.specs.laws.Left.{no, yes, alike, alike_at}
 use Rattle.questions.proofs.is_all.Goals as goal
 
 pub loop-i-init : goal.loop-i-init
-loop-i-init c = (search rules, below_none _)
+loop-i-init c = (below_none _, search rules)
 
 pub returns-then-words-i : goal.returns-then-words-i
 returns-then-words-i c = no _ (λ e. c.if-words-i.true (alike_at _ _ _ (search rules) e))
 
 pub loop-i-preserved : goal.loop-i-preserved
-loop-i-preserved c = (search rules, below_more _ _ c.loop-i.invariant.1 c.if-words-i.false)
+loop-i-preserved c = (below_more _ _ c.loop-i.invariant.0 c.if-words-i.false, search rules)
 
 pub returns : goal.returns
-returns c = yes _ (alike _ _ (λ k below. c.loop-i.invariant.1 k (lt_of_lt_of_le below c.loop-i-test.false)))
+returns c = yes _ (alike _ _ (λ k below. c.loop-i.invariant.0 k (lt_of_lt_of_le below c.loop-i-test.false)))

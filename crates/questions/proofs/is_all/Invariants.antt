@@ -5,7 +5,7 @@ use lib.ListN.{length, get_or}
 use Rattle.questions.proofs.is_all.Given as goal
 
 abbrev pub invariant-loop-i : goal.invariant-loop-i
-invariant-loop-i l = (l.i ≤ length l.words) × ((k : ℕ) → k < l.i → get_or l.words k 0 ≡ l.word)
+invariant-loop-i l = ((k : ℕ) → k < l.i → get_or l.words k 0 ≡ l.word) × (l.i ≤ length l.words)
 
 abbrev pub decreases-loop-i : goal.decreases-loop-i
 decreases-loop-i l = length l.words - l.i
