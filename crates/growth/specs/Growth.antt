@@ -61,7 +61,8 @@ pub data Ensuring : Type 0 where
 
 unfoldable pub confirmed : List ℕ → Name → ℕ → ℕ → List ℕ → Ensured
 confirmed text name child n t =
-    when eq_name (bytes_of text (unpacked_name (word t child name_word))) (bytes_of text name) then E.Child child n else E.Refused F.TwoNames
+    when eq_name (bytes_of text (unpacked_name (word t child name_word))) (bytes_of text name) then E.Child child n
+    else E.Refused F.TwoNames
 
 unfoldable pub ensured_by : List ℕ → ℕ → ℕ → Name → ℕ → List ℕ → ℕ → Ensuring
 ensured_by text place code name n t child =

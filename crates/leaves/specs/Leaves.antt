@@ -23,7 +23,9 @@ on_met here t k (M.Refused refusal) = out (T.Refused refusal here) t
 
 -- ---- a primitive at a place
 unfoldable pub stored : Bool → ℕ → ℕ → List ℕ → List ℕ
-stored null kind place t = when null then with_word (with_word t place kind_word kind) place null_word 1 else with_word t place kind_word kind
+stored null kind place t =
+    when null then with_word (with_word t place kind_word kind) place null_word 1
+    else with_word t place kind_word kind
 
 unfoldable pub observed : ℕ → Bool → ℕ → ℕ → ℕ → ℕ → ℕ → ℕ → List ℕ → Out
 observed options null kind levels here behind place n t =

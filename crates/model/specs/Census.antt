@@ -118,7 +118,9 @@ census options [] lacking vs =
       kind = kind_seen options (kinds_seen vs);
       children = children_of (kind_seen options (kinds_seen vs)) (steps_seen vs []);
     })
-census options (s ∷ steps) lacking vs = when has s (steps_seen vs []) then census options steps (is_lacking options s vs) (below s vs) else none
+census options (s ∷ steps) lacking vs =
+    when has s (steps_seen vs []) then census options steps (is_lacking options s vs) (below s vs)
+    else none
 
 -- censuses are equal when they have the same places and say the same of each
 unfoldable pub SameCensus : ℕ → List Value → List Value → Type 0

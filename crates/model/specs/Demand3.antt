@@ -51,7 +51,8 @@ as_map kind = eqb kind map_kind || eqb kind map_mode_kind
 
 -- the batch shows no place both as struct and as map
 abbrev pub NoPlaceBoth : Batch → Type 0
-NoPlaceBoth b = (steps : List Step) → (shows as_struct (standing steps (records_of b)) && shows as_map (standing steps (records_of b))) ≡ false
+NoPlaceBoth b =
+    (steps : List Step) → (shows as_struct (standing steps (records_of b)) && shows as_map (standing steps (records_of b))) ≡ false
 
 -- ---- a batch's records in another order
 -- one whole record, and nothing else

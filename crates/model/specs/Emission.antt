@@ -25,7 +25,9 @@ mutual
 -- by number
 unfoldable pub insert_variant : Step → Place → Places → Places
 insert_variant s p none_below = below s p none_below
-insert_variant s p (below r q ps) = when ltb (variant_of s) (variant_of r) then below s p (below r q ps) else below r q (insert_variant s p ps)
+insert_variant s p (below r q ps) =
+    when ltb (variant_of s) (variant_of r) then below s p (below r q ps)
+    else below r q (insert_variant s p ps)
 
 unfoldable pub by_number : Places → Places
 by_number none_below = none_below
