@@ -18,7 +18,7 @@ pub struct Loaded {
     pub bytes: usize,
 }
 
-// One read. A failed one has put nothing into the buffer.
+// One read. Of a failed one no byte counts.
 fn read_some<R: Eprint, F: Read>(rt: &R, file: &mut F, path: &str, buffer: &mut [u8]) -> Loaded
     ensures { IsPrefixLen result.bytes buffer.new }
 {
