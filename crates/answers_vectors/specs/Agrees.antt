@@ -97,10 +97,10 @@ question_tally vectors = tally (length vectors) (question_end vectors) (λ at. a
 
 -- ---- the same of slices, as contracts have them
 -- the call, lent as much of the table and the buffers as a question says
-abbrev pub CalledOver : (question commands text : Slice) (table fields names : MutSlice) → R.Answer → Type 0
+abbrev pub CalledOver : (question : List ℕ) (commands text : Slice) (table fields names : MutSlice) → R.Answer → Type 0
 CalledOver question commands text table fields names r =
     said r (left_in table fields names)
-    ≡ answer_over (now_of question) (handed (now_of question) (now_of commands) (now_of text)) (lent_in table fields names)
+    ≡ answer_over question (handed question (now_of commands) (now_of text)) (lent_in table fields names)
 
-abbrev pub Met : (question commands text records names : Slice) → Type 0
-Met question commands text records names = Gives (now_of question) (now_of commands) (now_of text) (now_of records) (now_of names)
+abbrev pub Met : (question : List ℕ) (commands text records names : Slice) → Type 0
+Met question commands text records names = Gives question (now_of commands) (now_of text) (now_of records) (now_of names)

@@ -4,41 +4,34 @@
 
 #![tactic(auto)]
 
-ghost use Rattle.std.specs.Prelude.{◌≡◌, true, ◌↔◌, ◌≤◌, min, length};
-ghost use Rattle.questions.specs.Question.{header_bytes};
+ghost use Rattle.std.specs.Prelude.{◌≡◌, true, ◌↔◌, ◌≤◌, ◌<◌, List, ℕ, length};
+ghost use Rattle.questions.specs.Question.{question_end};
+ghost use Rattle.answers_vectors.specs.laws.Agrees.{question_is_end};
 ghost use Rattle.answers_vectors.specs.Agrees.{CalledOver, Met, agrees, question_tally};
 
 use fasthrom::Answer;
-use questions::{BYTE, HEADER, ROOM, WORD};
-use replay::Tally;
-use std::rt::Files;
+use questions::{BYTE, HEADER, Question, ROOM, WORD};
+use replay::{Layout, Tally};
 
 // Words of the table, of which a question lends the first.
 const TABLE: usize = 16400;
 
-fn least(a: usize, b: usize) -> usize
-    ensures { result ≡ min a b }
-{
-    if a < b { a } else { b }
-}
-
 // The call over as much of the table and the buffers as the header lends.
 fn call(
-    header: &[u8],
+    question: &Question<'_>,
     commands: &[u8],
     text: &[u8],
     table: &mut [u32],
     fields: &mut [u8],
     names: &mut [u8],
 ) -> Answer
-    requires { header_bytes ≤ length header.now }
-    ensures { CalledOver header commands text table fields names result }
+    ensures { CalledOver question.now.bytes.now commands text table fields names result }
 {
-    let words = least(questions::number(header, 0), table.len());
-    let record_bytes = least(questions::number(header, 3), fields.len());
-    let name_bytes = least(questions::number(header, 4), names.len());
+    let words = question.number(0).min(table.len());
+    let record_bytes = question.number(3).min(fields.len());
+    let name_bytes = question.number(4).min(names.len());
     fasthrom::fasthrom_trace(
-        questions::options(header),
+        question.options(),
         commands,
         text,
         &mut table[..words],
@@ -48,9 +41,14 @@ fn call(
 }
 
 // Whether the call gives what the question says: these field records and names, or its refusal.
-fn is_met(question: &[u8], commands: &[u8], text: &[u8], records: &[u8], names: &[u8]) -> bool
-    requires { header_bytes ≤ length question.now }
-    ensures { result ≡ true ↔ Met question commands text records names }
+fn is_met(
+    question: &Question<'_>,
+    commands: &[u8],
+    text: &[u8],
+    records: &[u8],
+    names: &[u8],
+) -> bool
+    ensures { result ≡ true ↔ Met question.now.bytes.now commands text records names }
 {
     let mut table = [WORD; TABLE];
     let mut fields = [BYTE; ROOM];
@@ -63,75 +61,76 @@ fn is_met(question: &[u8], commands: &[u8], text: &[u8], records: &[u8], names: 
         &mut fields,
         &mut named,
     );
-    if !questions::is_answered(
-        question,
-        answer.refusal,
-        answer.place,
-        answer.field_records,
-        answer.name_bytes,
-        answer.columns,
-    ) {
-        return false;
-    }
-    if !questions::is_written(&fields, records) {
-        return false;
-    }
-    if !questions::is_written(&named, names) {
-        return false;
-    }
-    questions::is_left(&table, answer.refusal)
+    let answered = questions::Answer {
+        refusal: answer.refusal,
+        place: answer.place,
+        field_records: answer.field_records,
+        name_bytes: answer.name_bytes,
+        columns: answer.columns,
+    };
+    question.is_answered(answered)
+        && questions::is_written(&fields, records)
+        && questions::is_written(&named, names)
+        && questions::is_left(&table, answer.refusal)
 }
 
 // A question: the header, the commands, the text, and the field records and names of the answer.
-fn agrees(question: &[u8]) -> bool
-    ensures { result ≡ agrees question.now }
+fn agrees(bytes: &[u8]) -> bool
+    ensures { result ≡ agrees bytes.now }
 {
-    if question.len() < HEADER {
+    let Some(question) = Question::new(bytes) else {
         return false;
-    }
-    let text = HEADER + questions::number(question, 1);
-    let records = text + questions::number(question, 2);
-    let names = records + questions::number(question, 7) * 8;
-    if question.len() < names {
+    };
+    let text = HEADER + question.number(1);
+    let records = text + question.number(2);
+    let names = records + question.number(7) * 8;
+    if bytes.len() < names {
         return false;
     }
     is_met(
-        question,
-        &question[HEADER..text],
-        &question[text..records],
-        &question[records..names],
-        &question[names..],
+        &question,
+        &bytes[HEADER..text],
+        &bytes[text..records],
+        &bytes[records..names],
+        &bytes[names..],
     )
 }
 
+// How questions lie in a file: each to its own end, with all of it handed on.
+#[derive(Clone, Copy)]
+struct Questions;
+
+impl Layout for Questions {
+    ghost end = { question_end };
+
+    ghost HEAD = { 0 };
+
+    ghost is_end = { question_is_end };
+
+    const HEAD: usize = 0;
+
+    fn end_of(&self, vectors: &[u8], at: usize) -> usize {
+        questions::end_of_question(vectors, at)
+    }
+}
+
+// The questions of a file, put to the call.
 fn replay_all(rt: &impl Print, vectors: &[u8]) -> Tally
     ensures { result ≡ question_tally vectors.now }
 {
-    let mut at = 0;
-    let mut records = 0;
-    let mut differ = 0;
-    while at < vectors.len() {
-        let end = questions::end_of_question(vectors, at);
-        differ += replay::differs(rt, records, agrees(&vectors[at..end]));
-        records += 1;
-        at = end;
-    }
-    Tally { records, differ }
-}
-
-fn replay_file<R: Files + Print + Eprint>(rt: &R, path: &[u8], what: &[u8]) {
-    let mut buffer = [0u8; 262144];
-    let loaded = files::load(rt, path, &mut buffer);
-    let n = loaded.bytes;
-    let tally = replay_all(rt, &buffer[..n]);
-    replay::report(rt, tally, what, n);
+    replay::replay(rt, vectors, Questions, agrees)
 }
 
 fn main(rt: HostRuntime) {
-    replay_file(&rt, b"shaped.bin", b" batches of a shape");
-    replay_file(&rt, b"damaged.bin", b" damaged batches");
-    replay_file(&rt, b"options.bin", b" batches under each option");
-    replay_file(&rt, b"limits.bin", b" batches near the limits");
-    replay_file(&rt, b"lengths.bin", b" batches of the greatest length");
-    replay_file(&rt, b"edition_2.bin", b" batches in edition 2");
+    let files = [
+        ("shaped.bin", "batches of a shape"),
+        ("damaged.bin", "damaged batches"),
+        ("options.bin", "batches under each option"),
+        ("limits.bin", "batches near the limits"),
+        ("lengths.bin", "batches of the greatest length"),
+        ("edition_2.bin", "batches in edition 2"),
+    ];
+    for (path, what) in files {
+        replay::replay_file(&rt, path, what, |vectors| replay_all(&rt, vectors));
+    }
 }

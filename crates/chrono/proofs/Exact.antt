@@ -1,119 +1,91 @@
 -- The matchers' reading is right: nothing that comes after a run of digits could have taken its last digits, and no two
 -- choices begin alike.
-use mathlib.Core.Path.{◌≡◌, refl, sym, ap, ◌∙◌}
-use mathlib.Core.Bool.{Bool, true, false, false≢true}
-use mathlib.Core.List.{List, [], ◌∷◌, ◌++◌}
-use Prim.Native.Nat.{ℕ, ◌+◌, ◌<◌}
-use native.Mathlib.Numerals.{add-one}
-use native.Mathlib.Omega.{arith}
-use lib.Dec.{ltb, eqb, eqb-suc-zero}
-use lib.ListN.{length, get_or, drop, drop_of_length-le}
-use lib.Seq.{drop-cons, drop-drop}
-use borrow.Author.Tests.{ltb-true, ltb-false, eqb-true}
-use Rattle.logic.specs.Test.{when◌then◌else◌}
+use Rattle.std.proofs.Common.{◌≡◌, refl, sym, ap, ◌∙◌, Bool, true, false, List, [], ◌∷◌, ◌++◌, ℕ, eqb, Option, Some, None, option_and_then, eqb-true}
+use Rattle.std.specs.Option.{option_or}
+use Rattle.std.proofs.lemmas.Bool.{false≢true}
 use Rattle.logic.specs.laws.Test.{cases}
-use Rattle.chrono.specs.declared.Matched.{Matched}
-use Rattle.chrono.specs.declared.Matched.TheVariants.{Rest, No}
 use Rattle.chrono.specs.Grammar.{Grammar, nothing, one, many, ◌then◌, ◌or◌, byte, word, optional, leads, leads_many, is_empty, fits}
 use Rattle.chrono.specs.Date.{plus, minus, dot, colon, T', blank, Z', z', is_digit, digit, digits, one_or_two_digits, subsecond, separator, naive_date, naive_time, naive_datetime, short_offset, long_offset, utc_zone, utc_datetime}
-use Rattle.chrono.specs.Scan.{run, onward, instead, scan, of_rest}
+use Rattle.chrono.specs.Scan.{skip, scan, of_rest}
 
 -- where `k` is to hold of what is left, a grammar is matched as `scan` finds it
 abbrev Exact : Grammar → (List ℕ → Bool) → Type 0
-Exact g k = (s : List ℕ) (i : ℕ) → leads g (drop i s) k ≡ of_rest k s (scan g s i)
+Exact g k = (s : List ℕ) → leads g s k ≡ of_rest k (scan g s)
 
 nothing_exact : (k : List ℕ → Bool) → Exact nothing k
 unfolding leads scan
-nothing_exact k s i = refl
+nothing_exact k s = refl
 
 pub one_exact : (t : ℕ → Bool) (k : List ℕ → Bool) → Exact (one t) k
-unfolding leads scan when◌then◌else◌
-one_exact t k s i =
-    cases (ltb i (length s))
-    (λ e.
-    let h : i < length s = ltb-true i (length s) e in
-    rw (e, drop-cons s i 0 h) (cases (t (get_or s i 0)) (λ f. rw (f, add-one i)) (λ f. rw f)))
-    (λ e. rw (e, drop_of_length-le s (ltb-false i (length s) e)))
+unfolding leads scan
+one_exact t k [] = refl
+one_exact t k (c ∷ s) = cases (t c) (λ e. rw e) (λ e. rw e)
 
 then_exact : (g h : Grammar) (k : List ℕ → Bool) → Exact g (λ u. leads h u k) → Exact h k → Exact (g then h) k
 unfolding leads scan
-then_exact g h k a b s i = a s i ∙ go (scan g s i)
+then_exact g h k a b s = a s ∙ go (scan g s)
   where
-    go : (m : Matched) → of_rest (λ u. leads h u k) s m ≡ of_rest k s (onward m (scan h s))
-    go (Rest j) = b s j
-    go No = refl
+    go : (m : Option (List ℕ)) → of_rest (λ u. leads h u k) m ≡ of_rest k (option_and_then (scan h) m)
+    go (Some u) = b u
+    go None = refl
 
 -- a choice, where the other way fails wherever the first is found
 first_only : (x y b : Bool) → x ≡ b → y ≡ false → elim x [ true ↦ true | false ↦ y ] ≡ b
 first_only true y b e f = e
 first_only false y b e f = f ∙ e
 
-or_exact : (g h : Grammar) (k : List ℕ → Bool) → Exact g k → Exact h k → ((s : List ℕ) (i j : ℕ) → scan g s i ≡ Rest j → leads h (drop i s) k ≡ false) → Exact (g or h) k
+or_exact : (g h : Grammar) (k : List ℕ → Bool) → Exact g k → Exact h k → ((s u : List ℕ) → scan g s ≡ Some u → leads h s k ≡ false) → Exact (g or h) k
 unfolding leads scan
-or_exact g h k a b f s i = go (scan g s i) refl
+or_exact g h k a b f s = go (scan g s) refl
   where
-    go : (m : Matched) → scan g s i ≡ m → leads (g or h) (drop i s) k ≡ of_rest k s (instead m (scan h s i))
-    go (Rest j) e = first_only (leads g (drop i s) k) (leads h (drop i s) k) (k (drop j s)) (a s i ∙ ap (of_rest k s) e) (f s i j e)
-    go No e = rw (a s i ∙ ap (of_rest k s) e) (b s i)
+    go : (m : Option (List ℕ)) → scan g s ≡ m → leads (g or h) s k ≡ of_rest k (option_or m (scan h s))
+    go (Some u) e = first_only (leads g s k) (leads h s k) (k u) (a s ∙ ap (of_rest k) e) (f s u e)
+    go None e = rw (a s ∙ ap (of_rest k) e) (b s)
 
--- what a match tells of the text that it is found at
-pub no_rest : {P : Type 0} {j : ℕ} → No ≡ Rest j → P
-no_rest e = let z : ◌≡◌ {A = ℕ} 0 1 = cc in absurd (omega arith)
-
-pub one_at : (t : ℕ → Bool) (s : List ℕ) (i j : ℕ) → scan (one t) s i ≡ Rest j → (t (get_or s i 0) ≡ true) × (drop i s ≡ get_or s i 0 ∷ drop j s)
-unfolding scan when◌then◌else◌
-one_at t s i j e =
-    cases (ltb i (length s))
-    (λ l.
-    cases (t (get_or s i 0))
-    (λ p.
-    let f : Rest (i + 1) ≡ Rest j = rw (l, p) at e in
-    let d : i + 1 ≡ j = cc in
-    (p, rw (← d, add-one i) (drop-cons s i 0 (ltb-true i (length s) l))))
-    (λ p. no_rest (rw (l, p) at e)))
-    (λ l. no_rest (rw l at e))
-
-pub then_at : (g h : Grammar) (s : List ℕ) (i j : ℕ) → scan (g then h) s i ≡ Rest j → (m : ℕ) × (scan g s i ≡ Rest m) × (scan h s m ≡ Rest j)
+-- what a match tells of the text that it is found in
+pub one_at : (t : ℕ → Bool) (s u : List ℕ) → scan (one t) s ≡ Some u → (c : ℕ) × (t c ≡ true) × (s ≡ c ∷ u)
 unfolding scan
-then_at g h s i j = go (scan g s i)
+one_at t [] u e = cc
+one_at t (c ∷ s) u e =
+    cases (t c)
+    (λ p. let d : ◌≡◌ {A = Option (List ℕ)} (Some s) (Some u) = rw p at e in let d : s ≡ u = cc in (c, p, rw d))
+    (λ p. let d : ◌≡◌ {A = Option (List ℕ)} None (Some u) = rw p at e in cc)
+
+pub then_at : (g h : Grammar) (s u : List ℕ) → scan (g then h) s ≡ Some u → (m : List ℕ) × (scan g s ≡ Some m) × (scan h m ≡ Some u)
+unfolding scan
+then_at g h s u = go (scan g s)
   where
-    go : (r : Matched) → onward r (scan h s) ≡ Rest j → (m : ℕ) × (r ≡ Rest m) × (scan h s m ≡ Rest j)
-    go (Rest m) e = (m, refl, e)
-    go No e = no_rest e
+    go : (r : Option (List ℕ)) → option_and_then (scan h) r ≡ Some u → (m : List ℕ) × (r ≡ Some m) × (scan h m ≡ Some u)
+    go (Some m) e = (m, refl, e)
+    go None e = cc
 
-pub byte_at : (b : ℕ) (s : List ℕ) (i j : ℕ) → scan (byte b) s i ≡ Rest j → drop i s ≡ b ∷ drop j s
-byte_at b s i j e = let (x, d) = one_at (λ c. eqb c b) s i j e in rw (← eqb-true (get_or s i 0) b x) d
+pub byte_at : (b : ℕ) (s u : List ℕ) → scan (byte b) s ≡ Some u → s ≡ b ∷ u
+byte_at b s u e = let (c, x, d) = one_at (λ c. eqb c b) s u e in rw (← eqb-true c b x) d
 
-word_at : (w s : List ℕ) (i j : ℕ) → scan (word w) s i ≡ Rest j → drop i s ≡ w ++ drop j s
+word_at : (w s u : List ℕ) → scan (word w) s ≡ Some u → s ≡ w ++ u
 unfolding scan
-word_at [] s i j e = let d : i ≡ j = cc in rw d
-word_at (b ∷ w) s i j e =
-    let (m, p, q) = then_at (byte b) (word w) s i j e in
-    byte_at b s i m p ∙ ap (λ u. b ∷ u) (word_at w s m j q)
+word_at [] s u e = cc
+word_at (b ∷ w) s u e =
+    let (m, p, q) = then_at (byte b) (word w) s u e in
+    byte_at b s m p ∙ ap (λ u. b ∷ u) (word_at w m u q)
 
 -- a run of bytes, where what follows does not begin with one of them
 abbrev Stops : (ℕ → Bool) → (List ℕ → Bool) → Type 0
 Stops t k = (c : ℕ) (u : List ℕ) → t c ≡ true → k (c ∷ u) ≡ false
 
 module _ (t : ℕ → Bool) (k : List ℕ → Bool) (stops : Stops t k) where
-  further : (l : List ℕ) → elim (k l) [ true ↦ true | false ↦ leads_many t l k ] ≡ k (drop (run t l) l)
-  unfolding run when◌then◌else◌ leads_many
+  further : (l : List ℕ) → elim (k l) [ true ↦ true | false ↦ leads_many t l k ] ≡ k (skip t l)
+  unfolding skip leads_many
   further [] = first_only (k []) false (k []) refl refl
   further (c ∷ l) =
       cases (t c)
       (λ e. rw (stops c l e, e, leads_many) (further l))
       (λ e. rw e (first_only (k (c ∷ l)) (leads_many t (c ∷ l) k) (k (c ∷ l)) refl (rw (e, leads_many))))
 
-  whole_run : (l : List ℕ) → leads_many t l k ≡ (when eqb (run t l) 0 then false else k (drop (run t l) l))
-  unfolding run when◌then◌else◌ leads_many
-  whole_run [] = refl
-  whole_run (c ∷ l) = cases (t c) (λ e. rw (e, eqb-suc-zero (run t l), leads_many) (further l)) (λ e. rw (e, leads_many))
-
   many_exact : Exact (many t) k
-  unfolding leads scan when◌then◌else◌
-  many_exact s i =
-      whole_run (drop i s) ∙
-      cases (eqb (run t (drop i s)) 0) (λ e. rw e) (λ e. rw (e, drop-drop (run t (drop i s)) i s))
+  unfolding leads leads_many scan
+  many_exact [] = refl
+  many_exact (c ∷ l) = cases (t c) (λ e. rw (e, leads_many) (further l)) (λ e. rw (e, leads_many))
 
 -- the grammars that begin with a byte that is not of a class: such a one ends a run
 abbrev Apart : (ℕ → Bool) → Grammar → Type 0
@@ -140,14 +112,14 @@ apart_stops t (g or h) k a = or_stops t g h k (apart_stops t g k a.0) (apart_sto
 
 -- choices that begin with a byte or with a word
 byte_or_exact : (b : ℕ) (h : Grammar) (k : List ℕ → Bool) → Exact h k → ((u : List ℕ) → leads h (b ∷ u) k ≡ false) → Exact (byte b or h) k
-byte_or_exact b h k a f = or_exact (byte b) h k (one_exact _ k) a (λ s i j e. rw (byte_at b s i j e) (f (drop j s)))
+byte_or_exact b h k a f = or_exact (byte b) h k (one_exact _ k) a (λ s u e. rw (byte_at b s u e) (f u))
 
 word_exact : (w : List ℕ) (k : List ℕ → Bool) → Exact (word w) k
 word_exact [] k = nothing_exact k
 word_exact (b ∷ w) k = then_exact (byte b) (word w) k (one_exact _ _) (word_exact w k)
 
 word_or_exact : (w : List ℕ) (h : Grammar) (k : List ℕ → Bool) → Exact h k → ((u : List ℕ) → leads h (w ++ u) k ≡ false) → Exact (word w or h) k
-word_or_exact w h k a f = or_exact (word w) h k (word_exact w k) a (λ s i j e. rw (word_at w s i j e) (f (drop j s)))
+word_or_exact w h k a f = or_exact (word w) h k (word_exact w k) a (λ s u e. rw (word_at w s u e) (f u))
 
 -- the parts of dates and times
 after : (b : ℕ) (k : List ℕ → Bool) → is_digit b ≡ false → Stops is_digit (λ u. leads (byte b) u k)
@@ -158,7 +130,7 @@ unfolding leads
 two_exact k stops =
     then_exact _ _ k (one_exact is_digit _)
     (or_exact digit nothing k (one_exact is_digit k) (nothing_exact k)
-    (λ s i j e. let (x, d) = one_at is_digit s i j e in rw d (stops _ _ x)))
+    (λ s u e. let (c, x, d) = one_at is_digit s u e in rw d (stops c u x)))
 
 date_exact : (k : List ℕ → Bool) → Stops is_digit k → Exact naive_date k
 unfolding leads leads_many
@@ -174,7 +146,7 @@ module _ (k : List ℕ → Bool) (stops : Stops is_digit k) (no_dot : (u : List 
   unfolding leads
   subsecond_exact =
       or_exact subsecond nothing k (then_exact _ _ k (one_exact _ _) (many_exact is_digit k stops)) (nothing_exact k)
-      (λ s i j e. let (m, p, q) = then_at (byte dot) digits s i j e in rw (byte_at dot s i m p) (no_dot _))
+      (λ s u e. let (m, p, q) = then_at (byte dot) digits s u e in rw (byte_at dot s m p) (no_dot m))
 
   time_exact : Exact naive_time k
   unfolding leads
@@ -210,14 +182,6 @@ zone_apart = (
   ),
 )
 
--- the whole text fits a grammar where the match leaves nothing
-abbrev Whole : Grammar → Type 0
-Whole g = (s : List ℕ) (m : Matched) (r : Bool) → m ≡ scan g s 0 → r ≡ of_rest is_empty s m → r ≡ fits g s
-
-whole : (g : Grammar) → Exact g is_empty → Whole g
-unfolding fits
-whole g a s m r e f = f ∙ ap (of_rest is_empty s) e ∙ sym (a s 0)
-
 -- the parts where they stand: a date before nothing, before T and a time, before a separator, a time and a zone; a time before
 -- nothing and before a zone
 pub date_last : Exact naive_date is_empty
@@ -241,6 +205,14 @@ time_last = time_exact is_empty (λ c u e. refl) (λ u. refl)
 pub time_zone : Exact naive_time (λ u. leads utc_zone u is_empty)
 unfolding leads
 time_zone = time_exact _ (apart_stops is_digit utc_zone is_empty zone_apart) (λ u. refl)
+
+-- the whole text fits a grammar where the match leaves nothing
+abbrev Whole : Grammar → Type 0
+Whole g = (s : List ℕ) → fits g s ≡ of_rest is_empty (scan g s)
+
+whole : (g : Grammar) → Exact g is_empty → Whole g
+unfolding fits
+whole g a s = a s
 
 pub whole_date : Whole naive_date
 whole_date = whole naive_date date_last

@@ -1,33 +1,27 @@
 -- How the matchers read a grammar: from the left, as many bytes as there are, the first choice that fits, and never back.
-use Rattle.std.specs.Prelude.{Bool, false, List, [], ◌∷◌, ℕ, suc, ◌+◌, ltb, eqb, length, get_or, drop}
-use Rattle.logic.specs.Test.{when◌then◌else◌}
-use Rattle.chrono.specs.declared.Matched.{Matched}
-use Rattle.chrono.specs.declared.Matched.TheVariants.{Rest, No}
+use Rattle.std.specs.Prelude.{Bool, false, if◌then◌else◌, List, [], ◌∷◌, ℕ, Option, Some, None, option_map, option_and_then}
+use Rattle.std.specs.Option.{option_or}
 use Rattle.chrono.specs.Grammar.{Grammar, nothing, one, many, ◌then◌, ◌or◌}
 
--- how many bytes of a class the text begins with
-unfoldable pub run : (ℕ → Bool) → List ℕ → ℕ
-run t [] = 0
-run t (c ∷ s) = when t c then suc (run t s) else 0
+-- what is left of a text after the bytes of a class that it begins with
+unfoldable pub skip : (ℕ → Bool) → List ℕ → List ℕ
+skip t [] = []
+skip t (c ∷ s) = if t c then skip t s else c ∷ s
 
--- what follows a match, and what takes the place of none
-abbrev pub onward : Matched → (ℕ → Matched) → Matched
-onward (Rest i) next = next i
-onward No next = No
+-- what is left after one byte of a class
+abbrev pub after_one : (ℕ → Bool) → List ℕ → Option (List ℕ)
+after_one t [] = None
+after_one t (c ∷ s) = if t c then Some s else None
 
-abbrev pub instead : Matched → Matched → Matched
-instead (Rest i) other = Rest i
-instead No other = other
+-- what is left of a text after the match of a grammar, if there is one
+unfoldable pub scan : Grammar → List ℕ → Option (List ℕ)
+scan nothing s = Some s
+scan (one t) s = after_one t s
+scan (many t) s = option_map (skip t) (after_one t s)
+scan (g then h) s = option_and_then (scan h) (scan g s)
+scan (g or h) s = option_or (scan g s) (scan h s)
 
--- the match of a grammar at an offset of the text
-unfoldable pub scan : Grammar → List ℕ → ℕ → Matched
-scan nothing s i = Rest i
-scan (one t) s i = when ltb i (length s) then (when t (get_or s i 0) then Rest (i + 1) else No) else No
-scan (many t) s i = when eqb (run t (drop i s)) 0 then No else Rest (i + run t (drop i s))
-scan (g then h) s i = onward (scan g s i) (scan h s)
-scan (g or h) s i = instead (scan g s i) (scan h s i)
-
--- what a test says of the rest of the text after a match, and that there is one
-abbrev pub of_rest : (List ℕ → Bool) → List ℕ → Matched → Bool
-of_rest k s (Rest i) = k (drop i s)
-of_rest k s No = false
+-- what a test says of the rest after a match, and that there is one
+abbrev pub of_rest : (List ℕ → Bool) → Option (List ℕ) → Bool
+of_rest k (Some s) = k s
+of_rest k None = false

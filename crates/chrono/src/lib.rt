@@ -1,300 +1,209 @@
 // The four matchers of chrono.rs, and the type that a text observes (document 01, "Date texts"). No range is tested.
-// Each match reads on and never goes back: nothing that follows digits begins with one.
+// Each match answers what is left of the text. It reads on and never goes back: nothing that follows digits begins with one.
 
-#![tactic(auto)]
+#![tactic(auto, unfolding(crate::specs::Scan::scan))]
 
-ghost use Rattle.std.specs.Prelude.{◌≡◌, ◌+◌, ◌≤◌, length, drop};
+ghost use Rattle.std.specs.Prelude.{◌≡◌, Bool, ◌+◌, ◌≤◌, ℕ, length, Some, option_copied};
 ghost use Rattle.datatype.specs.Codes.{code_of};
 ghost use Rattle.options.specs.Word.{string_type};
-ghost use Rattle.chrono.specs.declared.Matched.TheVariants.{Rest};
-ghost use Rattle.chrono.specs.Grammar.{byte, word, optional, is_empty, fits};
+ghost use Rattle.chrono.specs.Grammar.{one, byte, word, is_empty, fits};
 ghost use Rattle.chrono.specs.Date.{is_digit, digit, digits, one_or_two_digits, optional_sign, subsecond, separator, naive_date, naive_time, naive_datetime, zero_offset, utc_zone, utc_datetime};
-ghost use Rattle.chrono.specs.Scan.{run, scan, of_rest};
+ghost use Rattle.chrono.specs.Scan.{skip, scan, of_rest};
 ghost use Rattle.chrono.specs.Fixed.{begins, two_digits, joined_digits, fixed_date, fixed_time, fixed_datetime};
 ghost use Rattle.chrono.specs.Text.{date_texts, first_fit, text_type};
+ghost use Rattle.chrono.specs.Reading.{type_or, after_date};
 
 use datatype::{DataType, Zone};
 use options::TracingOptions;
 
-// What a match at an offset of the text answers: the offset where the rest begins, or that there is none.
-#[derive(Clone, Copy)]
-enum Matched {
-    Rest(usize),
-    No,
-}
-
-fn is_digit(b: u8) -> bool
-    ensures { result ≡ is_digit b }
+// The rest after one byte, where it passes the test.
+fn match_byte<F: Fn(u8) -> bool + Drop>(s: &[u8], is_in: F) -> Option<&[u8]>
+    requires { F.IsAlwaysCallable is_in }
+    ensures { (t : ℕ → Bool) → ((b : ℕ) (r : Bool) → F.post is_in b r → r ≡ t b) → option_copied result ≡ scan (one t) s.now }
 {
-    b'0' <= b && b <= b'9'
-}
-
-fn match_char(s: &[u8], at: usize, c: u8) -> Matched
-    ensures { result ≡ scan (byte c) s.now at }
-{
-    if s.len() <= at {
-        return Matched::No;
-    }
-    if s[at] == c {
-        Matched::Rest(at + 1)
-    } else {
-        Matched::No
+    match s {
+        [first, rest @ ..] if is_in(*first) => Some(rest),
+        _ => None,
     }
 }
 
-fn match_digit(s: &[u8], at: usize) -> Matched
-    ensures { result ≡ scan digit s.now at }
+fn match_char(s: &[u8], c: u8) -> Option<&[u8]>
+    ensures { option_copied result ≡ scan (byte c) s.now }
 {
-    if s.len() <= at {
-        return Matched::No;
-    }
-    if is_digit(s[at]) {
-        Matched::Rest(at + 1)
-    } else {
-        Matched::No
-    }
+    match_byte(s, |b| b == c)
 }
 
-// The offset past the digits that stand at `at`.
-fn skip_digits(s: &[u8], at: usize) -> usize
-    ensures { result ≡ at + run is_digit (drop at s.now) }
+fn match_digit(s: &[u8]) -> Option<&[u8]>
+    ensures { option_copied result ≡ scan digit s.now }
 {
-    let mut i = at;
-    while i < s.len() {
-        if !is_digit(s[i]) {
-            return i;
-        }
-        i += 1;
-    }
-    i
+    match_byte(s, |b| b.is_ascii_digit())
 }
 
-fn match_one_or_more_digits(s: &[u8], at: usize) -> Matched
-    ensures { result ≡ scan digits s.now at }
+// The rest after the digits that the text begins with.
+#[tactic(auto, unfolding(crate::specs::Scan::skip, crate::specs::Scan::scan))]
+fn skip_digits(s: &[u8]) -> &[u8]
+    ensures { result.now ≡ skip is_digit s.now }
 {
-    let end = skip_digits(s, at);
-    if end == at {
-        Matched::No
-    } else {
-        Matched::Rest(end)
+    let mut rest = s;
+    while let Some(next) = match_digit(rest) {
+        rest = next;
     }
+    rest
 }
 
-fn match_one_or_two_digits(s: &[u8], at: usize) -> Matched
-    ensures { result ≡ scan one_or_two_digits s.now at }
+fn match_one_or_more_digits(s: &[u8]) -> Option<&[u8]>
+    ensures { option_copied result ≡ scan digits s.now }
 {
-    let Matched::Rest(second) = match_digit(s, at) else {
-        return Matched::No;
-    };
-    let Matched::Rest(rest) = match_digit(s, second) else {
-        return Matched::Rest(second);
-    };
-    Matched::Rest(rest)
+    Some(skip_digits(match_digit(s)?))
 }
 
-fn match_optional_sign(s: &[u8], at: usize) -> Matched
-    ensures { result ≡ scan optional_sign s.now at }
+fn match_one_or_two_digits(s: &[u8]) -> Option<&[u8]>
+    ensures { option_copied result ≡ scan one_or_two_digits s.now }
 {
-    if let Matched::Rest(rest) = match_char(s, at, b'+') {
-        return Matched::Rest(rest);
+    let s = match_digit(s)?;
+    Some(match_digit(s).unwrap_or(s))
+}
+
+// The rest after a sign, where one stands.
+fn skip_optional_sign(s: &[u8]) -> &[u8]
+    ensures { Some result.now ≡ scan optional_sign s.now }
+{
+    match s {
+        [b'+' | b'-', rest @ ..] => rest,
+        _ => s,
     }
-    if let Matched::Rest(rest) = match_char(s, at, b'-') {
-        return Matched::Rest(rest);
-    }
-    Matched::Rest(at)
 }
 
 // Optional sign, digits, -, one or two digits, -, one or two digits.
-fn match_naive_date(s: &[u8], at: usize) -> Matched
-    ensures { result ≡ scan naive_date s.now at }
+fn match_naive_date(s: &[u8]) -> Option<&[u8]>
+    ensures { option_copied result ≡ scan naive_date s.now }
 {
-    let Matched::Rest(at) = match_optional_sign(s, at) else {
-        return Matched::No;
-    };
-    let Matched::Rest(at) = match_one_or_more_digits(s, at) else {
-        return Matched::No;
-    };
-    let Matched::Rest(at) = match_char(s, at, b'-') else {
-        return Matched::No;
-    };
-    let Matched::Rest(at) = match_one_or_two_digits(s, at) else {
-        return Matched::No;
-    };
-    let Matched::Rest(at) = match_char(s, at, b'-') else {
-        return Matched::No;
-    };
-    match_one_or_two_digits(s, at)
+    let s = match_one_or_more_digits(skip_optional_sign(s))?;
+    let s = match_char(s, b'-')?;
+    let s = match_one_or_two_digits(s)?;
+    let s = match_char(s, b'-')?;
+    match_one_or_two_digits(s)
 }
 
-fn match_subsecond(s: &[u8], at: usize) -> Matched
-    ensures { result ≡ scan subsecond s.now at }
+// Inlined, as is `match_naive_time`: else the rest, and whether there is one, go through memory.
+#[inline(always)]
+fn match_subsecond(s: &[u8]) -> Option<&[u8]>
+    ensures { option_copied result ≡ scan subsecond s.now }
 {
-    let Matched::Rest(at) = match_char(s, at, b'.') else {
-        return Matched::No;
-    };
-    match_one_or_more_digits(s, at)
+    match_one_or_more_digits(match_char(s, b'.')?)
 }
 
-// A dot without digits stays in the rest, so that the text fits nothing.
-fn match_optional_subsecond(s: &[u8], at: usize) -> Matched
-    ensures { result ≡ scan (optional subsecond) s.now at }
+// One or two digits three times with colons, then optionally a dot and digits. A dot without digits stays in the rest, so that the
+// text fits nothing.
+#[inline(always)]
+fn match_naive_time(s: &[u8]) -> Option<&[u8]>
+    ensures { option_copied result ≡ scan naive_time s.now }
 {
-    let Matched::Rest(rest) = match_subsecond(s, at) else {
-        return Matched::Rest(at);
-    };
-    Matched::Rest(rest)
+    let s = match_one_or_two_digits(s)?;
+    let s = match_char(s, b':')?;
+    let s = match_one_or_two_digits(s)?;
+    let s = match_char(s, b':')?;
+    let s = match_one_or_two_digits(s)?;
+    Some(match_subsecond(s).unwrap_or(s))
 }
 
-// One or two digits three times with colons, then optionally a dot and digits.
-fn match_naive_time(s: &[u8], at: usize) -> Matched
-    ensures { result ≡ scan naive_time s.now at }
+fn match_naive_datetime(s: &[u8]) -> Option<&[u8]>
+    ensures { option_copied result ≡ scan naive_datetime s.now }
 {
-    let Matched::Rest(at) = match_one_or_two_digits(s, at) else {
-        return Matched::No;
-    };
-    let Matched::Rest(at) = match_char(s, at, b':') else {
-        return Matched::No;
-    };
-    let Matched::Rest(at) = match_one_or_two_digits(s, at) else {
-        return Matched::No;
-    };
-    let Matched::Rest(at) = match_char(s, at, b':') else {
-        return Matched::No;
-    };
-    let Matched::Rest(at) = match_one_or_two_digits(s, at) else {
-        return Matched::No;
-    };
-    match_optional_subsecond(s, at)
-}
-
-fn match_naive_datetime(s: &[u8], at: usize) -> Matched
-    ensures { result ≡ scan naive_datetime s.now at }
-{
-    let Matched::Rest(at) = match_naive_date(s, at) else {
-        return Matched::No;
-    };
-    let Matched::Rest(at) = match_char(s, at, b'T') else {
-        return Matched::No;
-    };
-    match_naive_time(s, at)
+    let s = match_naive_date(s)?;
+    let s = match_char(s, b'T')?;
+    match_naive_time(s)
 }
 
 // What stands between date and time where a zone follows: T or a blank.
-fn match_separator(s: &[u8], at: usize) -> Matched
-    ensures { result ≡ scan separator s.now at }
+fn match_separator(s: &[u8]) -> Option<&[u8]>
+    ensures { option_copied result ≡ scan separator s.now }
 {
-    if let Matched::Rest(rest) = match_char(s, at, b'T') {
-        return Matched::Rest(rest);
+    match s {
+        [b'T' | b' ', rest @ ..] => Some(rest),
+        _ => None,
     }
-    match_char(s, at, b' ')
 }
 
-// The rest after `prefix`, where it stands at the offset.
-fn split_prefix(s: &[u8], at: usize, prefix: &[u8]) -> Matched
-    ensures { result ≡ scan (word prefix.now) s.now at }
+// What the library strips, in the words of the grammar.
+fn split_prefix<'a>(s: &'a [u8], prefix: &[u8]) -> Option<&'a [u8]>
+    ensures { option_copied result ≡ scan (word prefix.now) s.now }
 {
-    let mut rest = at;
-    let mut i = 0;
-    while i < prefix.len() {
-        let Matched::Rest(next) = match_char(s, rest, prefix[i]) else {
-            return Matched::No;
-        };
-        rest = next;
-        i += 1;
-    }
-    Matched::Rest(rest)
+    s.strip_prefix(prefix)
 }
 
-fn match_zero_offset(s: &[u8], at: usize) -> Matched
-    ensures { result ≡ scan zero_offset s.now at }
+fn match_zero_offset(s: &[u8]) -> Option<&[u8]>
+    ensures { option_copied result ≡ scan zero_offset s.now }
 {
-    if let Matched::Rest(rest) = split_prefix(s, at, b"+0000") {
-        return Matched::Rest(rest);
-    }
-    if let Matched::Rest(rest) = split_prefix(s, at, b"-0000") {
-        return Matched::Rest(rest);
-    }
-    if let Matched::Rest(rest) = split_prefix(s, at, b"+00:00") {
-        return Matched::Rest(rest);
-    }
-    split_prefix(s, at, b"-00:00")
+    split_prefix(s, b"+0000")
+        .or_else(|| split_prefix(s, b"-0000"))
+        .or_else(|| split_prefix(s, b"+00:00"))
+        .or_else(|| split_prefix(s, b"-00:00"))
 }
 
 // One of the designators of UTC that chrono.rs knows.
-fn match_utc_timezone(s: &[u8], at: usize) -> Matched
-    ensures { result ≡ scan utc_zone s.now at }
+fn match_utc_timezone(s: &[u8]) -> Option<&[u8]>
+    ensures { option_copied result ≡ scan utc_zone s.now }
 {
-    if let Matched::Rest(rest) = match_char(s, at, b'Z') {
-        return Matched::Rest(rest);
+    match s {
+        [b'Z' | b'z', rest @ ..] => Some(rest),
+        _ => match_zero_offset(s),
     }
-    if let Matched::Rest(rest) = match_char(s, at, b'z') {
-        return Matched::Rest(rest);
-    }
-    match_zero_offset(s, at)
 }
 
-fn match_utc_datetime(s: &[u8], at: usize) -> Matched
-    ensures { result ≡ scan utc_datetime s.now at }
+fn match_utc_datetime(s: &[u8]) -> Option<&[u8]>
+    ensures { option_copied result ≡ scan utc_datetime s.now }
 {
-    let Matched::Rest(at) = match_naive_date(s, at) else {
-        return Matched::No;
-    };
-    let Matched::Rest(at) = match_separator(s, at) else {
-        return Matched::No;
-    };
-    let Matched::Rest(at) = match_naive_time(s, at) else {
-        return Matched::No;
-    };
-    match_utc_timezone(s, at)
+    let s = match_naive_date(s)?;
+    let s = match_separator(s)?;
+    let s = match_naive_time(s)?;
+    match_utc_timezone(s)
 }
 
 // Whether there is a match and it leaves nothing.
-fn is_whole(s: &[u8], m: Matched) -> bool
-    ensures { result ≡ of_rest is_empty s.now m }
+fn is_whole(rest: Option<&[u8]>) -> bool
+    ensures { result ≡ of_rest is_empty (option_copied rest.entry) }
 {
-    let Matched::Rest(rest) = m else {
-        return false;
-    };
-    s.len() <= rest
+    matches!(rest, Some([]))
 }
 
 // Whether `s` is a naive datetime: date, T, time.
+#[tactic(auto, using(crate::proofs::Exact::whole_naive))]
 pub fn matches_naive_datetime(s: &[u8]) -> bool
     ensures { result ≡ fits naive_datetime s.now }
 {
-    is_whole(s, match_naive_datetime(s, 0))
+    is_whole(match_naive_datetime(s))
 }
 
 // Whether `s` is a UTC datetime: date, T or blank, time, zone.
+#[tactic(auto, using(crate::proofs::Exact::whole_utc))]
 pub fn matches_utc_datetime(s: &[u8]) -> bool
     ensures { result ≡ fits utc_datetime s.now }
 {
-    is_whole(s, match_utc_datetime(s, 0))
+    is_whole(match_utc_datetime(s))
 }
 
 // Whether `s` is a time.
+#[tactic(auto, using(crate::proofs::Exact::whole_time))]
 pub fn matches_naive_time(s: &[u8]) -> bool
     ensures { result ≡ fits naive_time s.now }
 {
-    is_whole(s, match_naive_time(s, 0))
+    is_whole(match_naive_time(s))
 }
 
 // Whether `s` is a date.
+#[tactic(auto, using(crate::proofs::Exact::whole_date))]
 pub fn matches_naive_date(s: &[u8]) -> bool
     ensures { result ≡ fits naive_date s.now }
 {
-    is_whole(s, match_naive_date(s, 0))
+    is_whole(match_naive_date(s))
 }
 
 // Whether a date or a time can begin as the text does.
 fn can_begin(s: &[u8]) -> bool
     ensures { result ≡ begins s.now }
 {
-    if s.len() == 0 {
-        return false;
-    }
-    let b = s[0];
-    is_digit(b) | (b == b'+') | (b == b'-')
+    matches!(s, [first, ..] if first.is_ascii_digit() || *first == b'+' || *first == b'-')
 }
 
 // The fixed forms. Their bytes are all there, so that no test has to come before another: they are joined by `&`.
@@ -302,7 +211,7 @@ fn two_digits(s: &[u8], at: usize) -> bool
     requires { at + 2 ≤ length s.now }
     ensures { result ≡ two_digits s.now at }
 {
-    is_digit(s[at]) & is_digit(s[at + 1])
+    s[at].is_ascii_digit() & s[at + 1].is_ascii_digit()
 }
 
 // That byte and two digits.
@@ -314,6 +223,7 @@ fn joined_digits(s: &[u8], at: usize, c: u8) -> bool
 }
 
 // dddd-dd-dd at the start.
+#[tactic(auto, unfolding(crate::specs::Fixed::fixed_date))]
 fn fixed_date(s: &[u8]) -> bool
     requires { 10 ≤ length s.now }
     ensures { result ≡ fixed_date s.now }
@@ -322,6 +232,7 @@ fn fixed_date(s: &[u8]) -> bool
 }
 
 // dd:dd:dd at `at`.
+#[tactic(auto, unfolding(crate::specs::Fixed::fixed_time))]
 fn fixed_time(s: &[u8], at: usize) -> bool
     requires { at + 8 ≤ length s.now }
     ensures { result ≡ fixed_time s.now at }
@@ -330,6 +241,7 @@ fn fixed_time(s: &[u8], at: usize) -> bool
 }
 
 // dddd-dd-ddTdd:dd:dd at the start.
+#[tactic(auto, unfolding(crate::specs::Fixed::fixed_datetime))]
 fn fixed_datetime(s: &[u8]) -> bool
     requires { 19 ≤ length s.now }
     ensures { result ≡ fixed_datetime s.now }
@@ -337,70 +249,46 @@ fn fixed_datetime(s: &[u8]) -> bool
     fixed_date(s) & (s[10] == b'T') & fixed_time(s, 11)
 }
 
-// The type of a text that begins with a date, which ends at `at`.
-fn type_after_date(s: &[u8], at: usize, options: TracingOptions) -> DataType
-    requires { Rest at ≡ scan naive_date s.now 0 }
-    ensures { code_of result ≡ first_fit date_texts s.now (string_type options.word) }
+// The type of a text that begins with a date, by what is left after the date, where there is such a type.
+fn type_after_date(s: &[u8]) -> Option<DataType>
+    ensures { (string : ℕ) → type_or result string ≡ after_date s.now string }
 {
-    if s.len() <= at {
-        return DataType::Date32;
+    if s.is_empty() {
+        return Some(DataType::Date32);
     }
-    let Matched::Rest(time) = match_separator(s, at) else {
-        return options.string_type();
-    };
-    let Matched::Rest(zone) = match_naive_time(s, time) else {
-        return options.string_type();
-    };
-    if zone < s.len() {
-        if is_whole(s, match_utc_timezone(s, zone)) {
-            return DataType::Timestamp(Zone::Utc);
-        }
-        return options.string_type();
+    match match_naive_time(match_separator(s)?)? {
+        [] => (s[0] == b'T').then_some(DataType::Timestamp(Zone::Naive)),
+        zone => is_whole(match_utc_timezone(zone)).then_some(DataType::Timestamp(Zone::Utc)),
     }
-    if s[at] == b'T' {
-        return DataType::Timestamp(Zone::Naive);
-    }
-    options.string_type()
 }
 
-// The first fit, by one reading: no text that begins with a date is a time.
+// The first fit, else a string, by one reading: no text that begins with a date is a time. It is not inlined, so that a text of a fixed
+// form, or of none, costs no stack.
+#[inline(never)]
 fn read_type(s: &[u8], options: TracingOptions) -> DataType
     ensures { code_of result ≡ first_fit date_texts s.now (string_type options.word) }
 {
-    if let Matched::Rest(at) = match_naive_date(s, 0) {
-        return type_after_date(s, at, options);
-    }
-    if matches_naive_time(s) {
-        return DataType::Time64;
-    }
-    options.string_type()
+    let read = match match_naive_date(s) {
+        Some(rest) => type_after_date(rest),
+        None => matches_naive_time(s).then_some(DataType::Time64),
+    };
+    read.unwrap_or(options.string_type())
 }
 
-// The first fit. Most dates and times have one of the fixed forms, which their lengths tell; any other text is read.
+// The first fit, else a string. Most dates and times have one of the fixed forms, which their lengths tell; any other text is read.
 fn guessed_type(s: &[u8], options: TracingOptions) -> DataType
     ensures { code_of result ≡ first_fit date_texts s.now (string_type options.word) }
 {
     if !can_begin(s) {
         return options.string_type();
     }
-    if s.len() == 10 {
-        if fixed_date(s) {
-            return DataType::Date32;
-        }
-    } else if s.len() == 20 {
-        if fixed_datetime(s) & (s[19] == b'Z') {
-            return DataType::Timestamp(Zone::Utc);
-        }
-    } else if s.len() == 19 {
-        if fixed_datetime(s) {
-            return DataType::Timestamp(Zone::Naive);
-        }
-    } else if s.len() == 8 {
-        if fixed_time(s, 0) {
-            return DataType::Time64;
-        }
+    match s.len() {
+        10 if fixed_date(s) => DataType::Date32,
+        20 if fixed_datetime(s) & (s[19] == b'Z') => DataType::Timestamp(Zone::Utc),
+        19 if fixed_datetime(s) => DataType::Timestamp(Zone::Naive),
+        8 if fixed_time(s, 0) => DataType::Time64,
+        _ => read_type(s, options),
     }
-    read_type(s, options)
 }
 
 // The type that a text observes: with guess_dates the first fit wins.
@@ -408,7 +296,8 @@ pub fn text_type(s: &[u8], options: TracingOptions) -> DataType
     ensures { code_of result ≡ text_type options.word s.now }
 {
     if options.guess_dates() {
-        return guessed_type(s, options);
+        guessed_type(s, options)
+    } else {
+        options.string_type()
     }
-    options.string_type()
 }

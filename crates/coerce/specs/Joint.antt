@@ -1,12 +1,12 @@
 -- The joint of two primitive types, as in document 01's "Places" and document 02's 4/14. Types stand by their codes, and any two
 -- have an answer: in edition 1 the one that coerce_primitive_type of the Rust gives.
 use Rattle.std.specs.Prelude.{ℕ, Bool, not, ◌&&◌, ◌||◌, leb, eqb}
+use Rattle.std.specs.Prelude as Code
 use Rattle.std.proofs.Math.Option.{Option, none, some}
 use Rattle.logic.specs.Test.{when◌then◌else◌}
 use Rattle.datatype.specs.Codes.{code_of, null, boolean, int8, int64, uint64, float32, float64, utf8, large_utf8, timestamp_naive, timestamp_utc}
 use Rattle.options.specs.Word.{coerce_numbers, allow_to_string, edition2, string_type}
-use Rattle.coerce.specs.declared.Coerced.{Coerced}
-use Rattle.coerce.specs.declared.Coerced.TheVariants as C
+use Rattle.datatype.specs.declared.DataType.{DataType}
 
 -- the families of types, each a range of codes or two codes
 abbrev pub is_signed : ℕ → Bool
@@ -86,6 +86,6 @@ joint word a b =
     joint_of_unequal word a b
 
 -- the code that an answer stands for
-abbrev pub codes_of : Coerced → Option ℕ
-codes_of (C.Type t) = some (code_of t)
-codes_of C.Nothing = none
+abbrev pub codes_of : Code.Option DataType → Option ℕ
+codes_of (Code.Some t) = some (code_of t)
+codes_of Code.None = none

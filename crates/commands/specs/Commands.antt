@@ -1,5 +1,5 @@
 -- The commands, as in document 01's "Commands and texts", and what refuses one (4, 5 and 6 of "Eighteen ways to be turned down").
-use Rattle.std.specs.Prelude.{ℕ, ◌+◌, ◌*◌, Bool, false, not, ◌&&◌, ◌||◌, List, [], ◌∷◌, eqb, leb, ltb, length, get_or}
+use Rattle.std.specs.Prelude.{ℕ, ◌+◌, ◌*◌, Bool, false, not, ◌&&◌, ◌||◌, List, [], ◌∷◌, eqb, leb, ltb, length, get_or, Result, Ok, Err}
 use Rattle.std.proofs.Math.Option.{Option, none, some}
 use Rattle.logic.specs.Test.{when◌then◌else◌}
 use Rattle.text.specs.declared.Name.{Name}
@@ -7,12 +7,11 @@ use Rattle.text.specs.Name.{inside, bytes_of}
 use Rattle.text.specs.Utf8.{is_utf8}
 use Rattle.refusal.specs.declared.Refusal.{Refusal}
 use Rattle.refusal.specs.declared.Refusal.TheVariants as F
+use Rattle.refusal.specs.declared.Refused.{Refused}
 use Rattle.commands.specs.declared.Command.{Command}
 use Rattle.commands.specs.declared.Command.TheVariants as C
 use Rattle.commands.specs.declared.Due.{Due}
 use Rattle.commands.specs.declared.Due.TheVariants as D
-use Rattle.commands.specs.declared.Read.{Read}
-use Rattle.commands.specs.declared.Read.TheVariants as R
 
 -- the operand at an offset: a u16, low byte first
 abbrev pub operand_at : List ℕ → ℕ → ℕ
@@ -131,21 +130,20 @@ bad_key D.ValueOrEnd byte = false
 bad_key D.FieldOrEnd byte = false
 bad_key D.KeyOrEnd byte = not (eqb byte text_byte) && not (eqb byte end_byte)
 
+-- what reading gives: a command and the offset behind it, or a refusal and its place
+abbrev pub Read : Type 0
+Read = Result (Command × ℕ) Refused
+
+-- a refusal at a place, whatever was to be read
+abbrev pub refused_at : {A : Type 0} → Refusal → ℕ → Result A Refused
+refused_at refusal place = Err (record { refusal = refusal; place = place })
+
 -- reading at an offset: the first refusal that applies, with the offset as its place, or the command and the offset behind it
 unfoldable pub read_command : List ℕ → List ℕ → ℕ → Due → Read
 read_command commands text at due =
     let byte : ℕ = get_or commands at 0 in
     let form : Form = form_of byte in
-    when bad_command commands at due then R.Refused F.BadCommand at
-    else (when bad_name text (name_in form commands (at + 1)) then R.Refused F.BadName at
-    else (when bad_key due byte then R.Refused F.BadKey at
-    else R.Command (made form commands (at + 1)) (at + width form)))
-
--- the refusal and the place of a reading that is refused; of a good one refusal 4 and the offset behind the command
-abbrev pub refusal_of : Read → Refusal
-refusal_of (R.Command command next) = F.BadCommand
-refusal_of (R.Refused refusal place) = refusal
-
-abbrev pub place_of : Read → ℕ
-place_of (R.Command command next) = next
-place_of (R.Refused refusal place) = place
+    when bad_command commands at due then refused_at F.BadCommand at
+    else (when bad_name text (name_in form commands (at + 1)) then refused_at F.BadName at
+    else (when bad_key due byte then refused_at F.BadKey at
+    else Ok (made form commands (at + 1), at + width form)))

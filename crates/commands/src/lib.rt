@@ -4,11 +4,11 @@
 
 ghost use Rattle.std.specs.Prelude.{◌≡◌, ◌+◌, ◌*◌, ◌<◌, ◌≤◌, length, get_or};
 ghost use Rattle.std.proofs.Math.Option.{some};
-ghost use Rattle.commands.specs.Commands.{operand_at, name_at, forms, form_of, operands, made, stands, bad_key, bad_name, read_command, refusal_of, place_of};
+ghost use Rattle.commands.specs.Commands.{operand_at, name_at, forms, form_of, operands, made, stands, bad_key, bad_name, read_command};
 ghost use Rattle.commands.specs.Counted.{name_among};
 ghost use Rattle.commands.specs.Reader.{behind};
 
-use refusal::Refusal;
+use refusal::{Refusal, Refused};
 use text::Name;
 
 // The commands, named by Serde's data model. A number is a variant's, or how many values a tuple has.
@@ -53,61 +53,82 @@ pub enum Due {
     KeyOrEnd,
 }
 
-// What reading gives: a command and the offset behind it, or a refusal and its place.
-#[derive(Clone, Copy)]
-pub enum Read {
-    Command(Command, usize),
-    Refused(Refusal, usize),
+// The bytes of the commands, as document 01 fixes them. They are numbers, since they are what an input holds at an offset;
+// `Command` is the enum that they are read as.
+pub mod byte {
+    pub const UNIT: u8 = 0x00;
+
+    pub const BOOL: u8 = 0x01;
+
+    pub const I8: u8 = 0x02;
+
+    pub const I16: u8 = 0x03;
+
+    pub const I32: u8 = 0x04;
+
+    pub const I64: u8 = 0x05;
+
+    pub const U8: u8 = 0x06;
+
+    pub const U16: u8 = 0x07;
+
+    pub const U32: u8 = 0x08;
+
+    pub const U64: u8 = 0x09;
+
+    pub const F32: u8 = 0x0A;
+
+    pub const F64: u8 = 0x0B;
+
+    pub const CHAR: u8 = 0x0C;
+
+    pub const TEXT: u8 = 0x0D;
+
+    pub const BYTES: u8 = 0x0E;
+
+    pub const NONE: u8 = 0x0F;
+
+    pub const SOME: u8 = 0x10;
+
+    pub const NEWTYPE_STRUCT: u8 = 0x11;
+
+    pub const SEQUENCE: u8 = 0x12;
+
+    pub const TUPLE: u8 = 0x13;
+
+    pub const MAP: u8 = 0x14;
+
+    pub const STRUCT: u8 = 0x15;
+
+    pub const FIELD: u8 = 0x16;
+
+    pub const END: u8 = 0x17;
+
+    pub const UNIT_VARIANT: u8 = 0x18;
+
+    pub const NEWTYPE_VARIANT: u8 = 0x19;
+
+    pub const TUPLE_VARIANT: u8 = 0x1A;
+
+    pub const STRUCT_VARIANT: u8 = 0x1B;
 }
-
-// The bytes that what is due is tested for.
-const TEXT: u8 = 0x0D;
-
-const FIELD: u8 = 0x16;
-
-const END: u8 = 0x17;
 
 // How many commands there are, from 00 on.
 const COMMANDS: u8 = 28;
 
 // How many operands the command with that byte has. A name counts as two.
+#[tactic(auto, using(crate::proofs::Forms::counts), unfolding(crate::specs::Commands::operands, crate::specs::Commands::form_of))]
 fn operand_count(byte: u8) -> u8
     requires { byte < length forms }
     ensures { result ≡ operands (form_of byte) }
 {
     match byte {
-        0x0D => 2,
-        0x13 => 1,
-        0x16 => 2,
-        0x18 => 3,
-        0x19 => 3,
-        0x1A => 4,
-        0x1B => 3,
+        byte::TUPLE => 1,
+        byte::TEXT | byte::FIELD => 2,
+        byte::UNIT_VARIANT | byte::NEWTYPE_VARIANT | byte::STRUCT_VARIANT => 3,
+        byte::TUPLE_VARIANT => 4,
         _ => 0,
     }
-}
-
-// A u16 from its two bytes.
-fn word(low: u8, high: u8) -> u16
-    ensures { result ≡ low + high * 256 }
-{
-    low as u16 + high as u16 * 256
-}
-
-// The byte at an offset.
-fn byte_at(commands: &[u8], at: usize) -> u8
-    requires { at < length commands.now }
-    ensures { result ≡ get_or commands.now at 0 }
-{
-    commands[at]
-}
-
-// The operand at an offset.
-fn operand_at(commands: &[u8], at: usize) -> u16
-    requires { at + 2 ≤ length commands.now }
-    ensures { result ≡ operand_at commands.now at }
-{
-    word(commands[at], commands[at + 1])
 }
 
 // The command reader: the commands, and the offset of what is read next. Reading moves it behind what was read.
@@ -120,7 +141,8 @@ struct Reader<'a> {
 impl<'a> Reader<'a> {
     // Reads from an offset on.
     fn new(commands: &'a [u8], at: usize) -> Reader<'a>
-        ensures { (result.commands ≡ commands.entry) × (result.at ≡ at) }
+        ensures commands { result.commands ≡ commands.entry }
+        ensures at { result.at ≡ at }
     {
         Reader { commands, at }
     }
@@ -128,25 +150,34 @@ impl<'a> Reader<'a> {
     // The byte there.
     fn byte(&mut self) -> u8
         requires { self.old.at < length self.old.commands.now }
-        ensures { (result ≡ get_or self.old.commands.now self.old.at 0)
-            × (self.new ≡ behind self.old 1) }
+        ensures read { result ≡ get_or self.old.commands.now self.old.at 0 }
+        ensures moved { self.new ≡ behind self.old 1 }
     {
-        let at = self.at;
-        let byte = byte_at(self.commands, at);
-        self.at = at + 1;
+        let byte = self.commands[self.at];
+        self.at += 1;
         byte
     }
 
-    // The operand there.
+    // The operand there: a u16, low byte first.
     fn operand(&mut self) -> u16
         requires { self.old.at + 2 ≤ length self.old.commands.now }
-        ensures { (result ≡ operand_at self.old.commands.now self.old.at)
-            × (self.new ≡ behind self.old 2) }
+        ensures read { result ≡ operand_at self.old.commands.now self.old.at }
+        ensures moved { self.new ≡ behind self.old 2 }
     {
-        let at = self.at;
-        let operand = operand_at(self.commands, at);
-        self.at = at + 2;
-        operand
+        let low = self.byte();
+        let high = self.byte();
+        u16::from_le_bytes([low, high])
+    }
+
+    // The name there: its offset in the text, then its length.
+    fn name(&mut self) -> Name
+        requires { self.old.at + 4 ≤ length self.old.commands.now }
+        ensures read { result ≡ name_at self.old.commands.now self.old.at }
+        ensures moved { self.new ≡ behind self.old 4 }
+    {
+        let offset = self.operand();
+        let length = self.operand();
+        Name { offset, length }
     }
 }
 
@@ -155,8 +186,7 @@ pub fn read_byte(commands: &[u8], at: usize) -> u8
     requires { at < length commands.now }
     ensures { result ≡ get_or commands.now at 0 }
 {
-    let mut reader = Reader::new(commands, at);
-    reader.byte()
+    Reader::new(commands, at).byte()
 }
 
 // An operand.
@@ -164,19 +194,15 @@ fn read_operand(commands: &[u8], at: usize) -> u16
     requires { at + 2 ≤ length commands.now }
     ensures { result ≡ operand_at commands.now at }
 {
-    let mut reader = Reader::new(commands, at);
-    reader.operand()
+    Reader::new(commands, at).operand()
 }
 
-// A name: its offset in the text, then its length.
+// A name.
 pub fn read_name(commands: &[u8], at: usize) -> Name
     requires { at + 4 ≤ length commands.now }
     ensures { result ≡ name_at commands.now at }
 {
-    let mut reader = Reader::new(commands, at);
-    let offset = reader.operand();
-    let length = reader.operand();
-    Name { offset, length }
+    Reader::new(commands, at).name()
 }
 
 impl Due {
@@ -185,10 +211,9 @@ impl Due {
         ensures { result ≡ stands self byte }
     {
         match self {
-            Due::Value => byte != FIELD && byte != END,
-            Due::ValueOrEnd => byte != FIELD,
-            Due::FieldOrEnd => byte == FIELD || byte == END,
-            Due::KeyOrEnd => byte != FIELD,
+            Due::Value => byte != byte::FIELD && byte != byte::END,
+            Due::ValueOrEnd | Due::KeyOrEnd => byte != byte::FIELD,
+            Due::FieldOrEnd => byte == byte::FIELD || byte == byte::END,
         }
     }
 
@@ -197,10 +222,8 @@ impl Due {
         ensures { result ≡ bad_key self byte }
     {
         match self {
-            Due::Value => false,
-            Due::ValueOrEnd => false,
-            Due::FieldOrEnd => false,
-            Due::KeyOrEnd => byte != TEXT && byte != END,
+            Due::Value | Due::ValueOrEnd | Due::FieldOrEnd => false,
+            Due::KeyOrEnd => byte != byte::TEXT && byte != byte::END,
         }
     }
 }
@@ -209,11 +232,7 @@ impl Due {
 fn is_bad_name(name: Name, text: &[u8]) -> bool
     ensures { result ≡ bad_name text.now (some name) }
 {
-    if name.is_inside(text) {
-        !name.is_utf8(text)
-    } else {
-        true
-    }
+    !name.is_inside(text) || !name.is_utf8(text)
 }
 
 // The same of the name among so many operands, which start at an offset: two are a name, one is a tuple's count,
@@ -222,49 +241,56 @@ fn has_bad_name(commands: &[u8], text: &[u8], at: usize, operands: u8) -> bool
     requires { at + 2 * operands ≤ length commands.now }
     ensures { result ≡ bad_name text.now (name_among operands commands.now at) }
 {
-    if operands < 2 {
-        return false;
-    }
-    if operands == 2 {
-        is_bad_name(read_name(commands, at), text)
-    } else {
-        is_bad_name(read_name(commands, at + 2), text)
+    match operands {
+        0 | 1 => false,
+        2 => is_bad_name(read_name(commands, at), text),
+        _ => is_bad_name(read_name(commands, at + 2), text),
     }
 }
 
 // The command with that byte, whose operands start at an offset. The last arm is 1B.
+#[tactic(auto, using(crate::proofs::Forms::arms),
+// Each arm tells its byte, and so its form.
+unfolding(crate::specs::Commands::form_of, crate::specs::Commands::operands, crate::specs::Commands::made))]
 fn command_of(byte: u8, commands: &[u8], at: usize) -> Command
-    requires { (byte < length forms) × (at + 2 * operands (form_of byte) ≤ length commands.now) }
+    requires known { byte < length forms }
+    requires whole { at + 2 * operands (form_of byte) ≤ length commands.now }
     ensures { result ≡ made (form_of byte) commands.now at }
 {
     match byte {
-        0x00 => Command::Unit,
-        0x01 => Command::Bool,
-        0x02 => Command::I8,
-        0x03 => Command::I16,
-        0x04 => Command::I32,
-        0x05 => Command::I64,
-        0x06 => Command::U8,
-        0x07 => Command::U16,
-        0x08 => Command::U32,
-        0x09 => Command::U64,
-        0x0A => Command::F32,
-        0x0B => Command::F64,
-        0x0C => Command::Char,
-        0x0D => Command::Text(read_name(commands, at)),
-        0x0E => Command::Bytes,
-        0x0F => Command::None,
-        0x10 => Command::Some,
-        0x11 => Command::NewtypeStruct,
-        0x12 => Command::Sequence,
-        0x13 => Command::Tuple(read_operand(commands, at)),
-        0x14 => Command::Map,
-        0x15 => Command::Struct,
-        0x16 => Command::Field(read_name(commands, at)),
-        0x17 => Command::End,
-        0x18 => Command::UnitVariant(read_operand(commands, at), read_name(commands, at + 2)),
-        0x19 => Command::NewtypeVariant(read_operand(commands, at), read_name(commands, at + 2)),
-        0x1A => Command::TupleVariant(
+        byte::UNIT => Command::Unit,
+        byte::BOOL => Command::Bool,
+        byte::I8 => Command::I8,
+        byte::I16 => Command::I16,
+        byte::I32 => Command::I32,
+        byte::I64 => Command::I64,
+        byte::U8 => Command::U8,
+        byte::U16 => Command::U16,
+        byte::U32 => Command::U32,
+        byte::U64 => Command::U64,
+        byte::F32 => Command::F32,
+        byte::F64 => Command::F64,
+        byte::CHAR => Command::Char,
+        byte::TEXT => Command::Text(read_name(commands, at)),
+        byte::BYTES => Command::Bytes,
+        byte::NONE => Command::None,
+        byte::SOME => Command::Some,
+        byte::NEWTYPE_STRUCT => Command::NewtypeStruct,
+        byte::SEQUENCE => Command::Sequence,
+        byte::TUPLE => Command::Tuple(read_operand(commands, at)),
+        byte::MAP => Command::Map,
+        byte::STRUCT => Command::Struct,
+        byte::FIELD => Command::Field(read_name(commands, at)),
+        byte::END => Command::End,
+        byte::UNIT_VARIANT => Command::UnitVariant(
+            read_operand(commands, at),
+            read_name(commands, at + 2),
+        ),
+        byte::NEWTYPE_VARIANT => Command::NewtypeVariant(
+            read_operand(commands, at),
+            read_name(commands, at + 2),
+        ),
+        byte::TUPLE_VARIANT => Command::TupleVariant(
             read_operand(commands, at),
             read_name(commands, at + 2),
             read_operand(commands, at + 6),
@@ -274,51 +300,44 @@ fn command_of(byte: u8, commands: &[u8], at: usize) -> Command
 }
 
 // The command at an offset. At one command refusal 4 is tested before 5, and 5 before 6.
-pub fn read_command(commands: &[u8], text: &[u8], at: usize, due: Due) -> Read
+pub fn read_command(
+    commands: &[u8],
+    text: &[u8],
+    at: usize,
+    due: Due,
+) -> Result<(Command, usize), Refused>
     ensures { result ≡ read_command commands.now text.now at due }
 {
+    let bad_command = Refused {
+        refusal: Refusal::BadCommand,
+        place: at,
+    };
     if commands.len() <= at {
-        return Read::Refused(Refusal::BadCommand, at);
+        return Err(bad_command);
     }
     let byte = read_byte(commands, at);
     if COMMANDS <= byte {
-        return Read::Refused(Refusal::BadCommand, at);
+        return Err(bad_command);
     }
     let operands = operand_count(byte);
     let width = 1 + 2 * operands as usize;
     if commands.len() - at < width {
-        return Read::Refused(Refusal::BadCommand, at);
+        return Err(bad_command);
     }
     if !due.admits(byte) {
-        return Read::Refused(Refusal::BadCommand, at);
+        return Err(bad_command);
     }
     if has_bad_name(commands, text, at + 1, operands) {
-        return Read::Refused(Refusal::BadName, at);
+        return Err(Refused {
+            refusal: Refusal::BadName,
+            place: at,
+        });
     }
     if due.is_bad_key(byte) {
-        return Read::Refused(Refusal::BadKey, at);
+        return Err(Refused {
+            refusal: Refusal::BadKey,
+            place: at,
+        });
     }
-    Read::Command(command_of(byte, commands, at + 1), at + width)
-}
-
-impl Read {
-    // The refusal of a reading that has one.
-    pub fn refusal(self) -> Refusal
-        ensures { result ≡ refusal_of self }
-    {
-        match self {
-            Read::Refused(refusal, _) => refusal,
-            Read::Command(_, _) => Refusal::BadCommand,
-        }
-    }
-
-    // The place of a refusal, or the offset behind a command.
-    pub fn place(self) -> usize
-        ensures { result ≡ place_of self }
-    {
-        match self {
-            Read::Refused(_, place) => place,
-            Read::Command(_, next) => next,
-        }
-    }
+    Ok((command_of(byte, commands, at + 1), at + width))
 }

@@ -1,12 +1,9 @@
 -- The codes of types and strategies, as in document 01's "Field records".
-use Rattle.std.specs.Prelude.{ℕ, List, [], ◌∷◌}
-use Rattle.std.proofs.Math.Option.{Option, none, some}
-use Rattle.std.proofs.Math.ListN.{get_elem?}
+use Rattle.std.specs.Prelude.{ℕ, List, [], ◌∷◌, Result, slice_get, ok_or}
 use Rattle.datatype.specs.declared.Zone.TheVariants as Z
 use Rattle.datatype.specs.declared.DataType.{DataType}
 use Rattle.datatype.specs.declared.DataType.TheVariants as D
-use Rattle.datatype.specs.declared.Decoded.{Decoded}
-use Rattle.datatype.specs.declared.Decoded.TheVariants as E
+use Rattle.datatype.specs.declared.UnknownCode.{UnknownCode}
 use Rattle.datatype.specs.declared.Strategy.{Strategy}
 use Rattle.datatype.specs.declared.Strategy.TheVariants as S
 
@@ -175,9 +172,5 @@ types =
     []
 
 -- the type with a code, where there is one
-abbrev pub as_decoded : Option DataType → Decoded
-as_decoded none = E.Unknown
-as_decoded (some t) = E.Type t
-
-unfoldable pub decoded : ℕ → Decoded
-decoded code = as_decoded (get_elem? types code)
+unfoldable pub decoded : ℕ → Result DataType UnknownCode
+decoded code = ok_or (slice_get types code) (record { code = code })

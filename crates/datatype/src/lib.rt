@@ -7,7 +7,7 @@ ghost use Rattle.std.specs.Prelude.{◌≡◌};
 ghost use Rattle.datatype.specs.Codes.{code_of, decoded, strategy_code};
 
 // Whether a timestamp has a zone: none, or UTC.
-#[derive(Clone, Copy)]
+#[derive(Clone, Copy, PartialEq, Eq)]
 pub enum Zone {
     Naive,
     Utc,
@@ -15,7 +15,7 @@ pub enum Zone {
 
 // The type of a column. A timestamp is in milliseconds, a time in nanoseconds, a dictionary has UInt32 keys,
 // and a union is dense.
-#[derive(Clone, Copy)]
+#[derive(Clone, Copy, PartialEq, Eq)]
 pub enum DataType {
     Null,
     Boolean,
@@ -46,7 +46,7 @@ pub enum DataType {
 }
 
 // How a field without a direct match in Arrow is to be read (strategy.rs). Tracing samples gives no other.
-#[derive(Clone, Copy)]
+#[derive(Clone, Copy, PartialEq, Eq)]
 pub enum Strategy {
     None,
     TupleAsStruct,
@@ -54,14 +54,14 @@ pub enum Strategy {
     UnknownVariant,
 }
 
-// What stands for a code: a type, or nothing.
-#[derive(Clone, Copy)]
-pub enum Decoded {
-    Type(DataType),
-    Unknown,
+// A code that is no type's.
+#[derive(Clone, Copy, PartialEq, Eq)]
+pub struct UnknownCode {
+    pub code: u8,
 }
 
-// The types in the order of their codes.
+// The types in the order of their codes. They stand here by code and in `From` by type: Rust lists no enum's variants, and
+// to search this list for a type is no plainer than the `match`.
 const TYPES: [DataType; 27] = [
     DataType::Null,
     DataType::Boolean,
@@ -92,12 +92,12 @@ const TYPES: [DataType; 27] = [
     DataType::Union,
 ];
 
-impl DataType {
-    // The code of a field record's first byte.
-    pub fn code(self) -> u8
-        ensures { result ≡ code_of self }
-    {
-        match self {
+// The code of a field record's first byte.
+impl From<DataType> for u8 {
+    ghost from_gives = { λ data_type code. code ≡ code_of data_type };
+
+    fn from(data_type: DataType) -> u8 {
+        match data_type {
             DataType::Null => 0,
             DataType::Boolean => 1,
             DataType::Int8 => 2,
@@ -116,10 +116,8 @@ impl DataType {
             DataType::LargeBinary => 15,
             DataType::Date32 => 16,
             DataType::Time64 => 17,
-            DataType::Timestamp(zone) => match zone {
-                Zone::Naive => 18,
-                Zone::Utc => 19,
-            },
+            DataType::Timestamp(Zone::Naive) => 18,
+            DataType::Timestamp(Zone::Utc) => 19,
             DataType::DictionaryUtf8 => 20,
             DataType::DictionaryLargeUtf8 => 21,
             DataType::List => 22,
@@ -129,15 +127,41 @@ impl DataType {
             DataType::Union => 26,
         }
     }
+}
 
-    // The type with that code.
-    pub fn from_code(code: u8) -> Decoded
-        ensures { result ≡ decoded code }
+// The type with that code.
+impl TryFrom<u8> for DataType {
+    type Error = UnknownCode;
+
+    ghost try_from_gives = { λ code r. r ≡ decoded code };
+
+    fn try_from(code: u8) -> Result<DataType, UnknownCode> {
+        TYPES
+            .get(code as usize)
+            .copied()
+            .ok_or(UnknownCode { code })
+    }
+}
+
+impl DataType {
+    // The code of a field record's first byte.
+    pub fn code(self) -> u8
+        ensures { result ≡ code_of self }
     {
-        if code < 27 {
-            Decoded::Type(TYPES[code as usize])
-        } else {
-            Decoded::Unknown
+        u8::from(self)
+    }
+}
+
+// The code of a field record's third byte.
+impl From<Strategy> for u8 {
+    ghost from_gives = { λ strategy code. code ≡ strategy_code strategy };
+
+    fn from(strategy: Strategy) -> u8 {
+        match strategy {
+            Strategy::None => 0,
+            Strategy::TupleAsStruct => 1,
+            Strategy::MapAsStruct => 2,
+            Strategy::UnknownVariant => 3,
         }
     }
 }
@@ -147,11 +171,6 @@ impl Strategy {
     pub fn code(self) -> u8
         ensures { result ≡ strategy_code self }
     {
-        match self {
-            Strategy::None => 0,
-            Strategy::TupleAsStruct => 1,
-            Strategy::MapAsStruct => 2,
-            Strategy::UnknownVariant => 3,
-        }
+        u8::from(self)
     }
 }

@@ -1,6 +1,6 @@
 -- Emission over the words of a table whose children are in order is the model's.
 use Prim.{tt}
-use Rattle.std.specs.Prelude.{◌≡◌, Bool, true, List, ℕ, ◌≤◌, length, eqb}
+use Rattle.std.specs.Prelude.{Ok, Err, ◌≡◌, Bool, true, List, ℕ, ◌≤◌, length, eqb}
 use Rattle.std.proofs.Math.Path.{refl}
 use Rattle.std.proofs.Common.{sym, arith}
 use Rattle.std.proofs.Math.Bool.{false}
@@ -12,16 +12,13 @@ use Rattle.equality.specs.laws.Base.{not_refused}
 use Rattle.model.specs.Result.{Result, accepted, refused}
 use Rattle.model.specs.Tracing.{place_limit, Counted, counted}
 use Rattle.model.specs.Emission.{place_of, walk, Field, mk, Fields, field_of, root_fields, root_name, to_schema, names_in, columns_in, count_in}
-use Rattle.leaves.specs.declared.Traced.TheVariants as T
-use Rattle.leaves.specs.Leaves.{out}
+use Rattle.leaves.specs.Leaves.{traced_to, out}
 use Rattle.refine.specs.laws.numbered.Tree.{Spot, spot, Spots, no_spots, child, num}
 use Rattle.refine.specs.laws.numbered.Numbers.{Good}
 use Rattle.refine.specs.laws.words.Places.{Rep, Fits}
 use Rattle.refine.specs.laws.numbered.Erased.{erase}
 use Rattle.refine.proofs.words.Batch.{Ends, ends}
-use Rattle.walk.specs.declared.Walked.{Walked}
-use Rattle.walk.specs.declared.Walked.TheVariants as W
-use Rattle.walk.specs.Walk.{walked}
+use Rattle.walk.specs.Walk.{Walked, walked}
 use Rattle.schema.specs.Emit.{Answered, level_limit, finished, on_walked, to_schema_at}
 use Rattle.emission.specs.laws.order.Arranged.{Orders, FitS}
 use Rattle.emission.specs.laws.firstwalk.Places.{many_s}
@@ -79,12 +76,12 @@ module _ (options end : ℕ) (text t fields names : List ℕ) (n : ℕ) (u : Spo
           Emits fields names (elim (walk options (place_of false (erase u)))
           [ some refusal ↦ refused refusal end | none ↦ root_fields end (field_of options root_name 0 (place_of false (erase u))) ])
           (on_walked (finished options text t fields names) fields names w)
-      go (W.Refused refusal) e = rw e (refusal, refl, refl)
-      go (W.Below records bytes columns) (e, r, b, c) =
-          rw e (counts_are records bytes columns _ _ refl r b c
-          (finishes options text t fields names end records bytes columns n u root_name most root good rep fit orders neat e r b))
+      go (Err refusal) e = rw e (refusal, refl, refl)
+      go (Ok x) (e, r, b, c) =
+          rw e (counts_are x.records x.names x.columns _ _ refl r b c
+          (finishes options text t fields names end x.records x.names x.columns n u root_name most root good rep fit orders neat e r b))
 
 -- ---- of a batch that was traced
 -- the numbered tree that the table says
-pub tree_said : {text : List ℕ} {behind n : ℕ} {t : List ℕ} {x : Result (Counted Spot)} → Ends text x (out (T.Next behind n) t) → (u : Spot) × (x ≡ counted n u) × (num u ≡ 0) × Fits text t n u
+pub tree_said : {text : List ℕ} {behind n : ℕ} {t : List ℕ} {x : Result (Counted Spot)} → Ends text x (out (traced_to behind n) t) → (u : Spot) × (x ≡ counted n u) × (num u ≡ 0) × Fits text t n u
 tree_said (ends {u = u} z h) = (u, refl, z, h)

@@ -6,9 +6,8 @@ use Rattle.words.specs.Word.{zeros}
 use Rattle.model.specs.Reading.{values}
 use Rattle.model.specs.Tracing.{trace, counted}
 use Rattle.model.specs.Answer.{input_limit, schema_of}
-use Rattle.leaves.specs.declared.Traced.TheVariants as T
 use Rattle.samples.specs.Samples.{from_samples}
-use Rattle.leaves.specs.Leaves.{out}
+use Rattle.leaves.specs.Leaves.{traced_to, out}
 use Rattle.commands.specs.Bytes.{Bytes}
 use Rattle.refine.specs.laws.numbered.Erased.{erase, erased, walk_is_model}
 use Rattle.refine.proofs.words.Batch.{flat_is_walk}
@@ -24,7 +23,7 @@ use Rattle.emission.proofs.Emitted.{emitted_is_model, tree_said}
 
 -- what is emitted of a batch that was traced, its children put in order, is what the model gives
 pub schema_is_model : (options : ℕ) (commands text : List ℕ) → Bytes commands → length commands ≤ input_limit →
-    (behind n : ℕ) (traced fields names : List ℕ) → from_samples commands text options zeros ≡ out (T.Next behind n) traced →
+    (behind n : ℕ) (traced fields names : List ℕ) → from_samples commands text options zeros ≡ out (traced_to behind n) traced →
     Emits fields names (schema_of (record { options = options; commands = commands; text = text }))
     (to_schema_at options text (sorted_places text traced n) fields names)
 unfolding schema_of

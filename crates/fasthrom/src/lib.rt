@@ -6,8 +6,6 @@
 ghost use Rattle.call.specs.Call.{handed_in, lent_in, left_in};
 ghost use Rattle.fasthrom.specs.Called.{Called};
 
-use call::Outcome;
-
 // What the call answers, by number: on success refusal and place are 0, on a refusal every count is.
 #[repr(C)]
 #[derive(Clone, Copy)]
@@ -31,16 +29,16 @@ pub fn fasthrom_trace(
     ensures { Called (handed_in options commands text) (lent_in table fields names) result (left_in table fields names) }
 {
     match call::trace(options, commands, text, table, fields, names) {
-        Outcome::Schema(records, bytes, columns) => Answer {
+        Ok(counts) => Answer {
             refusal: 0,
             place: 0,
-            field_records: records,
-            name_bytes: bytes,
-            columns,
+            field_records: counts.records,
+            name_bytes: counts.names,
+            columns: counts.columns,
         },
-        Outcome::Refused(refusal, place) => Answer {
-            refusal: refusal.number() as u32,
-            place: place as u32,
+        Err(refused) => Answer {
+            refusal: refused.refusal.number() as u32,
+            place: refused.place as u32,
             field_records: 0,
             name_bytes: 0,
             columns: 0,

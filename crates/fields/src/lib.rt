@@ -5,48 +5,48 @@
 ghost use Rattle.std.specs.Prelude.{◌≡◌, ◌&&◌, ◌||◌, ◌%◌, eqb};
 ghost use Rattle.datatype.specs.Codes.{utf8, large_utf8, strategy_code};
 ghost use Rattle.options.specs.Word.{string_dictionary_encoding};
-ghost use Rattle.words.specs.Word.{word, IsTable, IsRow};
+ghost use Rattle.words.specs.Word.{word, IsRow};
 ghost use Rattle.model.specs.Emission.{type_of, strategy_of};
 ghost use Rattle.places.specs.Layout.{null_word};
 ghost use Rattle.fields.specs.Fields.{count_with, count_below, field_count, lacking_at, is_dictionary, is_leaf};
 
 use datatype::{DataType, Strategy};
 use options::TracingOptions;
+use words::Table;
 
 // The count of fields after a child: the slots of a union up to its own.
-fn count_with(kind: u32, table: &[u32], child: usize, count: u32) -> u32
-    requires { IsRow child × IsTable table.now }
+fn count_with(kind: u32, table: &Table, child: usize, count: u32) -> u32
+    requires { IsRow child }
     ensures { result ≡ count_with kind table.now child count }
 {
     if kind == shapes::UNION {
-        return walk::sum(places::variant(table, child), 1);
+        walk::slot_behind(table, child)
+    } else {
+        count.wrapping_add(1)
     }
-    walk::sum(count, 1)
 }
 
 // How many fields stand below a place.
-fn count_children(table: &[u32], kind: u32, place: usize) -> u32
-    requires { IsRow place × IsTable table.now }
+fn count_children(table: &Table, kind: u32, place: usize) -> u32
+    requires { IsRow place }
     ensures { result ≡ count_below table.now kind place }
 {
     let mut count: u32 = 0;
     let mut child = places::next_child(table, false, kind, place, 0);
-    let mut left = places::CHILDREN;
-    while 0 < left {
+    for _ in 0..places::CHILDREN {
         if child == 0 {
             return count;
         }
         count = count_with(kind, table, child, count);
         child = places::next_child(table, false, kind, place, child);
-        left -= 1;
     }
     count
 }
 
 // How many fields a place's field has: the entries of a map, the slots of a union up to the highest seen, else its
 // children.
-pub fn field_count(table: &[u32], kind: u32, place: usize) -> u32
-    requires { IsRow place × IsTable table.now }
+pub fn field_count(table: &Table, kind: u32, place: usize) -> u32
+    requires { IsRow place }
     ensures { result ≡ field_count table.now kind place }
 {
     if kind == shapes::MAP {
@@ -59,20 +59,14 @@ pub fn field_count(table: &[u32], kind: u32, place: usize) -> u32
 fn is_text(kind: u32) -> bool
     ensures { result ≡ (eqb kind utf8 || eqb kind large_utf8) }
 {
-    if kind == DataType::Utf8.code() as u32 {
-        return true;
-    }
-    kind == DataType::LargeUtf8.code() as u32
+    kind == u32::from(DataType::Utf8.code()) || kind == u32::from(DataType::LargeUtf8.code())
 }
 
 // A string that is emitted as a dictionary.
 fn is_encoded(options: TracingOptions, kind: u32) -> bool
     ensures { result ≡ ((eqb kind utf8 || eqb kind large_utf8) && string_dictionary_encoding options.word) }
 {
-    if is_text(kind) {
-        return options.string_dictionary_encoding();
-    }
-    false
+    is_text(kind) && options.string_dictionary_encoding()
 }
 
 // The type of a place of that kind.
@@ -105,51 +99,39 @@ pub fn strategy_of(kind: u32) -> Strategy
 }
 
 // Whether null is admitted: it was seen, or a sample lacks the field.
-pub fn is_nullable(table: &[u32], place: usize, lacking: bool) -> bool
-    requires { IsRow place × IsTable table.now }
+pub fn is_nullable(table: &Table, place: usize, lacking: bool) -> bool
+    requires { IsRow place }
     ensures { result ≡ (lacking || eqb (word table.now place null_word) 1) }
 {
-    if lacking {
-        return true;
-    }
-    words::get(table, place, places::NULL) == 1
+    lacking || words::get(table, place, places::NULL) == 1
 }
 
 // A struct field that some sample lacks.
-pub fn is_lacking(table: &[u32], kind: u32, place: usize, child: usize) -> bool
-    requires { IsRow place × IsRow child × IsTable table.now }
+pub fn is_lacking(table: &Table, kind: u32, place: usize, child: usize) -> bool
+    requires place_row { IsRow place }
+    requires child_row { IsRow child }
     ensures { result ≡ lacking_at table.now kind place child }
 {
-    if !kinds::is_struct(kind) {
-        return false;
-    }
-    words::get(table, child, places::HELD) < words::get(table, place, places::SAMPLES)
+    kinds::is_struct(kind)
+        && words::get(table, child, places::HELD) < words::get(table, place, places::SAMPLES)
 }
 
 // A union that is emitted as a dictionary.
-pub fn is_dictionary(options: TracingOptions, table: &[u32], place: usize) -> bool
-    requires { IsRow place × IsTable table.now }
+pub fn is_dictionary(options: TracingOptions, table: &Table, place: usize) -> bool
+    requires { IsRow place }
     ensures { result ≡ is_dictionary options.word table.now place }
 {
-    if words::get(table, place, places::KIND) != shapes::UNION {
-        return false;
-    }
-    if !options.enums_without_data_as_strings() {
-        return false;
-    }
-    walk::is_dataless(table, place)
+    words::get(table, place, places::KIND) == shapes::UNION
+        && options.enums_without_data_as_strings()
+        && walk::is_dataless(table, place)
 }
 
 // Whether nothing is emitted below a place.
-pub fn is_leaf(options: TracingOptions, levels: usize, table: &[u32], place: usize) -> bool
-    requires { IsRow place × IsTable table.now }
+pub fn is_leaf(options: TracingOptions, levels: usize, table: &Table, place: usize) -> bool
+    requires { IsRow place }
     ensures { result ≡ is_leaf options.word table.now (eqb levels 0) place }
 {
-    if words::get(table, place, places::KIND) < shapes::SEQUENCE {
-        return true;
-    }
-    if levels == 0 {
-        return true;
-    }
-    is_dictionary(options, table, place)
+    words::get(table, place, places::KIND) < shapes::SEQUENCE
+        || levels == 0
+        || is_dictionary(options, table, place)
 }

@@ -2,124 +2,77 @@
 
 #![tactic(auto)]
 
-ghost use Rattle.std.specs.Prelude.{◌≡◌, ◌+◌, ◌<◌, ◌≤◌, min, length};
+ghost use Rattle.std.specs.Prelude.{◌≡◌, ◌+◌, ◌<◌, ◌≤◌, IfOk, IfSome, min, length, vec_len};
 ghost use Rattle.io.specs.Counts.{IsPrefixLen};
 ghost use Rattle.files.specs.Bytes.{two_bytes, three_bytes};
 
-use std::fs;
 use std::io::Read;
 use std::rt::Files;
+use std::{fs, io};
 
-// What came of reading: how many bytes are at the start of the buffer. Where the file cannot be read, a line on
-// standard error has said why.
-#[derive(Clone, Copy)]
-pub struct Loaded {
-    pub readable: bool,
-    pub bytes: usize,
+fn read<R: Files + Alloc>(rt: &R, path: &str, most: usize) -> io::Result<Vec<u8, R::A>>
+    ensures { IfOk result (λ bytes. vec_len bytes ≤ most) }
+{
+    let mut bytes = Vec::new(rt.alloc());
+    fs::open(rt, path)?
+        .take(most as u64)
+        .read_to_end(&mut bytes)?;
+    // Nothing is cut off here: `read_to_end` does not promise that it stopped there.
+    bytes.truncate(most);
+    Ok(bytes)
 }
 
-// One read. Of a failed one no byte counts.
-fn read_some<R: Eprint, F: Read>(rt: &R, file: &mut F, path: &str, buffer: &mut [u8]) -> Loaded
-    ensures { IsPrefixLen result.bytes buffer.new }
+// A file's bytes from its start on, so many at most. No contract can say which bytes these are, nor how many. Where the file
+// cannot be read, a line on standard error says why; a path is as the system gave it, and need not be text.
+pub fn load<R: Files + Eprint + Alloc>(rt: &R, path: &[u8], most: usize) -> Option<Vec<u8, R::A>>
+    ensures { IfSome result (λ bytes. vec_len bytes ≤ most) }
 {
-    match file.read(buffer) {
-        Ok(bytes) => Loaded {
-            readable: true,
-            bytes,
-        },
-        Err(error) => {
-            let _ = eprintln!(rt; "{path}: {error}");
-            Loaded {
-                readable: false,
-                bytes: 0,
-            }
-        }
-    }
-}
-
-// Reads until the file ends or the buffer is full.
-fn read_all<R: Eprint, F: Read>(rt: &R, file: &mut F, path: &str, buffer: &mut [u8]) -> Loaded
-    ensures { IsPrefixLen result.bytes buffer.new }
-{
-    let mut done = 0;
-    while done < buffer.len() {
-        let some = read_some(rt, file, path, &mut buffer[done..]);
-        if some.bytes == 0 {
-            return Loaded {
-                readable: some.readable,
-                bytes: done,
-            };
-        }
-        done += some.bytes;
-    }
-    Loaded {
-        readable: true,
-        bytes: done,
-    }
-}
-
-// The same of the file with that path.
-fn read_file<R: Files + Eprint>(rt: &R, path: &str, buffer: &mut [u8]) -> Loaded
-    ensures { IsPrefixLen result.bytes buffer.new }
-{
-    match fs::open(rt, path) {
-        Ok(mut file) => read_all(rt, &mut file, path, buffer),
-        Err(error) => {
-            let _ = eprintln!(rt; "{path}: {error}");
-            Loaded {
-                readable: false,
-                bytes: 0,
-            }
-        }
-    }
-}
-
-// The file's bytes into a buffer, as many as it holds. No contract can say which bytes these are, nor how many.
-pub fn load<R: Files + Eprint>(rt: &R, path: &[u8], buffer: &mut [u8]) -> Loaded
-    ensures { IsPrefixLen result.bytes buffer.new }
-{
-    match str::from_utf8(path) {
-        Ok(path) => read_file(rt, path, buffer),
-        Err(error) => {
+    let path = str::from_utf8(path)
+        .inspect_err(|error| {
             let _ = eprintln!(rt; "the path of a file: {error}");
-            Loaded {
-                readable: false,
-                bytes: 0,
-            }
-        }
-    }
-}
-
-pub fn wide(byte: u8) -> usize
-    ensures { (result ≡ byte) × (result < 256) }
-{
-    byte as usize
+        })
+        .ok()?;
+    read(rt, path, most)
+        .inspect_err(|error| {
+            let _ = eprintln!(rt; "{path}: {error}");
+        })
+        .ok()
 }
 
 // Two bytes, low byte first.
-pub fn two_bytes(bytes: &[u8], at: usize) -> usize
+pub fn two_bytes(bytes: &[u8], at: usize) -> u16
     requires { at + 1 < length bytes.now }
-    ensures { (result ≡ two_bytes bytes.now at) × (result < 65536) }
+    ensures { result ≡ two_bytes bytes.now at }
 {
-    wide(bytes[at]) + wide(bytes[at + 1]) * 256
+    u16::from_le_bytes([bytes[at], bytes[at + 1]])
 }
 
 // Three bytes, low byte first.
 pub fn three_bytes(bytes: &[u8], at: usize) -> usize
     requires { at + 2 < length bytes.now }
-    ensures { (result ≡ three_bytes bytes.now at) × (result < 16777216) }
+    ensures value { result ≡ three_bytes bytes.now at }
+    ensures range { result < 16777216 }
 {
-    two_bytes(bytes, at) + wide(bytes[at + 2]) * 65536
+    u32::from_le_bytes([bytes[at], bytes[at + 1], bytes[at + 2], 0]) as usize
 }
 
 // So many bytes from an offset on end here: with the buffer, if it has not as many.
 pub fn end_of(buffer: &[u8], at: usize, bytes: usize) -> usize
     requires { at ≤ length buffer.now }
-    ensures { (result ≡ min (length buffer.now) (at + bytes)) × (at ≤ result) × IsPrefixLen result buffer.now }
+    ensures value { result ≡ min (length buffer.now) (at + bytes) }
+    ensures range { (at ≤ result) × IsPrefixLen result buffer.now }
 {
-    if buffer.len() - at < bytes {
-        buffer.len()
-    } else {
-        at + bytes
+    at.saturating_add(bytes).min(buffer.len())
+}
+
+#[cfg(test)]
+mod tests {
+    use super::*;
+
+    // Memory is left for the bytes, and no more are read than were asked for: the file has no end.
+    #[test]
+    fn loads_as_many_as_asked(rt: HostRuntime) {
+        let bytes = load(&rt, b"/dev/zero", 5);
+        assert!(rt; bytes.is_some_and(|bytes| bytes.as_slice() == [0u8; 5].as_slice()));
     }
 }

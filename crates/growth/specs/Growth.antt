@@ -1,7 +1,8 @@
 -- How places come to the table: a new last child, the child at a step found or made, samples counted, and the children of a container.
-use Rattle.std.specs.Prelude.{◌≡◌, ℕ, zero, suc, ◌+◌, ◌%◌, ◌^◌, ◌<◌, not, ◌&&◌, List, [], ◌∷◌, ◌==◌, nat_le}
+use Rattle.std.specs.Prelude.{◌≡◌, ℕ, zero, suc, ◌+◌, ◌%◌, ◌^◌, ◌<◌, not, ◌&&◌, List, [], ◌∷◌, ◌==◌, nat_le, Result, Ok, Err}
 use Rattle.logic.specs.Test.{when◌then◌else◌}
 use Rattle.logic.specs.Slices.{Slice, MutSlice, now_of, at_exit}
+use Rattle.refusal.specs.declared.Refusal.{Refusal}
 use Rattle.refusal.specs.declared.Refusal.TheVariants as F
 use Rattle.text.specs.declared.Name.{Name}
 use Rattle.text.specs.Name.{bytes_of, eq_name}
@@ -13,10 +14,7 @@ use Rattle.datatype.specs.Codes.{null}
 use Rattle.shapes.specs.declared.Step.{Step}
 use Rattle.shapes.specs.declared.Step.TheVariants as S
 use Rattle.shapes.specs.Steps.{code_of, no_name, name_of, packed_name, unpacked_name}
-use Rattle.growth.specs.declared.Ensured.{Ensured}
-use Rattle.growth.specs.declared.Ensured.TheVariants as E
-use Rattle.growth.specs.declared.Made.{Made}
-use Rattle.growth.specs.declared.Made.TheVariants as D
+use Rattle.growth.specs.declared.Found.{Found}
 use Rattle.places.specs.Layout.{kind_word, samples_word, first_word, last_word, block_word, next_word, parent_word, step_word, name_word, held_word, mark_word, tag_word, position_word, Sound}
 use Rattle.search.specs.Tree.{is_numbered, seek}
 use Rattle.search.specs.Search.{child_at}
@@ -55,20 +53,26 @@ tagged text name position child t = with_word (with_word t child tag_word (tag_o
 unfoldable pub entered : ℕ → ℕ → ℕ → List ℕ → List ℕ
 entered place code n t = when is_numbered code then with_word t (seek place code n t).place (seek place code n t).field n else t
 
--- ---- the child at a step, found or made: refusals 9 and 11
+-- ---- the child at a step, found or made, and how many places there are; or refusal 9 or 11
+abbrev pub found : ℕ → ℕ → Found
+found child n = record { child = child; count = n }
+
+abbrev pub Ensured : Type 0
+Ensured = Result Found Refusal
+
 pub data Ensuring : Type 0 where
   ensuring : Ensured → List ℕ → Ensuring
 
 unfoldable pub confirmed : List ℕ → Name → ℕ → ℕ → List ℕ → Ensured
 confirmed text name child n t =
-    when eq_name (bytes_of text (unpacked_name (word t child name_word))) (bytes_of text name) then E.Child child n
-    else E.Refused F.TwoNames
+    when eq_name (bytes_of text (unpacked_name (word t child name_word))) (bytes_of text name) then Ok (found child n)
+    else Err F.TwoNames
 
 unfoldable pub ensured_by : List ℕ → ℕ → ℕ → Name → ℕ → List ℕ → ℕ → Ensuring
 ensured_by text place code name n t child =
     when not (child == 0) then ensuring (confirmed text name child n t) t
-    else when nat_le place_limit n then ensuring (E.Refused F.TooManyPlaces) t
-    else ensuring (E.Child n (n + 1)) (entered place code n (tagged text name (position_in place t) n (appended place code name n t)))
+    else when nat_le place_limit n then ensuring (Err F.TooManyPlaces) t
+    else ensuring (Ok (found n (n + 1))) (entered place code n (tagged text name (position_in place t) n (appended place code name n t)))
 
 unfoldable pub ensured : List ℕ → ℕ → Step → ℕ → List ℕ → Ensuring
 ensured text place step n t = ensured_by text place (code_of step) (name_of step) n t (child_at text place step n t)
@@ -83,23 +87,26 @@ touched place child t =
 unfoldable pub sampled : ℕ → ℕ → List ℕ → List ℕ
 sampled place kind t = with_word (with_word t place kind_word kind) place samples_word (onward (word t place samples_word))
 
--- ---- the children that a container makes at its own command
+-- ---- the children that a container makes at its own command: how many places there are, or refusal 9 or 11
+abbrev pub Made : Type 0
+Made = Result ℕ Refusal
+
 pub data Making : Type 0 where
   making : Made → List ℕ → Making
 
 abbrev pub of_ensuring : Ensuring → Making
-of_ensuring (ensuring (E.Child child n) t) = making (D.Places n) t
-of_ensuring (ensuring (E.Refused refusal) t) = making (D.Refused refusal) t
+of_ensuring (ensuring (Ok f) t) = making (Ok f.count) t
+of_ensuring (ensuring (Err refusal) t) = making (Err refusal) t
 
 unfoldable pub made_one : List ℕ → ℕ → Step → ℕ → List ℕ → Making
 made_one text place step n t = of_ensuring (ensured text place step n t)
 
 abbrev pub then_made : Making → (ℕ → List ℕ → Making) → Making
-then_made (making (D.Places n) t) more = more n t
-then_made (making (D.Refused refusal) t) more = making (D.Refused refusal) t
+then_made (making (Ok n) t) more = more n t
+then_made (making (Err refusal) t) more = making (Err refusal) t
 
 unfoldable pub made_all : List ℕ → ℕ → List Step → ℕ → List ℕ → Making
-made_all text place [] n t = making (D.Places n) t
+made_all text place [] n t = making (Ok n) t
 made_all text place (s ∷ ss) n t = then_made (made_one text place s n t) (made_all text place ss)
 
 abbrev pub positions_from : ℕ → ℕ → List Step
@@ -108,16 +115,16 @@ positions_from i (suc n) = S.Position i ∷ positions_from (suc i) n
 
 -- so many positions from i on, at a place that has none of them: appended with no search, and with no tag, for they are no fields
 unfoldable pub appended_from : ℕ → ℕ → ℕ → ℕ → List ℕ → Making
-appended_from place i zero n t = making (D.Places n) t
+appended_from place i zero n t = making (Ok n) t
 appended_from place i (suc left) n t =
-    when nat_le place_limit n then making (D.Refused F.TooManyPlaces) t
+    when nat_le place_limit n then making (Err F.TooManyPlaces) t
     else appended_from place (suc i) left (n + 1) (appended place (code_of (S.Position i)) no_name n t)
 
 -- all positions of a tuple: a block where they are the place's first children
 unfoldable pub positions_made : List ℕ → ℕ → ℕ → ℕ → List ℕ → Making
 positions_made text place positions n t =
     when word t place first_word == 0
-    then then_made (appended_from place 0 positions n t) (λ m u. making (D.Places m) (with_word u place block_word positions))
+    then then_made (appended_from place 0 positions n t) (λ m u. making (Ok m) (with_word u place block_word positions))
     else made_all text place (positions_from 0 positions) n t
 
 -- a sequence makes its element, a map its key and value, a tuple all its positions where the place was unknown
@@ -126,16 +133,16 @@ made text place kind positions before n t =
     when kind == sequence_kind then made_all text place (S.Element ∷ []) n t
     else when kind == map_kind then made_all text place (S.Key ∷ S.Value ∷ []) n t
     else when kind == tuple_kind && before == null then positions_made text place positions n t
-    else making (D.Places n) t
+    else making (Ok n) t
 
 -- ---- what is true of the table afterwards
 abbrev pub SoundEnsured : List ℕ → List ℕ → Ensured → Type 0
-SoundEnsured text t (E.Child child n) = Sound text t n × (child < n)
-SoundEnsured text t (E.Refused refusal) = Unit {0}
+SoundEnsured text t (Ok f) = Sound text t f.count × (f.child < f.count)
+SoundEnsured text t (Err refusal) = Unit {0}
 
 abbrev pub SoundMade : List ℕ → List ℕ → Made → Type 0
-SoundMade text t (D.Places n) = Sound text t n
-SoundMade text t (D.Refused refusal) = Unit {0}
+SoundMade text t (Ok n) = Sound text t n
+SoundMade text t (Err refusal) = Unit {0}
 
 -- ---- what is promised of a function that ensures a child, or makes children: its answer and the table then are what the definition gives
 -- of the table before, and the table is sound

@@ -3,7 +3,7 @@
 #![tactic(auto)]
 
 ghost use Rattle.std.specs.Prelude.{◌≡◌, ◌<◌, ◌&&◌, [], ◌∷◌, ◌==◌, ◌≢◌};
-ghost use Rattle.words.specs.Word.{word, IsTable, IsRow};
+ghost use Rattle.words.specs.Word.{word, IsRow};
 ghost use Rattle.shapes.specs.Steps.{field_code, code_of, name_of, Good};
 ghost use Rattle.places.specs.Layout.{Ready, last_word};
 ghost use Rattle.search.specs.Tree.{seek};
@@ -16,24 +16,23 @@ ghost use Rattle.shapes.specs.declared.Step.TheVariants.{Key, Value};
 use refusal::Refusal;
 use shapes::Step;
 use text::Name;
+use words::Table;
 
 // Enters a new child into the search tree, if it is numbered.
-fn enter(place: usize, code: u32, child: usize, table: &mut [u32])
-    requires { (place < child) × IsRow child × IsTable table.old }
+fn enter(place: usize, code: u32, child: usize, table: &mut Table)
+    requires { (place < child) × IsRow child }
     ensures { table.new ≡ entered place code child table.old }
 {
     if !search::is_numbered(code) {
         return;
     }
     let slot = search::seek(place, code, child, table);
-    let at = slot.place;
-    let field = slot.field;
-    words::set_link(table, at, field, child);
+    words::set_link(table, slot.place, slot.field, child);
 }
 
 // The link to a new last child: from the place where it is the first, else from the last before it.
-fn link(place: usize, child: usize, table: &mut [u32])
-    requires { IsRow place × IsRow child × IsTable table.old × IsRow (word table.old place last_word) }
+fn link(place: usize, child: usize, table: &mut Table)
+    requires { IsRow place × IsRow child × IsRow (word table.old place last_word) }
     ensures { table.new ≡ linked place child table.old }
 {
     if words::link(table, place, places::FIRST) == 0 {
@@ -45,8 +44,8 @@ fn link(place: usize, child: usize, table: &mut [u32])
 }
 
 // The words of a child that tell where it stands.
-fn describe(place: usize, code: u32, name: Name, child: usize, table: &mut [u32])
-    requires { IsRow place × IsRow child × IsTable table.old }
+fn describe(place: usize, code: u32, name: Name, child: usize, table: &mut Table)
+    requires { IsRow place × IsRow child }
     ensures { table.new ≡ described place code name child table.old }
 {
     words::set_link(table, child, places::PARENT, place);
@@ -56,8 +55,8 @@ fn describe(place: usize, code: u32, name: Name, child: usize, table: &mut [u32]
 
 // A new place as the last child. It is described first: behind these stores the compiler loads the place's links again, and need
 // not keep them while the search for a field runs.
-fn append(place: usize, code: u32, name: Name, child: usize, table: &mut [u32])
-    requires { IsRow place × IsRow child × IsTable table.old × IsRow (word table.old place last_word) }
+fn append(place: usize, code: u32, name: Name, child: usize, table: &mut Table)
+    requires { IsRow place × IsRow child × IsRow (word table.old place last_word) }
     ensures { table.new ≡ appended place code name child table.old }
 {
     describe(place, code, name, child, table);
@@ -65,62 +64,78 @@ fn append(place: usize, code: u32, name: Name, child: usize, table: &mut [u32])
     words::set_link(table, place, places::LAST, child);
 }
 
-// A child at a step, and how many places there are; or a refusal (9 or 11).
+// The child that was found or made, and how many places there are.
 #[derive(Clone, Copy)]
-pub enum Ensured {
-    Child(usize, usize),
-    Refused(Refusal),
+pub struct Found {
+    pub child: usize,
+    pub count: usize,
 }
 
-// The child that was found, whose name must be the one given (a variant's number has one name), and may be long.
-fn confirm(text: &[u8], name: Name, child: usize, count: usize, table: &[u32]) -> Ensured
+// The child that was found, whose name must be the one given (a variant's number has one name), and may be long; else
+// refusal 9.
+fn confirm(
+    text: &[u8],
+    name: Name,
+    child: usize,
+    count: usize,
+    table: &Table,
+) -> Result<Found, Refusal>
     requires { Comparable text.now table.now name child }
     ensures { result ≡ confirmed text.now name child count table.now }
 {
     if shapes::unpacked(words::get(table, child, places::NAME)).equals_long(name, text) {
-        Ensured::Child(child, count)
+        Ok(Found { child, count })
     } else {
-        Ensured::Refused(Refusal::TwoNames)
+        Err(Refusal::TwoNames)
     }
 }
 
 // The position that a new child gets among its siblings: one behind the last's.
-fn next_position(place: usize, table: &[u32]) -> u32
-    requires { IsRow place × IsTable table.now × IsRow (word table.now place last_word) }
+fn next_position(place: usize, table: &Table) -> u32
+    requires { IsRow place × IsRow (word table.now place last_word) }
     ensures { result ≡ position_in place table.now }
 {
     if words::link(table, place, places::FIRST) == 0 {
         return 0;
     }
     let last = words::link(table, place, places::LAST);
-    std::num::wrapping_add_u32(words::get(table, last, places::POSITION), 1)
+    words::get(table, last, places::POSITION).wrapping_add(1)
 }
 
-// A new last child, at a step where the place has none, if there is room.
+// A new last child, at a step where the place has none, if there is room; else refusal 11.
 pub fn add(
     text: &[u8],
     place: usize,
     code: u32,
     name: Name,
     count: usize,
-    table: &mut [u32],
-) -> Ensured
+    table: &mut Table,
+) -> Result<Found, Refusal>
     requires { Ready text.now table.old count place × Good text.now name }
     ensures { EnsuredAs text table result (ensured_by text.now place code name count table.old 0) }
 {
     if places::PLACES <= count {
-        return Ensured::Refused(Refusal::TooManyPlaces);
+        return Err(Refusal::TooManyPlaces);
     }
     let position = next_position(place, table);
     append(place, code, name, count, table);
     words::set(table, count, places::TAG, name.tag(text));
     words::set(table, count, places::POSITION, position);
     enter(place, code, count, table);
-    Ensured::Child(count, count + 1)
+    Ok(Found {
+        child: count,
+        count: count + 1,
+    })
 }
 
 // The child of a place at a step that is no field: found, or made where there is room.
-pub fn ensure(text: &[u8], place: usize, step: Step, count: usize, table: &mut [u32]) -> Ensured
+pub fn ensure(
+    text: &[u8],
+    place: usize,
+    step: Step,
+    count: usize,
+    table: &mut Table,
+) -> Result<Found, Refusal>
     requires { Ready text.now table.old count place × Good text.now (name_of step) × (code_of step ≢ field_code) }
     ensures { EnsuredAs text table result (ensured text.now place step count table.old) }
 {
@@ -134,8 +149,8 @@ pub fn ensure(text: &[u8], place: usize, step: Step, count: usize, table: &mut [
 }
 
 // Counts the child once among those that the place's present sample holds.
-pub fn touch(place: usize, child: usize, table: &mut [u32])
-    requires { IsRow place × IsRow child × IsTable table.old }
+pub fn touch(place: usize, child: usize, table: &mut Table)
+    requires { IsRow place × IsRow child }
     ensures { table.new ≡ touched place child table.old }
 {
     let sample = words::get(table, place, places::SAMPLES);
@@ -143,57 +158,42 @@ pub fn touch(place: usize, child: usize, table: &mut [u32])
         return;
     }
     let held = words::get(table, child, places::HELD);
-    words::set(
-        table,
-        child,
-        places::HELD,
-        std::num::wrapping_add_u32(held, 1),
-    );
+    words::set(table, child, places::HELD, held.wrapping_add(1));
     words::set(table, child, places::MARK, sample);
 }
 
 // The place has that kind, and one more sample.
-pub fn sample(place: usize, kind: u32, table: &mut [u32])
-    requires { IsRow place × IsTable table.old }
+pub fn sample(place: usize, kind: u32, table: &mut Table)
+    requires { IsRow place }
     ensures { table.new ≡ sampled place kind table.old }
 {
     let samples = words::get(table, place, places::SAMPLES);
     words::set(table, place, places::KIND, kind);
-    words::set(
-        table,
-        place,
-        places::SAMPLES,
-        std::num::wrapping_add_u32(samples, 1),
-    );
+    words::set(table, place, places::SAMPLES, samples.wrapping_add(1));
 }
 
-// How many places there are, or a refusal (11).
-#[derive(Clone, Copy)]
-pub enum Made {
-    Places(usize),
-    Refused(Refusal),
-}
-
-// One child that must be there.
-fn make_one(text: &[u8], place: usize, step: Step, count: usize, table: &mut [u32]) -> Made
+// One child that must be there: how many places there are, as below.
+fn make_one(
+    text: &[u8],
+    place: usize,
+    step: Step,
+    count: usize,
+    table: &mut Table,
+) -> Result<usize, Refusal>
     requires { Ready text.now table.old count place × Good text.now (name_of step) × (code_of step ≢ field_code) }
     ensures { MadeAs text table result (made_one text.now place step count table.old) }
 {
-    match ensure(text, place, step, count, table) {
-        Ensured::Child(_, more) => Made::Places(more),
-        Ensured::Refused(refusal) => Made::Refused(refusal),
-    }
+    let found = ensure(text, place, step, count, table)?;
+    Ok(found.count)
 }
 
 // A map's key and value.
-fn make_pair(text: &[u8], place: usize, count: usize, table: &mut [u32]) -> Made
+fn make_pair(text: &[u8], place: usize, count: usize, table: &mut Table) -> Result<usize, Refusal>
     requires { Ready text.now table.old count place }
     ensures { MadeAs text table result (made_all text.now place (Key ∷ Value ∷ []) count table.old) }
 {
-    match make_one(text, place, Step::Key, count, table) {
-        Made::Places(more) => make_one(text, place, Step::Value, more, table),
-        Made::Refused(refusal) => Made::Refused(refusal),
-    }
+    let more = make_one(text, place, Step::Key, count, table)?;
+    make_one(text, place, Step::Value, more, table)
 }
 
 // All positions of a tuple at a place that has children.
@@ -202,23 +202,16 @@ fn seek_positions(
     place: usize,
     positions: u16,
     count: usize,
-    table: &mut [u32],
-) -> Made
+    table: &mut Table,
+) -> Result<usize, Refusal>
     requires { Ready text.now table.old count place }
     ensures { MadeAs text table result (made_all text.now place (positions_from 0 positions) count table.old) }
 {
-    let mut i: u16 = 0;
     let mut places = count;
-    while i < positions {
-        match make_one(text, place, Step::Position(i), places, table) {
-            Made::Places(more) => {
-                places = more;
-            }
-            Made::Refused(refusal) => return Made::Refused(refusal),
-        }
-        i += 1;
+    for i in 0..positions {
+        places = make_one(text, place, Step::Position(i), places, table)?;
     }
-    Made::Places(places)
+    Ok(places)
 }
 
 // All positions of a tuple: a block where they are the place's first children.
@@ -227,27 +220,25 @@ fn make_positions(
     place: usize,
     positions: u16,
     count: usize,
-    table: &mut [u32],
-) -> Made
+    table: &mut Table,
+) -> Result<usize, Refusal>
     requires { Ready text.now table.old count place }
     ensures { MadeAs text table result (positions_made text.now place positions count table.old) }
 {
     if words::link(table, place, places::FIRST) != 0 {
         return seek_positions(text, place, positions, count, table);
     }
-    let mut i: u16 = 0;
     let mut places = count;
-    while i < positions {
+    for i in 0..positions {
         if places::PLACES <= places {
-            return Made::Refused(Refusal::TooManyPlaces);
+            return Err(Refusal::TooManyPlaces);
         }
         let step = Step::Position(i);
         append(place, step.code(), step.name(), places, table);
         places += 1;
-        i += 1;
     }
     words::set_link(table, place, places::BLOCK, positions as usize);
-    Made::Places(places)
+    Ok(places)
 }
 
 // Whether a tuple comes to a place that was unknown.
@@ -265,8 +256,8 @@ pub fn make(
     positions: u16,
     before: u32,
     count: usize,
-    table: &mut [u32],
-) -> Made
+    table: &mut Table,
+) -> Result<usize, Refusal>
     requires { Ready text.now table.old count place }
     ensures { MadeAs text table result (made text.now place kind positions before count table.old) }
 {
@@ -279,5 +270,5 @@ pub fn make(
     if is_first_tuple(kind, before) {
         return make_positions(text, place, positions, count, table);
     }
-    Made::Places(count)
+    Ok(count)
 }

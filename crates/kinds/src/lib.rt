@@ -8,33 +8,20 @@ ghost use Rattle.coerce.specs.Joint.{joint};
 ghost use Rattle.model.specs.Kinds.{sequence_kind, is_container, is_struct};
 ghost use Rattle.model.specs.Emission.{emits_struct};
 
-use coerce::Coerced;
-use datatype::{DataType, Decoded};
+use datatype::DataType;
 use options::TracingOptions;
 use refusal::Refusal;
 
-// What kinds that meet give: a kind, or a refusal (7, 8 or 10).
-#[derive(Clone, Copy)]
-pub enum Met {
-    Kind(u32),
-    Refused(Refusal),
-}
-
-// The joint of two primitive types.
-fn coerce_kinds(options: TracingOptions, kind: u32, other: u32) -> Met
-    requires { (kind < sequence_kind) × (other < sequence_kind) }
+// The joint of two primitive types, or refusal 10.
+fn coerce_kinds(options: TracingOptions, kind: u32, other: u32) -> Result<u32, Refusal>
+    requires first { kind < sequence_kind }
+    requires second { other < sequence_kind }
     ensures { result ≡ of_joint (joint options.word kind other) }
 {
-    let Decoded::Type(prev) = DataType::from_code(kind as u8) else {
-        return Met::Refused(Refusal::NoJoint);
-    };
-    let Decoded::Type(curr) = DataType::from_code(other as u8) else {
-        return Met::Refused(Refusal::NoJoint);
-    };
-    let Coerced::Type(joint) = coerce::coerce_primitive_type(prev, curr, options) else {
-        return Met::Refused(Refusal::NoJoint);
-    };
-    Met::Kind(joint.code() as u32)
+    let prev = DataType::try_from(kind as u8).unwrap();
+    let curr = DataType::try_from(other as u8).unwrap();
+    let joint = coerce::coerce_primitive_type(prev, curr, options).ok_or(Refusal::NoJoint)?;
+    Ok(joint.code() as u32)
 }
 
 // Whether one of them is a container.
@@ -72,27 +59,27 @@ fn is_too_deep(levels: usize, kind: u32) -> bool
 }
 
 // A place of the first kind meets a value of the second, with so many levels left. Mostly the kinds are equal, or the
-// first is still unknown.
-pub fn meet(options: TracingOptions, levels: usize, kind: u32, other: u32) -> Met
+// first is still unknown. The kind that they give, or refusal 7, 8 or 10.
+pub fn meet(options: TracingOptions, levels: usize, kind: u32, other: u32) -> Result<u32, Refusal>
     ensures { result ≡ meeting options.word levels kind other }
 {
     if is_too_deep(levels, other) {
-        return Met::Refused(Refusal::TooDeep);
+        return Err(Refusal::TooDeep);
     }
     if other == shapes::UNKNOWN {
-        return Met::Kind(kind);
+        return Ok(kind);
     }
     if kind == shapes::UNKNOWN {
-        return Met::Kind(other);
+        return Ok(other);
     }
     if kind == other {
-        return Met::Kind(kind);
+        return Ok(kind);
     }
     if !has_container(kind, other) {
         return coerce_kinds(options, kind, other);
     }
     if are_structs(kind, other) {
-        return Met::Kind(kind);
+        return Ok(kind);
     }
-    Met::Refused(Refusal::Mismatch)
+    Err(Refusal::Mismatch)
 }

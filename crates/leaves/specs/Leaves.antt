@@ -1,25 +1,32 @@
 -- A primitive at a place: what is answered, and the table then.
-use Rattle.std.specs.Prelude.{◌≡◌, Bool, not, ◌&&◌, List, ℕ, ◌≤◌, eqb, ltb}
+use Rattle.std.specs.Prelude.{◌≡◌, Bool, not, ◌&&◌, List, ℕ, ◌≤◌, eqb, ltb, Result, Ok, Err}
 use Rattle.logic.specs.Test.{when◌then◌else◌}
 use Rattle.logic.specs.Slices.{Slice, MutSlice, now_of, at_exit}
 use Rattle.datatype.specs.Codes.{null}
+use Rattle.refusal.specs.declared.Refusal.{Refusal}
+use Rattle.refusal.specs.declared.Refused.{Refused}
+use Rattle.commands.specs.Commands.{refused_at}
 use Rattle.words.specs.Word.{word, with_word}
-use Rattle.kinds.specs.declared.Met.{Met}
-use Rattle.kinds.specs.declared.Met.TheVariants as M
 use Rattle.places.specs.Layout.{kind_word, null_word, Sound}
 use Rattle.kinds.specs.Meeting.{meeting}
 use Rattle.leaves.specs.declared.Site.{Site}
 use Rattle.leaves.specs.declared.Traced.{Traced}
-use Rattle.leaves.specs.declared.Traced.TheVariants as T
 use Rattle.model.specs.Kinds.{sequence_kind}
 
--- ---- what is answered, and the table then
-pub data Out : Type 0 where
-  out : Traced → List ℕ → Out
+-- ---- what is answered: the offset behind what was read and the count of places, or a refusal and its place
+abbrev pub Outcome : Type 0
+Outcome = Result Traced Refused
 
-abbrev pub on_met : ℕ → List ℕ → (ℕ → Out) → Met → Out
-on_met here t k (M.Kind kind) = k kind
-on_met here t k (M.Refused refusal) = out (T.Refused refusal here) t
+abbrev pub traced_to : ℕ → ℕ → Outcome
+traced_to behind n = Ok (record { next = behind; count = n })
+
+-- that, and the table then
+pub data Out : Type 0 where
+  out : Outcome → List ℕ → Out
+
+abbrev pub on_met : ℕ → List ℕ → (ℕ → Out) → Result ℕ Refusal → Out
+on_met here t k (Ok kind) = k kind
+on_met here t k (Err refusal) = out (refused_at refusal here) t
 
 -- ---- a primitive at a place
 unfoldable pub stored : Bool → ℕ → ℕ → List ℕ → List ℕ
@@ -29,20 +36,20 @@ stored null kind place t =
 
 unfoldable pub observed : ℕ → Bool → ℕ → ℕ → ℕ → ℕ → ℕ → ℕ → List ℕ → Out
 observed options null kind levels here behind place n t =
-    on_met here t (λ joint. out (T.Next behind n) (stored null joint place t)) (meeting options levels (word t place kind_word) kind)
+    on_met here t (λ joint. out (traced_to behind n) (stored null joint place t)) (meeting options levels (word t place kind_word) kind)
 
 -- the same at a site
 abbrev pub observed_at : ℕ → Bool → ℕ → ℕ → ℕ → Site → List ℕ → Out
 observed_at options null kind here behind site t = observed options null kind site.levels here behind site.place site.count t
 
 -- ---- what is true of the table afterwards: it is sound, and no place is lost
-abbrev pub SoundTraced : List ℕ → List ℕ → ℕ → Traced → Type 0
-SoundTraced text t n (T.Next behind m) = Sound text t m × (n ≤ m)
-SoundTraced text t n (T.Refused refusal offset) = Unit {0}
+abbrev pub SoundTraced : List ℕ → List ℕ → ℕ → Outcome → Type 0
+SoundTraced text t n (Ok to) = Sound text t to.count × (n ≤ to.count)
+SoundTraced text t n (Err refused) = Unit {0}
 
 -- what is promised of a function that traces: its answer and the table then are what the definition gives of the table before, the table
 -- is sound, and no place is lost of those that there were
-abbrev pub TracedAs : Slice → MutSlice → ℕ → Traced → Out → Type 0
+abbrev pub TracedAs : Slice → MutSlice → ℕ → Outcome → Out → Type 0
 TracedAs text table n r wanted = (out r (at_exit table) ≡ wanted) × SoundTraced (now_of text) (at_exit table) n r
 
 -- a value that is no null, of the type that is there

@@ -2,74 +2,87 @@
 
 #![tactic(auto)]
 
-ghost use Rattle.std.specs.Prelude.{◌≡◌, ◌+◌, ◌<◌, ◌≤◌, length};
+ghost use Rattle.std.specs.Prelude.{◌≡◌, ◌+◌, ◌<◌, ◌≤◌, ℕ, length, slice_index};
 ghost use Rattle.listing.specs.Levels.{level_after, one_fewer, next_level, next_due};
 
-// A number, and what follows it.
-pub fn print_number(rt: &impl Print, n: usize, after: &[u8]) {
-    let _ = rt.print(n);
-    let _ = rt.write_all(after);
-}
-
-// The line of the field record at an offset: level, type, nullable, strategy, variant, children, name.
-fn print_record(rt: &impl Print, level: usize, fields: &[u8], at: usize, name: &[u8])
-    requires { at + 8 ≤ length fields.now }
+// The line of a field record: level, type, nullable, strategy, variant, children, name.
+fn print_record(rt: &impl Print, level: usize, record: &[u8], name: &[u8])
+    requires { length record.now ≡ 8 }
 {
-    print_number(rt, level, b" ");
-    print_number(rt, files::wide(fields[at]), b" ");
-    print_number(rt, files::wide(fields[at + 1]), b" ");
-    print_number(rt, files::wide(fields[at + 2]), b" ");
-    print_number(rt, files::wide(fields[at + 3]), b" ");
-    print_number(rt, files::two_bytes(fields, at + 6), b" ");
+    let (data_type, nullable, strategy, variant) = (record[0], record[1], record[2], record[3]);
+    let children = files::two_bytes(record, 6);
+    let _ = print!(rt; "{level} {data_type} {nullable} {strategy} {variant} {children} ");
     let _ = rt.write_all(name);
-    let _ = rt.write_all(b"\n");
+    let _ = println!(rt);
 }
 
-// The level of the record after one that has no children: its own while others are due there, else that of the
-// nearest record above it after which one is.
-fn climb(due: &mut [u16; 8193], level: usize) -> usize
-    requires { level < 8193 }
-    ensures { (result ≡ level_after due.old level) × (due.new ≡ one_fewer due.old result) × (result ≤ level) }
-{
-    let mut level = level;
-    while 0 < level {
-        let left = due[level];
-        if 1 < left {
-            due[level] = left - 1;
-            return level;
+// At which level a record stands, and how many records are due at each level below the root's fields, that one among them.
+#[derive(Drop)]
+struct Levels {
+    // An array, and no Vec: `print_records` cannot fail, and so must not run out of memory.
+    due: [u16; 8193],
+    level: usize,
+}
+
+impl Levels {
+    // The lowest level from the one in hand up at which more than the record in hand are due, or 0.
+    fn open(&self) -> usize
+        requires { self.now.level < 8193 }
+        ensures within { result ≤ self.now.level }
+        ensures more { 0 < result → 1 < slice_index self.now.due result }
+        ensures none { (k : ℕ) → result < k → k ≤ self.now.level → slice_index self.now.due k ≤ 1 }
+    {
+        (1..=self.level)
+            .rev()
+            .find(|level| 1 < self.due[*level])
+            .unwrap_or(0)
+    }
+
+    // To the record after one that has no children: at its own level while others are due there, else at that of the
+    // nearest record above it after which one is.
+    fn climb(&mut self)
+        requires { self.old.level < 8193 }
+        ensures level { self.new.level ≡ level_after self.old.due self.old.level }
+        ensures due { self.new.due ≡ one_fewer self.old.due self.new.level }
+        ensures above { self.new.level ≤ self.old.level }
+    {
+        let level = self.open();
+        if 0 < level {
+            self.due[level] -= 1;
         }
-        level -= 1;
+        self.level = level;
     }
-    0
-}
 
-// The level of the record after one at a level. `due` has how many records are due at each level below the root's
-// fields, the one in hand among them.
-fn next_level(due: &mut [u16; 8193], level: usize, children: u16) -> usize
-    requires { level < 8192 }
-    ensures value { (result ≡ next_level due.old level children) × (result ≤ level + 1) }
-    ensures due_after { due.new ≡ next_due due.old level children }
-{
-    if children == 0 {
-        return climb(due, level);
+    // To the record after one with so many children.
+    fn pass(&mut self, children: u16)
+        requires { self.old.level < 8192 }
+        ensures level { self.new.level ≡ next_level self.old.due self.old.level children }
+        ensures due { self.new.due ≡ next_due self.old.due self.old.level children }
+        ensures above { self.new.level ≤ self.old.level + 1 }
+    {
+        if children == 0 {
+            self.climb();
+        } else {
+            self.level += 1;
+            self.due[self.level] = children;
+        }
     }
-    due[level + 1] = children;
-    level + 1
 }
 
 // Field records, preorder, with their names, which stand one after another.
 pub fn print_records(rt: &impl Print, fields: &[u8], names: &[u8])
     requires { length fields.now ≤ 65536 }
 {
-    let mut due = [0u16; 8193];
-    let mut level = 0;
-    let mut name = 0;
-    let mut at = 0;
-    while at + 8 <= fields.len() {
-        let end = files::end_of(names, name, files::two_bytes(fields, at + 4));
-        print_record(rt, level, fields, at, &names[name..end]);
-        level = next_level(&mut due, level, files::two_bytes(fields, at + 6) as u16);
-        name = end;
-        at += 8;
+    let mut levels = Levels {
+        due: [0; 8193],
+        level: 0,
+    };
+    let mut names = names;
+    for record in fields.chunks_exact(8) {
+        let length = usize::from(files::two_bytes(record, 4)).min(names.len());
+        let (name, rest) = names.split_at(length);
+        print_record(rt, levels.level, record, name);
+        levels.pass(files::two_bytes(record, 6));
+        names = rest;
     }
 }

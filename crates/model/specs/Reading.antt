@@ -1,6 +1,6 @@
 -- From commands and text to values (document 01, "Commands and texts"). Reading is total: where a command cannot be read, a leaf `cut`
 -- with the refusal (4, 5 or 6) and its place stands in the value, and nothing follows it.
-use Rattle.std.specs.Prelude.{Bool, true, false, ◌&&◌, List, [], ◌∷◌, ℕ, zero, suc, ◌+◌, ◌*◌, ◌%◌, eqb, ltb, length, get_or}
+use Rattle.std.specs.Prelude.{Bool, true, false, ◌&&◌, List, [], ◌∷◌, ℕ, zero, suc, ◌+◌, ◌*◌, ◌%◌, eqb, ltb, length, get_or, Ok, Err}
 use Rattle.std.proofs.Math.Option.{Option, none, some}
 use Rattle.logic.specs.Test.{when◌then◌else◌}
 use Rattle.datatype.specs.Codes.{null, boolean, int8, int16, int32, int64, uint8, uint16, uint32, uint64, float32, float64}
@@ -10,10 +10,8 @@ use Rattle.text.specs.Name.{bytes_of}
 use Rattle.chrono.specs.Text.{text_type}
 use Rattle.commands.specs.declared.Command.{Command}
 use Rattle.commands.specs.declared.Command.TheVariants as C
-use Rattle.commands.specs.declared.Read.{Read}
-use Rattle.commands.specs.declared.Read.TheVariants as R
 use Rattle.commands.specs.declared.Due.TheVariants as D
-use Rattle.commands.specs.Commands.{read_command, name_at, end_byte}
+use Rattle.commands.specs.Commands.{read_command, name_at, end_byte, Read}
 use Rattle.model.specs.Kinds.{sequence_kind, struct_kind, map_kind, tuple_kind, union_kind, map_mode_kind, Step, field, element, position, key, value, variant}
 
 -- A value: the offset of its command, whether none, some or Null was seen, its kind, the number of positions of a tuple, and its parts.
@@ -80,14 +78,14 @@ pub data Next : Type 0 where
 
 -- a value, with the step to it, or the end
 abbrev pub value_next : List ℕ → Step → ℕ → Read → Next
-value_next commands step at (R.Command command behind) = when eqb (get_or commands at 0) end_byte then ended behind else next step at
-value_next commands step at (R.Refused refusal place) = bad (number_of refusal) place
+value_next commands step at (Ok (command, behind)) = when eqb (get_or commands at 0) end_byte then ended behind else next step at
+value_next commands step at (Err e) = bad (number_of e.refusal) e.place
 
 -- a field (16) or a key (0D), whose operands are its name, or the end
 abbrev pub field_next : List ℕ → List ℕ → ℕ → Read → Next
-field_next commands text at (R.Command command behind) =
+field_next commands text at (Ok (command, behind)) =
     when eqb (get_or commands at 0) end_byte then ended behind else next (field (bytes_of text (name_at commands (at + 1)))) behind
-field_next commands text at (R.Refused refusal place) = bad (number_of refusal) place
+field_next commands text at (Err e) = bad (number_of e.refusal) e.place
 
 -- before part i of a container of that kind, with so many positions
 unfoldable pub next_part : List ℕ → List ℕ → ℕ → ℕ → ℕ → ℕ → Next
@@ -126,8 +124,8 @@ unfoldable mutual
   read_value zero options commands text at = cut_at bad_command at
   read_value (suc deep) options commands text at =
       elim (read_command commands text at D.Value) [
-        | R.Command command behind ↦ read_shape deep options commands text at behind (shape_of options text command)
-        | R.Refused refusal place ↦ cut_at (number_of refusal) place
+        | Ok (command, behind) ↦ read_shape deep options commands text at behind (shape_of options text command)
+        | Err e ↦ cut_at (number_of e.refusal) e.place
       ]
 
   -- the value that a command at `at` begins, whose operands end at `behind`

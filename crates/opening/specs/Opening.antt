@@ -1,7 +1,8 @@
 -- What is opened before anything below it is read: containers, variants, fields.
-use Rattle.std.specs.Prelude.{◌≡◌, List, ℕ, ◌≤◌}
+use Rattle.std.specs.Prelude.{◌≡◌, List, ℕ, ◌≤◌, Result, Ok, Err, Option, Some, None}
 use Rattle.logic.specs.Test.{when◌then◌else◌}
 use Rattle.logic.specs.Slices.{Slice, MutSlice, now_of, at_exit}
+use Rattle.refusal.specs.declared.Refusal.{Refusal}
 use Rattle.refusal.specs.declared.Refusal.TheVariants as F
 use Rattle.text.specs.declared.Name.{Name}
 use Rattle.text.specs.Name.{bytes_of}
@@ -10,32 +11,25 @@ use Rattle.words.specs.Word.{word}
 use Rattle.model.specs.Kinds.{union_kind}
 use Rattle.shapes.specs.declared.Step.{Step}
 use Rattle.shapes.specs.declared.Step.TheVariants as S
-use Rattle.kinds.specs.declared.Met.{Met}
-use Rattle.kinds.specs.declared.Met.TheVariants as M
-use Rattle.growth.specs.declared.Ensured.TheVariants as E
-use Rattle.growth.specs.declared.Made.TheVariants as L
 use Rattle.places.specs.Layout.{kind_word, Sound, Ready}
+use Rattle.growth.specs.declared.Found.{Found}
 use Rattle.growth.specs.Growth.{Ensuring, ensuring, ensured, Making, making, made, touched, sampled}
 use Rattle.kinds.specs.Meeting.{meeting}
-use Rattle.shapes.specs.Field.{field_at}
-use Rattle.shapes.specs.declared.Field.{Field}
-use Rattle.shapes.specs.declared.Field.TheVariants as X
-use Rattle.opening.specs.declared.Opened.{Opened}
-use Rattle.opening.specs.declared.Opened.TheVariants as O
+use Rattle.shapes.specs.Field.{Field, field_at}
 
 -- ---- what is opened before anything below it is read
 -- the child at a step, which the present sample holds
 abbrev pub holding : ℕ → Ensuring → Ensuring
-holding place (ensuring (E.Child child n) t) = ensuring (E.Child child n) (touched place child t)
-holding place (ensuring (E.Refused refusal) t) = ensuring (E.Refused refusal) t
+holding place (ensuring (Ok f) t) = ensuring (Ok f) (touched place f.child t)
+holding place (ensuring (Err refusal) t) = ensuring (Err refusal) t
 
 unfoldable pub held : List ℕ → ℕ → Step → ℕ → List ℕ → Ensuring
 held text place step n t = holding place (ensured text place step n t)
 
 -- a container meets what the place is, is one more sample there, and makes its children
-abbrev pub made_where : List ℕ → (ℕ → Making) → Met → Making
-made_where t k (M.Kind joint) = k joint
-made_where t k (M.Refused refusal) = making (L.Refused refusal) t
+abbrev pub made_where : List ℕ → (ℕ → Making) → Result ℕ Refusal → Making
+made_where t k (Ok joint) = k joint
+made_where t k (Err refusal) = making (Err refusal) t
 
 unfoldable pub container_made : List ℕ → ℕ → ℕ → ℕ → ℕ → ℕ → ℕ → List ℕ → Making
 container_made text options levels kind positions place n t =
@@ -44,9 +38,9 @@ container_made text options levels kind positions place n t =
     (meeting options levels (word t place kind_word) kind)
 
 -- a variant meets what the place is, and is one more sample there, which holds the variant's place
-abbrev pub held_where : List ℕ → (ℕ → Ensuring) → Met → Ensuring
-held_where t k (M.Kind joint) = k joint
-held_where t k (M.Refused refusal) = ensuring (E.Refused refusal) t
+abbrev pub held_where : List ℕ → (ℕ → Ensuring) → Result ℕ Refusal → Ensuring
+held_where t k (Ok joint) = k joint
+held_where t k (Err refusal) = ensuring (Err refusal) t
 
 unfoldable pub variant_held : List ℕ → ℕ → ℕ → ℕ → Name → ℕ → ℕ → List ℕ → Ensuring
 variant_held text options levels number name place n t =
@@ -54,24 +48,27 @@ variant_held text options levels number name place n t =
     (λ joint. held text place (S.Variant number name) n (sampled place joint t))
     (meeting options levels (word t place kind_word) union_kind)
 
--- ---- a field, or the end, where one is due
+-- ---- a field, or the end, where one is due: the field's place and how many places there are, or none, or a refusal
+abbrev pub Opened : Type 0
+Opened = Result (Option Found) Refusal
+
 pub data Opening : Type 0 where
   opening : Opened → List ℕ → Opening
 
 abbrev pub of_held : Ensuring → Opening
-of_held (ensuring (E.Child child n) t) = opening (O.Child child n) t
-of_held (ensuring (E.Refused refusal) t) = opening (O.Refused refusal) t
+of_held (ensuring (Ok f) t) = opening (Ok (Some f)) t
+of_held (ensuring (Err refusal) t) = opening (Err refusal) t
 
 -- a name that is not UTF-8 is refused (5)
 unfoldable pub field_held : List ℕ → ℕ → Name → ℕ → List ℕ → Opening
 field_held text place name n t =
-    when is_utf8 (bytes_of text name) then of_held (held text place (S.Field name) n t) else opening (O.Refused F.BadName) t
+    when is_utf8 (bytes_of text name) then of_held (held text place (S.Field name) n t) else opening (Err F.BadName) t
 
 -- by what stands there
 abbrev pub field_opened : List ℕ → ℕ → ℕ → List ℕ → Field → Opening
-field_opened text place n t (X.Named name) = field_held text place name n t
-field_opened text place n t X.Ended = opening O.Ended t
-field_opened text place n t (X.Refused refusal) = opening (O.Refused refusal) t
+field_opened text place n t (Ok (Some name)) = field_held text place name n t
+field_opened text place n t (Ok None) = opening (Ok None) t
+field_opened text place n t (Err refusal) = opening (Err refusal) t
 
 -- at an offset
 abbrev pub opened_at : List ℕ → List ℕ → ℕ → ℕ → ℕ → ℕ → List ℕ → Opening
@@ -79,9 +76,9 @@ opened_at commands text kind at place n t = field_opened text place n t (field_a
 
 -- the place of a field is ready for its value
 abbrev pub SoundOpened : List ℕ → List ℕ → ℕ → Opened → Type 0
-SoundOpened text t n (O.Child child m) = Ready text t m child × (n ≤ m)
-SoundOpened text t n O.Ended = Sound text t n
-SoundOpened text t n (O.Refused refusal) = Unit {0}
+SoundOpened text t n (Ok (Some f)) = Ready text t f.count f.child × (n ≤ f.count)
+SoundOpened text t n (Ok None) = Sound text t n
+SoundOpened text t n (Err refusal) = Unit {0}
 
 -- what is promised of a function that opens a field: its answer and the table then are what the definition gives of the table before, and
 -- the table is sound

@@ -9,25 +9,27 @@ ghost use Rattle.growth.specs.Growth.{EnsuredAs, MadeAs};
 ghost use Rattle.search.specs.Search.{find_in};
 ghost use Rattle.opening.specs.Opening.{held, container_made, variant_held, field_held, opened_at, OpenedAs};
 
-use growth::{Ensured, Made};
-use kinds::Met;
+use growth::Found;
 use options::TracingOptions;
 use refusal::Refusal;
-use shapes::{Field, Step};
+use shapes::Step;
 use text::Name;
+use words::Table;
 
 // The child at a step that is no field, which the present sample holds.
-pub fn hold(text: &[u8], place: usize, step: Step, count: usize, table: &mut [u32]) -> Ensured
+pub fn hold(
+    text: &[u8],
+    place: usize,
+    step: Step,
+    count: usize,
+    table: &mut Table,
+) -> Result<Found, Refusal>
     requires { Ready text.now table.old count place × Good text.now (name_of step) × (code_of step ≡ field_code → ⊥) }
     ensures { EnsuredAs text table result (held text.now place step count table.old) }
 {
-    match growth::ensure(text, place, step, count, table) {
-        Ensured::Child(child, more) => {
-            growth::touch(place, child, table);
-            Ensured::Child(child, more)
-        }
-        Ensured::Refused(refusal) => Ensured::Refused(refusal),
-    }
+    let found = growth::ensure(text, place, step, count, table)?;
+    growth::touch(place, found.child, table);
+    Ok(found)
 }
 
 // A container meets what the place is, is one more sample there, and makes its children. Levels, place and count come as
@@ -40,20 +42,16 @@ pub fn open_container(
     levels: usize,
     place: usize,
     count: usize,
-    table: &mut [u32],
-) -> Made
+    table: &mut Table,
+) -> Result<usize, Refusal>
     requires { Ready text.now table.old count place }
     ensures { MadeAs text table result
         (container_made text.now options.word levels kind positions place count table.old) }
 {
     let before = words::get(table, place, places::KIND);
-    match kinds::meet(options, levels, before, kind) {
-        Met::Kind(joint) => {
-            growth::sample(place, joint, table);
-            growth::make(text, place, kind, positions, before, count, table)
-        }
-        Met::Refused(refusal) => Made::Refused(refusal),
-    }
+    let joint = kinds::meet(options, levels, before, kind)?;
+    growth::sample(place, joint, table);
+    growth::make(text, place, kind, positions, before, count, table)
 }
 
 // A variant meets what the place is and is one more sample there, which holds the variant's place.
@@ -65,52 +63,47 @@ pub fn open_variant(
     levels: usize,
     place: usize,
     count: usize,
-    table: &mut [u32],
-) -> Ensured
+    table: &mut Table,
+) -> Result<Found, Refusal>
     requires ready { Ready text.now table.old count place }
     requires good { Good text.now name }
     ensures { EnsuredAs text table result
         (variant_held text.now options.word levels number name place count table.old) }
 {
     let before = words::get(table, place, places::KIND);
-    match kinds::meet(options, levels, before, shapes::UNION) {
-        Met::Kind(joint) => {
-            growth::sample(place, joint, table);
-            hold(text, place, Step::Variant(number, name), count, table)
-        }
-        Met::Refused(refusal) => Ensured::Refused(refusal),
-    }
-}
-
-// What comes of reading where a field or the end is due: the field's place and how many places there are; the end; or a
-// refusal at that command.
-#[derive(Clone, Copy)]
-pub enum Opened {
-    Child(usize, usize),
-    Ended,
-    Refused(Refusal),
+    let joint = kinds::meet(options, levels, before, shapes::UNION)?;
+    growth::sample(place, joint, table);
+    hold(text, place, Step::Variant(number, name), count, table)
 }
 
 // A field that was not seen before, whose name must be UTF-8.
-fn new_field(text: &[u8], place: usize, name: Name, count: usize, table: &mut [u32]) -> Opened
+fn new_field(
+    text: &[u8],
+    place: usize,
+    name: Name,
+    count: usize,
+    table: &mut Table,
+) -> Result<Option<Found>, Refusal>
     requires ready { Ready text.now table.old count place × Inside text.now name }
     requires table_value { find_in text.now place field_code name table.old ≡ 0 }
     ensures { OpenedAs text table count result (field_held text.now place name count table.old) }
 {
     if !name.is_utf8(text) {
-        return Opened::Refused(Refusal::BadName);
+        return Err(Refusal::BadName);
     }
-    match growth::add(text, place, shapes::FIELD, name, count, table) {
-        Ensured::Child(child, more) => {
-            growth::touch(place, child, table);
-            Opened::Child(child, more)
-        }
-        Ensured::Refused(refusal) => Opened::Refused(refusal),
-    }
+    let found = growth::add(text, place, shapes::FIELD, name, count, table)?;
+    growth::touch(place, found.child, table);
+    Ok(Some(found))
 }
 
 // A field by its name, which the present sample holds. The names of fields that were seen are known to be UTF-8.
-fn hold_field(text: &[u8], place: usize, name: Name, count: usize, table: &mut [u32]) -> Opened
+fn hold_field(
+    text: &[u8],
+    place: usize,
+    name: Name,
+    count: usize,
+    table: &mut Table,
+) -> Result<Option<Found>, Refusal>
     requires { Ready text.now table.old count place × Inside text.now name }
     ensures { OpenedAs text table count result (field_held text.now place name count table.old) }
 {
@@ -119,10 +112,10 @@ fn hold_field(text: &[u8], place: usize, name: Name, count: usize, table: &mut [
         return new_field(text, place, name, count, table);
     }
     growth::touch(place, child, table);
-    Opened::Child(child, count)
+    Ok(Some(Found { child, count }))
 }
 
-// The field, or the end, that stands at an offset.
+// The field that stands at an offset: its place and how many places there are, or `None` where the end stands there.
 pub fn open_field(
     commands: &[u8],
     text: &[u8],
@@ -130,15 +123,14 @@ pub fn open_field(
     at: usize,
     place: usize,
     count: usize,
-    table: &mut [u32],
-) -> Opened
+    table: &mut Table,
+) -> Result<Option<Found>, Refusal>
     requires { Ready text.now table.old count place }
     ensures { OpenedAs text table count result
         (opened_at commands.now text.now kind at place count table.old) }
 {
-    match shapes::field_at(commands, text, kind, at) {
-        Field::Named(name) => hold_field(text, place, name, count, table),
-        Field::Ended => Opened::Ended,
-        Field::Refused(refusal) => Opened::Refused(refusal),
+    match shapes::field_at(commands, text, kind, at)? {
+        Some(name) => hold_field(text, place, name, count, table),
+        None => Ok(None),
     }
 }

@@ -1,11 +1,11 @@
 // TracingOptions (tracing_options.rs), and the edition of the exchange standard: made from the options word, passed by value, each
 // question a method. With them goes what is known of the text, so that all who read one need not ask again.
 
-#![tactic(auto)]
+#![tactic(auto, using(logic::specs::laws::Test::chosen, logic::specs::laws::Test::other))]
 
-ghost use Rattle.std.specs.Prelude.{◌≡◌, false};
+ghost use Rattle.std.specs.Prelude.{◌≡◌, ◌<◌, false};
 ghost use Rattle.datatype.specs.Codes.{code_of};
-ghost use Rattle.options.specs.Word.{unknown_bit, allow_null_fields, map_as_struct, sequence_as_large_list, string_as_large_utf8, bytes_as_large_binary, string_dictionary_encoding, coerce_numbers, allow_to_string, guess_dates, enums_without_data_as_strings, edition2, string_type, binary_type, list_type, dictionary_type};
+ghost use Rattle.options.specs.Word.{bit, unknown_bit, allow_null_fields, map_as_struct, sequence_as_large_list, string_as_large_utf8, bytes_as_large_binary, string_dictionary_encoding, coerce_numbers, allow_to_string, guess_dates, enums_without_data_as_strings, edition2, string_type, binary_type, list_type, dictionary_type};
 
 use datatype::DataType;
 
@@ -28,10 +28,7 @@ impl TracingOptions {
     pub fn over(self, ascii: bool) -> Self
         ensures { (result.word ≡ self.word) × (result.ascii ≡ ascii) }
     {
-        TracingOptions {
-            word: self.word,
-            ascii,
-        }
+        TracingOptions { ascii, ..self }
     }
 
     // Whether a bit is set that means nothing (refusal 1).
@@ -41,83 +38,92 @@ impl TracingOptions {
         2048 <= self.word
     }
 
+    // Whether the bit of that number is set.
+    fn bit(self, number: u32) -> bool
+        requires { number < 16 }
+        ensures { result ≡ bit number self.word }
+    {
+        (self.word >> number) & 1 == 1
+    }
+
     // Bit 0: fields that are Null are emitted.
     pub fn allow_null_fields(self) -> bool
         ensures { result ≡ allow_null_fields self.word }
     {
-        self.word % 2 == 1
+        self.bit(0)
     }
 
     // Bit 1: a map is traced as a struct.
     pub fn map_as_struct(self) -> bool
         ensures { result ≡ map_as_struct self.word }
     {
-        self.word / 2 % 2 == 1
+        self.bit(1)
     }
 
     // Bit 2: a sequence is a LargeList.
     pub fn sequence_as_large_list(self) -> bool
         ensures { result ≡ sequence_as_large_list self.word }
     {
-        self.word / 4 % 2 == 1
+        self.bit(2)
     }
 
     // Bit 3: a string is a LargeUtf8.
     pub fn string_as_large_utf8(self) -> bool
         ensures { result ≡ string_as_large_utf8 self.word }
     {
-        self.word / 8 % 2 == 1
+        self.bit(3)
     }
 
     // Bit 4: bytes are a LargeBinary.
     pub fn bytes_as_large_binary(self) -> bool
         ensures { result ≡ bytes_as_large_binary self.word }
     {
-        self.word / 16 % 2 == 1
+        self.bit(4)
     }
 
     // Bit 5: strings are dictionary encoded.
     pub fn string_dictionary_encoding(self) -> bool
         ensures { result ≡ string_dictionary_encoding self.word }
     {
-        self.word / 32 % 2 == 1
+        self.bit(5)
     }
 
     // Bit 6: unequal number types have a joint.
     pub fn coerce_numbers(self) -> bool
         ensures { result ≡ coerce_numbers self.word }
     {
-        self.word / 64 % 2 == 1
+        self.bit(6)
     }
 
     // Bit 7: strings and bools or numbers have a joint.
     pub fn allow_to_string(self) -> bool
         ensures { result ≡ allow_to_string self.word }
     {
-        self.word / 128 % 2 == 1
+        self.bit(7)
     }
 
     // Bit 8: texts are tried as dates and times.
     pub fn guess_dates(self) -> bool
         ensures { result ≡ guess_dates self.word }
     {
-        self.word / 256 % 2 == 1
+        self.bit(8)
     }
 
     // Bit 9: a union of only dataless variants is a dictionary.
     pub fn enums_without_data_as_strings(self) -> bool
         ensures { result ≡ enums_without_data_as_strings self.word }
     {
-        self.word / 512 % 2 == 1
+        self.bit(9)
     }
 
     // Bit 10: edition 2, in which integers and floats have no joint.
     pub fn edition_2(self) -> bool
         ensures { result ≡ edition2 self.word }
     {
-        self.word / 1024 % 2 == 1
+        self.bit(10)
     }
 
+    // The types that a switch chooses have an `if` each: a function of the switch and two types would be no plainer.
     // The type of a text.
     pub fn string_type(self) -> DataType
         ensures { code_of result ≡ string_type self.word }

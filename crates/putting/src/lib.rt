@@ -5,13 +5,13 @@
 ghost use Rattle.std.specs.Prelude.{◌≡◌, ◌≤◌, length};
 ghost use Rattle.text.specs.Decimal.{decimal};
 ghost use Rattle.words.specs.Word.{IsRow};
-ghost use Rattle.model.specs.Tracing.{one};
 ghost use Rattle.places.specs.Layout.{Settled};
 ghost use Rattle.places.specs.Reading.{child_name};
 ghost use Rattle.putting.specs.Put.{record_of, Puts, PutsGaps, entries_in, Within, Writes};
 
 use datatype::{DataType, Strategy};
 use shapes::Step;
+use words::Table;
 
 // The fields of a map's entries.
 const ENTRIES_FIELDS: u32 = 2;
@@ -23,12 +23,6 @@ pub struct Ends {
     pub names: usize,
 }
 
-fn bit(on: bool) -> u8
-    ensures { result ≡ one on }
-{
-    if on { 1 } else { 0 }
-}
-
 // Bytes, where there is room for them; the first walk has seen that there is.
 fn put_bytes(bytes: &[u8], names: &mut [u8], at: usize) -> usize
     requires { at ≤ length names.old }
@@ -37,12 +31,9 @@ fn put_bytes(bytes: &[u8], names: &mut [u8], at: usize) -> usize
     if names.len() - at < bytes.len() {
         return at;
     }
-    let mut i = 0;
-    while i < bytes.len() {
-        names[at + i] = bytes[i];
-        i += 1;
-    }
-    at + bytes.len()
+    let end = at + bytes.len();
+    names[at..end].copy_from_slice(bytes);
+    end
 }
 
 // One field record.
@@ -61,7 +52,7 @@ pub fn put_record(
 {
     let record = [
         kind,
-        bit(nullable),
+        u8::from(nullable),
         strategy,
         number,
         (name_length % 256) as u8,
@@ -84,8 +75,10 @@ fn put_position(i: u16, names: &mut [u8], at: usize) -> usize
 }
 
 // The name of a child.
-pub fn put_name(text: &[u8], table: &[u32], child: usize, names: &mut [u8], at: usize) -> usize
-    requires { Settled text.now table.now × IsRow child × (at ≤ length names.old) }
+pub fn put_name(text: &[u8], table: &Table, child: usize, names: &mut [u8], at: usize) -> usize
+    requires settled { Settled text.now table.now }
+    requires row { IsRow child }
+    requires within { at ≤ length names.old }
     ensures { Puts (child_name text.now table.now child) names at result }
 {
     match places::step_at(table, child) {
@@ -104,19 +97,17 @@ pub fn put_gaps(fields: &mut [u8], at: usize, slot: u32, count: u32) -> usize
     ensures { PutsGaps slot count fields at result }
 {
     let mut next = at;
-    let mut i: u32 = 0;
-    while i < count {
+    for i in 0..count {
         next = put_record(
             fields,
             next,
             DataType::Null.code(),
             true,
             Strategy::UnknownVariant.code(),
-            (walk::sum(slot, i) % 256) as u8,
+            (slot.wrapping_add(i) % 256) as u8,
             0,
             0,
         );
-        i += 1;
     }
     next
 }
@@ -126,17 +117,12 @@ pub fn put_entries(kind: u32, ends: Ends, fields: &mut [u8], names: &mut [u8]) -
     requires { Within ends fields.old names.old }
     ensures { Writes (entries_in kind) ends fields names result }
 {
-    let at = ends.records;
-    let start = ends.names;
     if kind != shapes::MAP {
-        return Ends {
-            records: at,
-            names: start,
-        };
+        return ends;
     }
-    let next = put_record(
+    let records = put_record(
         fields,
-        at,
+        ends.records,
         DataType::Struct.code(),
         false,
         Strategy::None.code(),
@@ -144,9 +130,6 @@ pub fn put_entries(kind: u32, ends: Ends, fields: &mut [u8], names: &mut [u8]) -
         places::ENTRIES_NAME.len() as u32,
         ENTRIES_FIELDS,
     );
-    let named = put_bytes(&places::ENTRIES_NAME, names, start);
-    Ends {
-        records: next,
-        names: named,
-    }
+    let names = put_bytes(&places::ENTRIES_NAME, names, ends.names);
+    Ends { records, names }
 }

@@ -4,7 +4,8 @@
 
 #![tactic(auto)]
 
-ghost use Rattle.std.specs.Prelude.{◌≡◌, true, ◌↔◌, ◌≤◌, ◌<◌, length, replicate};
+ghost use Rattle.std.specs.Prelude.{◌≡◌, true, ◌↔◌, ◌≤◌, ◌<◌, MatchOption, length, replicate};
+ghost use Rattle.std.specs.List.{list_all};
 ghost use Rattle.files.specs.Bytes.{two_bytes};
 ghost use Rattle.questions.specs.Question.{header_bytes, number_at, question_size, question_end};
 ghost use Rattle.questions.specs.Left.{lent_bytes, early, left_table, written_over, Answered};
@@ -15,32 +16,75 @@ pub const HEADER: usize = 32;
 pub const ROOM: usize = 16384;
 
 // What buffers and table hold before a call.
-pub const BYTE: u8 = 165;
+pub const BYTE: u8 = 0xA5;
 
-pub const WORD: u32 = 2779096485;
+pub const WORD: u32 = 0xA5A5A5A5;
 
-// The options word.
-pub fn options(question: &[u8]) -> u16
-    requires { header_bytes ≤ length question.now }
-    ensures { result ≡ two_bytes question.now 0 }
-{
-    files::two_bytes(question, 0) as u16
+// The five numbers that a question says a call answers.
+#[derive(Clone, Copy, PartialEq, Eq)]
+pub struct Answer {
+    pub refusal: u32,
+    pub place: u32,
+    pub field_records: u32,
+    pub name_bytes: u32,
+    pub columns: u32,
 }
 
-// A number of the header.
-pub fn number(question: &[u8], index: usize) -> usize
-    requires { (header_bytes ≤ length question.now) × (index < 10) }
-    ensures { (result ≡ number_at question.now index) × (result < 16777216) }
-{
-    files::three_bytes(question, 2 + index * 3)
+// A stored question, or bytes that begin with one.
+#[derive(Clone, Copy)]
+pub struct Question<'a> {
+    pub bytes: &'a [u8],
+    ghost has_header: { header_bytes ≤ length bytes.now },
 }
 
-// How many bytes the question has at the start of these.
-pub fn size(rest: &[u8]) -> usize
-    requires { header_bytes ≤ length rest.now }
-    ensures { (result ≡ question_size rest.now) × (header_bytes ≤ result) × (result < 268435456) }
-{
-    HEADER + number(rest, 1) + number(rest, 2) + number(rest, 7) * 8 + number(rest, 8)
+impl<'a> Question<'a> {
+    // None where the header is cut off.
+    pub fn new(bytes: &'a [u8]) -> Option<Question<'a>>
+        ensures { MatchOption result (length bytes.now < header_bytes) (λ question. question.bytes.now ≡ bytes.now) }
+    {
+        if bytes.len() < HEADER {
+            return None;
+        }
+        Some(Question { bytes })
+    }
+
+    // The options word.
+    pub fn options(&self) -> u16
+        ensures { result ≡ two_bytes self.now.bytes.now 0 }
+    {
+        files::two_bytes(self.bytes, 0)
+    }
+
+    // A number of the header.
+    pub fn number(&self, index: usize) -> usize
+        requires { index < 10 }
+        ensures value { result ≡ number_at self.now.bytes.now index }
+        ensures range { result < 16777216 }
+    {
+        files::three_bytes(self.bytes, 2 + index * 3)
+    }
+
+    // How many bytes it has.
+    pub fn size(&self) -> usize
+        ensures value { result ≡ question_size self.now.bytes.now }
+        ensures range { (header_bytes ≤ result) × (result < 268435456) }
+    {
+        HEADER + self.number(1) + self.number(2) + self.number(7) * 8 + self.number(8)
+    }
+
+    // The five numbers are those of the header.
+    pub fn is_answered(&self, answer: Answer) -> bool
+        ensures { result ≡ true ↔ Answered self.now.bytes.now answer.refusal answer.place answer.field_records answer.name_bytes answer.columns }
+    {
+        answer
+            == Answer {
+                refusal: self.number(5) as u32,
+                place: self.number(6) as u32,
+                field_records: self.number(7) as u32,
+                name_bytes: self.number(8) as u32,
+                columns: self.number(9) as u32,
+            }
+    }
 }
 
 // Where the question at an offset ends: with the file, if that is cut off.
@@ -48,38 +92,10 @@ pub fn end_of_question(vectors: &[u8], at: usize) -> usize
     requires { at < length vectors.now }
     ensures { (result ≡ question_end vectors.now at) × (at < result) × (result ≤ length vectors.now) }
 {
-    if vectors.len() - at < HEADER {
-        return vectors.len();
+    match Question::new(&vectors[at..]) {
+        Some(question) => files::end_of(vectors, at, question.size()),
+        None => vectors.len(),
     }
-    let size = size(&vectors[at..]);
-    files::end_of(vectors, at, size)
-}
-
-// The five numbers are those of the header.
-pub fn is_answered(
-    question: &[u8],
-    refusal: u32,
-    place: u32,
-    records: u32,
-    names: u32,
-    columns: u32,
-) -> bool
-    requires { header_bytes ≤ length question.now }
-    ensures { result ≡ true ↔ Answered question.now refusal place records names columns }
-{
-    if refusal as usize != number(question, 5) {
-        return false;
-    }
-    if place as usize != number(question, 6) {
-        return false;
-    }
-    if records as usize != number(question, 7) {
-        return false;
-    }
-    if names as usize != number(question, 8) {
-        return false;
-    }
-    columns as usize == number(question, 9)
 }
 
 // The buffer begins with these bytes, and past them is as it was lent.
@@ -87,39 +103,24 @@ pub fn is_written(buffer: &[u8], bytes: &[u8]) -> bool
     requires { length buffer.now ≡ lent_bytes }
     ensures { result ≡ true ↔ buffer.now ≡ written_over bytes.now }
 {
-    let n = bytes.len();
-    if buffer.len() < n {
-        return false;
+    match buffer.strip_prefix(bytes) {
+        Some(rest) => is_all(rest, BYTE),
+        None => false,
     }
-    if !check::same(&buffer[..n], bytes) {
-        return false;
-    }
-    let untouched = [BYTE; ROOM];
-    check::same(&buffer[n..], &untouched[n..])
 }
 
-// Every word is that one.
-fn is_all(words: &[u32], word: u32) -> bool
-    ensures { result ≡ true ↔ words.now ≡ replicate (length words.now) word }
+// Every item is that one.
+fn is_all<T: PartialEq + Drop>(items: &[T], one: T) -> bool
+    ensures { result ≡ list_all (λ item. T.eq item one) items.now }
 {
-    let mut i = 0;
-    while i < words.len() {
-        if words[i] != word {
-            return false;
-        }
-        i += 1;
-    }
-    true
+    items.iter().all(|item| *item == one)
 }
 
 // Tested before the commands are read: 1 to 3.
 fn is_early(refusal: u32) -> bool
     ensures { result ≡ early refusal }
 {
-    if refusal == 0 {
-        return false;
-    }
-    refusal <= 3
+    matches!(refusal, 1..=3)
 }
 
 // The table's first words are zero, the others as they were; after an early refusal all are.
@@ -129,11 +130,8 @@ pub fn is_left(table: &[u32], refusal: u32) -> bool
     if is_early(refusal) {
         return is_all(table, WORD);
     }
-    if table.len() < words::WORDS {
-        return false;
+    match table.split_at_checked(words::WORDS) {
+        Some((used, rest)) => is_all(used, 0) && is_all(rest, WORD),
+        None => false,
     }
-    if !is_all(&table[..words::WORDS], 0) {
-        return false;
-    }
-    is_all(&table[words::WORDS..], WORD)
 }

@@ -6,8 +6,7 @@ use Rattle.text.specs.declared.Name.{Name}
 use Rattle.shapes.specs.declared.Step.{Step}
 use Rattle.shapes.specs.declared.Contents.{Contents}
 use Rattle.leaves.specs.declared.Site.{Site}
-use Rattle.leaves.specs.declared.Traced.{Traced}
-use Rattle.leaves.specs.Leaves.{TracedAs}
+use Rattle.leaves.specs.Leaves.{Outcome, TracedAs}
 use Rattle.reading.specs.Reading.{Reader, dots_in, part_read, parts_by, container_by, variant_by, readers, inner_of, value_at}
 
 -- a reading is a reader, given the commands, the texts, the options and the levels left
@@ -39,7 +38,7 @@ abbrev pub part : Step → ℕ → Reading
 part step here commands text options levels = part_read text (readers commands text options levels) step here
 
 -- what is promised of a function that reads from an offset on, at a site: that it traces as the reading says
-abbrev pub Reads : Slice → Slice → TracingOptions → ℕ → Site → MutSlice → Reading → Traced → Type 0
+abbrev pub Reads : Slice → Slice → TracingOptions → ℕ → Site → MutSlice → Reading → Outcome → Type 0
 Reads commands text options at site table reading r =
     TracedAs text table site.count r
     (reading (now_of commands) (now_of text) options.word site.levels at site.place site.count (at_entry table))

@@ -1,40 +1,34 @@
 -- What reading and tracing does to the words of the table, function by function.
-use Rattle.std.specs.Prelude.{true, List, ℕ, zero, suc, ◌+◌, length}
+use Rattle.std.specs.Prelude.{true, List, ℕ, zero, suc, ◌+◌, length, Ok, Err}
 use Rattle.logic.specs.Turns.{Turn, again, done, turns}
 use Rattle.datatype.specs.Codes.{null}
 use Rattle.refusal.specs.declared.Refusal.TheVariants as F
 use Rattle.text.specs.declared.Name.{Name}
 use Rattle.text.specs.Name.{bytes_of, dots}
-use Rattle.commands.specs.declared.Read.{Read}
-use Rattle.commands.specs.declared.Read.TheVariants as R
 use Rattle.commands.specs.declared.Due.TheVariants as D
-use Rattle.commands.specs.Commands.{read_command}
+use Rattle.commands.specs.Commands.{Read, read_command, refused_at}
 use Rattle.model.specs.Kinds.{struct_kind, tuple_kind}
 use Rattle.shapes.specs.declared.Step.{Step}
 use Rattle.shapes.specs.declared.Contents.{Contents}
 use Rattle.shapes.specs.declared.Contents.TheVariants as N
 use Rattle.shapes.specs.declared.Shape.{Shape}
 use Rattle.shapes.specs.declared.Shape.TheVariants as H
-use Rattle.shapes.specs.declared.Part.{Part}
 use Rattle.shapes.specs.declared.Part.TheVariants as P
 use Rattle.shapes.specs.Steps.{name_of}
-use Rattle.shapes.specs.Shapes.{shape_at, part_at}
-use Rattle.growth.specs.declared.Ensured.TheVariants as E
-use Rattle.growth.specs.declared.Made.TheVariants as L
+use Rattle.shapes.specs.Shapes.{PartRead, shape_at, part_at}
 use Rattle.growth.specs.Growth.{Ensuring, ensuring, Making, making}
-use Rattle.leaves.specs.declared.Traced.TheVariants as T
 use Rattle.leaves.specs.Marks.{Chain, chain, past_marks}
-use Rattle.leaves.specs.Leaves.{Out, observed, out}
+use Rattle.leaves.specs.Leaves.{Out, traced_to, observed, out}
 use Rattle.opening.specs.Opening.{container_made, held, variant_held}
 
 -- with the children that were made, or at the child that is held
 abbrev pub on_made : ℕ → (ℕ → List ℕ → Out) → Making → Out
-on_made here k (making (L.Places n) t) = k n t
-on_made here k (making (L.Refused refusal) t) = out (T.Refused refusal here) t
+on_made here k (making (Ok n) t) = k n t
+on_made here k (making (Err refusal) t) = out (refused_at refusal here) t
 
 abbrev pub on_held : ℕ → (ℕ → ℕ → List ℕ → Out) → Ensuring → Out
-on_held here k (ensuring (E.Child child n) t) = k child n t
-on_held here k (ensuring (E.Refused refusal) t) = out (T.Refused refusal here) t
+on_held here k (ensuring (Ok f) t) = k f.child f.count t
+on_held here k (ensuring (Err refusal) t) = out (refused_at refusal here) t
 
 -- ---- readers: of a value at an offset and a place, with the count of places and the table
 abbrev pub Reader : Type 0
@@ -55,20 +49,20 @@ pub data State : Type 0 where
   state : ℕ → ℕ → ℕ → List ℕ → State
 
 abbrev pub after_part : ℕ → Out → Turn State Out
-after_part i (out (T.Next behind n) t) = again (state i behind n t)
-after_part i (out (T.Refused refusal place) t) = done (out (T.Refused refusal place) t)
+after_part i (out (Ok to) t) = again (state i to.next to.count t)
+after_part i (out (Err r) t) = done (out (Err r) t)
 
-abbrev pub on_part : List ℕ → Readers → ℕ → ℕ → ℕ → ℕ → List ℕ → Part → Turn State Out
-on_part text inner place i at n t (P.Ended behind) = done (out (T.Next behind n) t)
-on_part text inner place i at n t (P.Step step value) = after_part (i + 1) (part_read text inner step at value place n t)
-on_part text inner place i at n t (P.Refused refusal offset) = done (out (T.Refused refusal offset) t)
+abbrev pub on_part : List ℕ → Readers → ℕ → ℕ → ℕ → ℕ → List ℕ → PartRead → Turn State Out
+on_part text inner place i at n t (Ok (P.Ended behind)) = done (out (traced_to behind n) t)
+on_part text inner place i at n t (Ok (P.Step step value)) = after_part (i + 1) (part_read text inner step at value place n t)
+on_part text inner place i at n t (Err r) = done (out (Err r) t)
 
 unfoldable pub part_turn : List ℕ → List ℕ → Readers → ℕ → ℕ → ℕ → State → Turn State Out
 part_turn commands text inner kind positions place (state i at n t) =
     on_part text inner place i at n t (part_at commands text kind positions i at)
 
 abbrev pub part_stop : State → Out
-part_stop (state i at n t) = out (T.Refused F.BadCommand at) t
+part_stop (state i at n t) = out (refused_at F.BadCommand at) t
 
 -- from part i on
 unfoldable pub parts_from : List ℕ → List ℕ → Readers → ℕ → ℕ → ℕ → ℕ → ℕ → ℕ → List ℕ → Out
@@ -95,12 +89,12 @@ at_shape commands text options levels inner here behind place n t (H.Parts kind 
     container_by commands text options levels inner kind positions here behind place n t
 at_shape commands text options levels inner here behind place n t (H.Variant number name contents) =
     variant_by text options levels inner number name contents here behind place n t
-at_shape commands text options levels inner here behind place n t H.NoValue = out (T.Refused F.BadCommand here) t
+at_shape commands text options levels inner here behind place n t H.NoValue = out (refused_at F.BadCommand here) t
 
 abbrev pub at_read : List ℕ → List ℕ → ℕ → ℕ → Readers → ℕ → ℕ → ℕ → List ℕ → Read → Out
-at_read commands text options levels inner here place n t (R.Command command behind) =
+at_read commands text options levels inner here place n t (Ok (command, behind)) =
     at_shape commands text options levels inner here behind place n t (shape_at options text command)
-at_read commands text options levels inner here place n t (R.Refused refusal offset) = out (T.Refused refusal offset) t
+at_read commands text options levels inner here place n t (Err r) = out (Err r) t
 
 abbrev pub after_chain : List ℕ → List ℕ → ℕ → ℕ → Readers → ℕ → ℕ → Chain → Out
 after_chain commands text options levels inner place n (chain here t) =
@@ -117,7 +111,7 @@ value_by commands text options levels inner N.Fields here at place n t =
 
 -- with no level left a container is refused before anything below it is read
 abbrev pub none_left : Readers
-none_left down contents here at place n t = out (T.Refused F.TooDeep here) t
+none_left down contents here at place n t = out (refused_at F.TooDeep here) t
 
 -- with so many levels left, less so many dots
 unfoldable pub readers : List ℕ → List ℕ → ℕ → ℕ → Readers

@@ -12,14 +12,13 @@ ghost use Rattle.places.specs.Layout.{Ready};
 ghost use Rattle.reading.specs.Reading.{dots_in, value_at, parted};
 ghost use Rattle.reading.specs.Promises.{named, container, variant, inside, parts, part, Reads};
 
-use commands::{Due, Read};
-use growth::{Ensured, Made};
+use commands::{Due, byte};
 use leaves::{Site, Traced};
-use opening::Opened;
 use options::TracingOptions;
-use refusal::Refusal;
-use shapes::{Contents, Leaf, Part, Shape, Step};
+use refusal::{Refusal, Refused};
+use shapes::{Contents, Part, Shape, Step};
 use text::Name;
+use words::Table;
 
 // The levels left below a step.
 fn lower(levels: usize, name: Name, text: &[u8]) -> usize
@@ -38,17 +37,17 @@ pub fn read_value(
     options: TracingOptions,
     at: usize,
     site: Site,
-    table: &mut [u32],
-) -> Traced
+    table: &mut Table,
+) -> Result<Traced, Refused>
     requires { Ready text.now table.old site.count site.place × Told options text.now }
     ensures { Reads commands text options at site table value_at result }
 {
     let here = leaves::past_marks(commands, at, site.place, table);
     match shapes::leaf_at(commands, text, options, here) {
-        Leaf::Value(null, kind, next) => {
-            leaves::observe(options, null, kind, here, next, site, table)
+        Some(leaf) => {
+            leaves::observe(options, leaf.null, leaf.kind, here, leaf.next, site, table)
         }
-        Leaf::Other => read_parted(commands, text, options, here, site, table),
+        None => read_parted(commands, text, options, here, site, table),
     }
 }
 
@@ -62,24 +61,20 @@ fn read_named(
     name: Name,
     at: usize,
     site: Site,
-    table: &mut [u32],
-) -> Traced
+    table: &mut Table,
+) -> Result<Traced, Refused>
     requires ready { Ready text.now table.old site.count site.place × Told options text.now }
     requires inside { Inside text.now name }
     ensures { Reads commands text options at site table (named name) result }
 {
     let here = leaves::past_marks(commands, at, site.place, table);
     match shapes::leaf_at(commands, text, options, here) {
-        Leaf::Value(null, kind, next) => {
-            leaves::observe(options, null, kind, here, next, site, table)
+        Some(leaf) => {
+            leaves::observe(options, leaf.null, leaf.kind, here, leaf.next, site, table)
         }
-        Leaf::Other => {
+        None => {
             let levels = lower(site.levels, name, text);
-            let below = Site {
-                place: site.place,
-                count: site.count,
-                levels,
-            };
+            let below = Site { levels, ..site };
             read_parted(commands, text, options, here, below, table)
         }
     }
@@ -94,25 +89,22 @@ fn read_parted(
     options: TracingOptions,
     here: usize,
     site: Site,
-    table: &mut [u32],
-) -> Traced
+    table: &mut Table,
+) -> Result<Traced, Refused>
     requires { Ready text.now table.old site.count site.place × Told options text.now }
     ensures { Reads commands text options here site table parted result }
 {
-    if shapes::is_struct_at(commands, here) {
+    if shapes::begins_at(commands, byte::STRUCT, here) {
         let kind = shapes::STRUCT;
         let at = here + 1;
         return read_container(commands, text, options, kind, 0, here, at, site, table);
     }
-    if shapes::is_sequence_at(commands, here) {
+    if shapes::begins_at(commands, byte::SEQUENCE, here) {
         let kind = shapes::SEQUENCE;
         let at = here + 1;
         return read_container(commands, text, options, kind, 0, here, at, site, table);
     }
-    let read = commands::read_command(commands, text, here, Due::Value);
-    let Read::Command(command, next) = read else {
-        return Traced::Refused(read.refusal(), read.place());
-    };
+    let (command, next) = commands::read_command(commands, text, here, Due::Value)?;
     match shapes::shape_of(command, text, options) {
         Shape::Leaf(null, kind) => leaves::observe(options, null, kind, here, next, site, table),
         Shape::Parts(kind, n) => {
@@ -121,7 +113,7 @@ fn read_parted(
         Shape::Variant(number, name, contents) => read_variant(
             commands, text, options, number, name, contents, here, next, site, table,
         ),
-        Shape::NoValue => Traced::Refused(Refusal::BadCommand, here),
+        Shape::NoValue => Err(Refusal::BadCommand.at(here)),
     }
 }
 
@@ -136,13 +128,13 @@ fn read_container(
     here: usize,
     at: usize,
     site: Site,
-    table: &mut [u32],
-) -> Traced
+    table: &mut Table,
+) -> Result<Traced, Refused>
     requires ready { Ready text.now table.old site.count site.place × Told options text.now }
     requires kind_value { is_parted kind ≡ true }
     ensures { Reads commands text options at site table (container kind positions here) result }
 {
-    match opening::open_container(
+    let made = opening::open_container(
         text,
         options,
         kind,
@@ -151,18 +143,15 @@ fn read_container(
         site.place,
         site.count,
         table,
-    ) {
-        Made::Places(more) => {
-            let levels = site.levels - 1;
-            let below = Site {
-                place: site.place,
-                count: more,
-                levels,
-            };
-            read_parts(commands, text, options, kind, positions, at, below, table)
-        }
-        Made::Refused(refusal) => Traced::Refused(refusal, here),
-    }
+    );
+    let count = made.map_err(|refusal| refusal.at(here))?;
+    let levels = site.levels - 1;
+    let below = Site {
+        place: site.place,
+        count,
+        levels,
+    };
+    read_parts(commands, text, options, kind, positions, at, below, table)
 }
 
 // The parts of a container by its kind. The levels are those left below it.
@@ -175,8 +164,8 @@ fn read_parts(
     positions: u16,
     start: usize,
     site: Site,
-    table: &mut [u32],
-) -> Traced
+    table: &mut Table,
+) -> Result<Traced, Refused>
     requires ready { Ready text.now table.old site.count site.place × Told options text.now }
     requires kind_value { is_parted kind ≡ true }
     ensures { Reads commands text options start site table (parts kind positions) result }
@@ -203,43 +192,44 @@ fn read_fields(
     kind: u32,
     start: usize,
     site: Site,
-    table: &mut [u32],
-) -> Traced
+    table: &mut Table,
+) -> Result<Traced, Refused>
     requires ready { Ready text.now table.old site.count site.place × Told options text.now }
     requires kind_value { is_struct kind ≡ true }
     ensures { Reads commands text options start site table (parts kind 0) result }
 {
     let mut at = start;
     let mut grown = site;
-    loop {
-        match opening::open_field(commands, text, kind, at, grown.place, grown.count, table) {
-            Opened::Ended => return Traced::Next(at + 1, grown.count),
-            Opened::Refused(refusal) => return Traced::Refused(refusal, at),
-            Opened::Child(child, more) => {
-                let quick = leaves::past_quick(commands, text, options, at + 5, child, table);
-                if quick != 0 {
-                    at = quick;
-                    grown.count = more;
-                } else {
-                    let name = commands::read_name(commands, at + 1);
-                    let below = Site {
-                        place: child,
-                        count: more,
-                        levels: grown.levels,
-                    };
-                    match read_named(commands, text, options, name, at + 5, below, table) {
-                        Traced::Next(behind, still) => {
-                            at = behind;
-                            grown.count = still;
-                        }
-                        Traced::Refused(refusal, offset) => {
-                            return Traced::Refused(refusal, offset);
-                        }
-                    }
-                }
-            }
+    while let Some(field) = opening::open_field(
+        commands,
+        text,
+        kind,
+        at,
+        grown.place,
+        grown.count,
+        table,
+    ).map_err(|refusal| refusal.at(at))?
+    {
+        let quick = leaves::past_quick(commands, text, options, at + 5, field.child, table);
+        if quick != 0 {
+            at = quick;
+            grown.count = field.count;
+        } else {
+            let name = commands::read_name(commands, at + 1);
+            let below = Site {
+                place: field.child,
+                count: field.count,
+                levels: grown.levels,
+            };
+            let traced = read_named(commands, text, options, name, at + 5, below, table)?;
+            at = traced.next;
+            grown.count = traced.count;
         }
     }
+    Ok(Traced {
+        next: at + 1,
+        count: grown.count,
+    })
 }
 
 // The elements of a sequence, up to the end.
@@ -250,31 +240,31 @@ fn read_elements(
     options: TracingOptions,
     start: usize,
     site: Site,
-    table: &mut [u32],
-) -> Traced
+    table: &mut Table,
+) -> Result<Traced, Refused>
     requires { Ready text.now table.old site.count site.place × Told options text.now }
     ensures { Reads commands text options start site table (parts sequence_kind 0) result }
 {
     let mut at = start;
     let mut grown = site;
     loop {
-        match shapes::element_part(commands, text, at) {
-            Part::Ended(behind) => return Traced::Next(behind, grown.count),
-            Part::Refused(refusal, offset) => return Traced::Refused(refusal, offset),
+        match shapes::element_part(commands, text, at)? {
+            Part::Ended(next) => {
+                return Ok(Traced {
+                    next,
+                    count: grown.count,
+                });
+            }
             Part::Step(step, value) => {
-                match read_part(commands, text, options, step, at, value, grown, table) {
-                    Traced::Next(behind, more) => {
-                        at = runs::past_same(commands, behind, grown.place, table);
-                        grown.count = more;
-                    }
-                    Traced::Refused(refusal, offset) => return Traced::Refused(refusal, offset),
-                }
+                let traced = read_part(commands, text, options, step, at, value, grown, table)?;
+                at = runs::past_same(commands, traced.next, grown.place, table);
+                grown.count = traced.count;
             }
         }
     }
 }
 
-// The keys and values of a map, by turns, up to the end.
+// The keys and values of a map, by turns, up to the end. A `for` would end by a count, too, which the end comes before.
 #[cycle(readers)]
 fn read_entries(
     commands: &[u8],
@@ -282,8 +272,8 @@ fn read_entries(
     options: TracingOptions,
     start: usize,
     site: Site,
-    table: &mut [u32],
-) -> Traced
+    table: &mut Table,
+) -> Result<Traced, Refused>
     requires { Ready text.now table.old site.count site.place × Told options text.now }
     ensures { Reads commands text options start site table (parts map_kind 0) result }
 {
@@ -291,17 +281,17 @@ fn read_entries(
     let mut at = start;
     let mut grown = site;
     loop {
-        match shapes::entry_part(commands, text, i, at) {
-            Part::Ended(behind) => return Traced::Next(behind, grown.count),
-            Part::Refused(refusal, offset) => return Traced::Refused(refusal, offset),
+        match shapes::entry_part(commands, text, i, at)? {
+            Part::Ended(next) => {
+                return Ok(Traced {
+                    next,
+                    count: grown.count,
+                });
+            }
             Part::Step(step, value) => {
-                match read_part(commands, text, options, step, at, value, grown, table) {
-                    Traced::Next(behind, more) => {
-                        at = behind;
-                        grown.count = more;
-                    }
-                    Traced::Refused(refusal, offset) => return Traced::Refused(refusal, offset),
-                }
+                let traced = read_part(commands, text, options, step, at, value, grown, table)?;
+                at = traced.next;
+                grown.count = traced.count;
             }
         }
         i += 1;
@@ -317,31 +307,32 @@ fn read_positions(
     positions: u16,
     start: usize,
     site: Site,
-    table: &mut [u32],
-) -> Traced
+    table: &mut Table,
+) -> Result<Traced, Refused>
     requires { Ready text.now table.old site.count site.place × Told options text.now }
     ensures { Reads commands text options start site table (parts tuple_kind positions) result }
 {
-    let mut i: u16 = 0;
     let mut at = start;
     let mut grown = site;
-    while i < positions {
-        match shapes::value_part(commands, text, Step::Position(i), Due::Value, at) {
-            Part::Ended(behind) => return Traced::Next(behind, grown.count),
-            Part::Refused(refusal, offset) => return Traced::Refused(refusal, offset),
+    for i in 0..positions {
+        match shapes::value_part(commands, text, Step::Position(i), Due::Value, at)? {
+            Part::Ended(next) => {
+                return Ok(Traced {
+                    next,
+                    count: grown.count,
+                });
+            }
             Part::Step(step, value) => {
-                match read_part(commands, text, options, step, at, value, grown, table) {
-                    Traced::Next(behind, more) => {
-                        at = behind;
-                        grown.count = more;
-                    }
-                    Traced::Refused(refusal, offset) => return Traced::Refused(refusal, offset),
-                }
+                let traced = read_part(commands, text, options, step, at, value, grown, table)?;
+                at = traced.next;
+                grown.count = traced.count;
             }
         }
-        i += 1;
     }
-    Traced::Next(at, grown.count)
+    Ok(Traced {
+        next: at,
+        count: grown.count,
+    })
 }
 
 // The value of a part that is no field, at the child that its step leads to.
@@ -354,23 +345,20 @@ fn read_part(
     here: usize,
     at: usize,
     site: Site,
-    table: &mut [u32],
-) -> Traced
+    table: &mut Table,
+) -> Result<Traced, Refused>
     requires ready { Ready text.now table.old site.count site.place × Told options text.now }
     requires unnamed { Unnamed step }
     ensures { Reads commands text options at site table (part step here) result }
 {
-    match opening::hold(text, site.place, step, site.count, table) {
-        Ensured::Child(child, more) => {
-            let below = Site {
-                place: child,
-                count: more,
-                levels: site.levels,
-            };
-            read_value(commands, text, options, at, below, table)
-        }
-        Ensured::Refused(refusal) => Traced::Refused(refusal, here),
-    }
+    let held = opening::hold(text, site.place, step, site.count, table);
+    let part = held.map_err(|refusal| refusal.at(here))?;
+    let below = Site {
+        place: part.child,
+        count: part.count,
+        levels: site.levels,
+    };
+    read_value(commands, text, options, at, below, table)
 }
 
 // A variant, whose command stands at `here` and whose contents start at `at`.
@@ -385,13 +373,13 @@ fn read_variant(
     here: usize,
     at: usize,
     site: Site,
-    table: &mut [u32],
-) -> Traced
+    table: &mut Table,
+) -> Result<Traced, Refused>
     requires ready { Ready text.now table.old site.count site.place × Told options text.now }
     requires good { Good text.now name }
     ensures { Reads commands text options at site table (variant number name contents here) result }
 {
-    match opening::open_variant(
+    let held = opening::open_variant(
         text,
         options,
         number,
@@ -400,18 +388,15 @@ fn read_variant(
         site.place,
         site.count,
         table,
-    ) {
-        Ensured::Child(child, more) => {
-            let levels = lower(site.levels - 1, name, text);
-            let below = Site {
-                place: child,
-                count: more,
-                levels,
-            };
-            read_contents(commands, text, options, contents, here, at, below, table)
-        }
-        Ensured::Refused(refusal) => Traced::Refused(refusal, here),
-    }
+    );
+    let variant = held.map_err(|refusal| refusal.at(here))?;
+    let levels = lower(site.levels - 1, name, text);
+    let below = Site {
+        place: variant.child,
+        count: variant.count,
+        levels,
+    };
+    read_contents(commands, text, options, contents, here, at, below, table)
 }
 
 // A variant's contents are as for the plain form, their command being the variant's.
@@ -424,8 +409,8 @@ fn read_contents(
     here: usize,
     at: usize,
     site: Site,
-    table: &mut [u32],
-) -> Traced
+    table: &mut Table,
+) -> Result<Traced, Refused>
     requires { Ready text.now table.old site.count site.place × Told options text.now }
     ensures { Reads commands text options at site table (inside contents here) result }
 {

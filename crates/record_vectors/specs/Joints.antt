@@ -1,9 +1,9 @@
 -- When a stored joint and coerce agree.
-use Rattle.std.specs.Prelude.{Bool, false, ◌&&◌, List, ℕ, eqb, length, get_or}
+use Rattle.std.specs.Prelude.{Bool, false, ◌&&◌, List, ℕ, eqb, length, get_or, Result, Ok, Err}
 use Rattle.std.proofs.Math.Option.{Option, none, some}
 use Rattle.files.specs.Bytes.{two_bytes}
-use Rattle.datatype.specs.declared.Decoded.{Decoded}
-use Rattle.datatype.specs.declared.Decoded.TheVariants as E
+use Rattle.datatype.specs.declared.DataType.{DataType}
+use Rattle.datatype.specs.declared.UnknownCode.{UnknownCode}
 use Rattle.datatype.specs.Codes.{code_of, decoded}
 use Rattle.coerce.specs.Joint.{joint}
 
@@ -13,10 +13,10 @@ stored_as none = 255
 stored_as (some code) = code
 
 -- the joint of two types under an options word is the one with that code; codes that are no types' agree with nothing
-unfoldable pub is_joint : ℕ → Decoded → Decoded → ℕ → Bool
-is_joint word E.Unknown second code = false
-is_joint word (E.Type first) E.Unknown code = false
-is_joint word (E.Type first) (E.Type second) code = eqb (stored_as (joint word (code_of first) (code_of second))) code
+unfoldable pub is_joint : ℕ → Result DataType UnknownCode → Result DataType UnknownCode → ℕ → Bool
+is_joint word (Err unknown) second code = false
+is_joint word (Ok first) (Err unknown) code = false
+is_joint word (Ok first) (Ok second) code = eqb (stored_as (joint word (code_of first) (code_of second))) code
 
 -- a record: the options word, low byte first, the codes of the first and the second type, the code of their joint
 unfoldable pub joint_agrees : List ℕ → Bool

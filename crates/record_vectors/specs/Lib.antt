@@ -1,4 +1,3 @@
 pub mod Texts
 pub mod Names
 pub mod Joints
-pub mod Agrees

@@ -1,5 +1,5 @@
 -- The model's tree as the words of the table say it, and the outcome of a flat run.
-use Rattle.std.specs.Prelude.{true, false, List, ◌-◌, ℕ, zero, suc, ◌*◌, ◌/◌, ◌%◌, eqb}
+use Rattle.std.specs.Prelude.{true, false, List, ◌-◌, ℕ, zero, suc, ◌*◌, ◌/◌, ◌%◌, eqb, Ok, Err}
 use Rattle.logic.specs.Test.{when◌then◌else◌}
 use Rattle.refusal.specs.Number.{number_of}
 use Rattle.text.specs.Name.{bytes_of}
@@ -9,7 +9,6 @@ use Rattle.model.specs.Kinds.{Step, field, element, position, key, value, varian
 use Rattle.model.specs.Tracing.{Tree, node, Kids, no_kids, kid, fresh, place_limit, Counted, counted}
 use Rattle.shapes.specs.Steps.{field_code, unpacked_name}
 use Rattle.places.specs.Layout.{kind_word, null_word, samples_word, first_word, next_word, step_word, name_word, held_word, root_place}
-use Rattle.leaves.specs.declared.Traced.TheVariants as T
 use Rattle.leaves.specs.Leaves.{Out, out}
 
 -- a step by its word and its name: 0 element, 1 key, 2 value, 3 field, then positions and variants by turns
@@ -45,5 +44,5 @@ tree_of text t = tree_at (2 * place_limit) text t root_place
 
 -- a refusal by its number and place, or the count of places and the tree
 unfoldable pub outcome : List ℕ → Out → Result (Counted Tree)
-outcome text (out (T.Next behind n) t) = counted n (tree_of text t)
-outcome text (out (T.Refused refusal place) t) = refused (number_of refusal) place
+outcome text (out (Ok to) t) = counted to.count (tree_of text t)
+outcome text (out (Err r) t) = refused (number_of r.refusal) r.place

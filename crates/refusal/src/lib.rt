@@ -8,41 +8,41 @@ ghost use Rattle.refusal.specs.Number.{number_of};
 #[derive(Clone, Copy)]
 pub enum Refusal {
     // An options bit above 10 is set.
-    UnknownOption,
+    UnknownOption = 1,
     // The work table has fewer than 16,384 words.
-    ShortTable,
+    ShortTable = 2,
     // Commands or text exceed 65,535 bytes.
-    LongInput,
+    LongInput = 3,
     // A command is unknown, cut off, or cannot stand there.
-    BadCommand,
+    BadCommand = 4,
     // A name's offset plus length exceeds the text, or it is not UTF-8.
-    BadName,
+    BadName = 5,
     // Under map_as_struct a key is not 0D.
-    BadKey,
+    BadKey = 6,
     // A container or variant stands at depth 20 or more.
-    TooDeep,
+    TooDeep = 7,
     // Container and other container, or container and non-null primitive, meet.
-    Mismatch,
+    Mismatch = 8,
     // A variant number has two names.
-    TwoNames,
+    TwoNames = 9,
     // Two primitive types have no joint.
-    NoJoint,
+    NoJoint = 10,
     // A 1,025th place is needed.
-    TooManyPlaces,
+    TooManyPlaces = 11,
     // A Null or unknown place is emitted without allow_null_fields.
-    NullField,
+    NullField = 12,
     // A union of only dataless variants without gaps has neither option 9 nor option 0.
-    DatalessUnion,
+    DatalessUnion = 13,
     // Emission reaches variant slot 128.
-    TooManySlots,
+    TooManySlots = 14,
     // The root is nullable.
-    NullableRoot,
+    NullableRoot = 15,
     // The root is Null.
-    NullRoot,
+    NullRoot = 16,
     // The root is not Struct.
-    RootNotStruct,
+    RootNotStruct = 17,
     // An output buffer is too short.
-    ShortBuffer,
+    ShortBuffer = 18,
 }
 
 impl Refusal {
@@ -50,25 +50,23 @@ impl Refusal {
     pub fn number(self) -> u8
         ensures { result ≡ number_of self }
     {
-        match self {
-            Refusal::UnknownOption => 1,
-            Refusal::ShortTable => 2,
-            Refusal::LongInput => 3,
-            Refusal::BadCommand => 4,
-            Refusal::BadName => 5,
-            Refusal::BadKey => 6,
-            Refusal::TooDeep => 7,
-            Refusal::Mismatch => 8,
-            Refusal::TwoNames => 9,
-            Refusal::NoJoint => 10,
-            Refusal::TooManyPlaces => 11,
-            Refusal::NullField => 12,
-            Refusal::DatalessUnion => 13,
-            Refusal::TooManySlots => 14,
-            Refusal::NullableRoot => 15,
-            Refusal::NullRoot => 16,
-            Refusal::RootNotStruct => 17,
-            Refusal::ShortBuffer => 18,
+        self as u8
+    }
+
+    // The same, said of a place.
+    pub fn at(self, place: usize) -> Refused
+        ensures { result ≡ record { refusal = self; place = place } }
+    {
+        Refused {
+            refusal: self,
+            place,
         }
     }
+}
+
+// The error of what reads commands: why a batch is turned down, and the place (document 01).
+#[derive(Clone, Copy)]
+pub struct Refused {
+    pub refusal: Refusal,
+    pub place: usize,
 }

@@ -1,3 +1,4 @@
 pub mod Records
 pub mod Tally
+pub mod Replayed
 pub mod laws

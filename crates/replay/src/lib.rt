@@ -1,11 +1,52 @@
-// What the programs that replay stored vectors share. A file of vectors is records one after another, each a byte that
-// counts the bytes after it.
+// What the programs that replay stored vectors share. A file of vectors is records one after another.
 
 #![tactic(auto)]
 
-ghost use Rattle.std.specs.Prelude.{◌≡◌, ◌≤◌, ◌<◌, length};
+ghost use Rattle.std.specs.Prelude.{◌≡◌, List, ℕ, Bool, ◌+◌, ◌≤◌, ◌<◌, length};
 ghost use Rattle.logic.specs.Test.{when◌then◌else◌};
-ghost use Rattle.replay.specs.Records.{record_end};
+ghost use Rattle.replay.specs.Records.{record_end, IsEnd};
+ghost use Rattle.replay.specs.Replayed.{Answers, replayed};
+ghost use Rattle.replay.specs.laws.Records.{record_is_end};
+
+use std::rt::Files;
+
+// Bytes of a file that are read at most.
+const MOST: usize = 262144;
+
+// How the records of a file lie in it.
+pub trait Layout {
+    // where the record that begins at an offset ends
+    ghost end: { List ℕ → ℕ → ℕ };
+
+    // the bytes at its start that are not handed on to be checked
+    ghost HEAD: { ℕ };
+
+    const HEAD: usize;
+
+    fn end_of(&self, vectors: &[u8], at: usize) -> usize
+        requires { at < length vectors.now }
+        ensures { result ≡ end vectors.now at };
+
+    ghost is_end: { (vectors : List ℕ) (at : ℕ) → at < length vectors → IsEnd vectors at HEAD (end vectors at) };
+}
+
+// Each record is a byte that counts the bytes after it, and those.
+#[derive(Clone, Copy)]
+pub struct Counted;
+
+impl Layout for Counted {
+    ghost end = { record_end };
+
+    ghost HEAD = { 1 };
+
+    ghost is_end = { record_is_end };
+
+    const HEAD: usize = 1;
+
+    fn end_of(&self, vectors: &[u8], at: usize) -> usize {
+        end_of_record(vectors, at)
+    }
+}
 
 // How many records there are, and how many of them differ from what is stored.
 #[derive(Clone, Copy)]
@@ -19,8 +60,7 @@ pub fn end_of_record(vectors: &[u8], at: usize) -> usize
     requires { at < length vectors.now }
     ensures { (result ≡ record_end vectors.now at) × (at < result) × (result ≤ length vectors.now) }
 {
-    let count = files::wide(vectors[at]);
-    files::end_of(vectors, at + 1, count)
+    files::end_of(vectors, at + 1, usize::from(vectors[at]))
 }
 
 // Names a record whose answer is not the stored one, and counts it: 1, or 0 where the two agree. The first is record 0.
@@ -34,10 +74,42 @@ pub fn differs(rt: &impl Print, record: usize, agrees: bool) -> usize
     1
 }
 
-// The last line: how many records there were, in how many bytes, and how many of them differ.
-pub fn report(rt: &impl Print, tally: Tally, what: &[u8], bytes: usize) {
-    let _ = rt.print(tally.records);
-    let _ = rt.write_all(what);
-    let differ = tally.differ;
-    let _ = println!(rt; " in {bytes} bytes, {differ} differ");
+// Puts each record to a check, and counts.
+pub fn replay<R: Print, L: Layout + Drop, F: Fn(&[u8]) -> bool + Drop>(
+    rt: &R,
+    vectors: &[u8],
+    layout: L,
+    agrees: F,
+) -> Tally
+    requires { F.IsAlwaysCallable agrees }
+    ensures { (answer : List ℕ → Bool) → Answers F.Fn agrees answer → result ≡ replayed L.HEAD L.end answer vectors.now }
+{
+    let mut tally = Tally {
+        records: 0,
+        differ: 0,
+    };
+    // No iterator of the library: records differ in length, and where one ends is seen only when it is reached.
+    let mut at = 0;
+    while at < vectors.len() {
+        let end = layout.end_of(vectors, at);
+        tally.differ += differs(rt, tally.records, agrees(&vectors[at + L::HEAD..end]));
+        tally.records += 1;
+        at = end;
+    }
+    tally
+}
+
+// Replays a file, and says at last how many records there were, in how many bytes, and how many of them differ.
+pub fn replay_file<R: Files + Print + Eprint + Alloc, F: FnOnce(&[u8]) -> Tally>(
+    rt: &R,
+    path: &str,
+    what: &str,
+    tally: F,
+)
+    requires { F.IsAlwaysCallable tally }
+{
+    let vectors = files::load(rt, path.as_bytes(), MOST).unwrap_or_else(|| Vec::new(rt.alloc()));
+    let bytes = vectors.len();
+    let Tally { records, differ } = tally(&vectors);
+    let _ = println!(rt; "{records} {what} in {bytes} bytes, {differ} differ");
 }

@@ -3,25 +3,22 @@
 #![tactic(auto)]
 
 ghost use Rattle.std.specs.Prelude.{◌≡◌, ◌+◌, ◌≤◌, length};
-ghost use Rattle.words.specs.Word.{word, IsTable, IsRow};
+ghost use Rattle.words.specs.Word.{word, IsRow};
 ghost use Rattle.places.specs.Layout.{first_word};
 ghost use Rattle.runs.specs.Runs.{block_length, is_held, are_all, behind_run, past_held, past_same};
 
+use words::Table;
+
 // Whether the child is an element that the place's present sample holds.
-fn is_held(place: usize, child: usize, table: &[u32]) -> bool
-    requires { IsRow place × IsRow child × IsTable table.now }
+#[tactic(auto, unfolding(crate::specs::Runs::is_held))]
+fn is_held(place: usize, child: usize, table: &Table) -> bool
+    requires { IsRow place × IsRow child }
     ensures { result ≡ is_held place child table.now }
 {
-    if child == 0 {
-        return false;
-    }
-    if words::get(table, child, places::STEP) != 0 {
-        return false;
-    }
-    if words::get(table, child, places::NAME) != 0 {
-        return false;
-    }
-    words::get(table, child, places::MARK) == words::get(table, place, places::SAMPLES)
+    child != 0
+        && words::get(table, child, places::STEP) == 0
+        && words::get(table, child, places::NAME) == 0
+        && words::get(table, child, places::MARK) == words::get(table, place, places::SAMPLES)
 }
 
 // So many commands of a run are looked at together.
@@ -32,17 +29,15 @@ fn are_all(commands: &[u8], byte: u8, at: usize) -> bool
     requires { at + block_length ≤ length commands.now }
     ensures { result ≡ are_all commands.now byte at block_length }
 {
-    let mut i = 0;
     let mut other = false;
-    while i < BLOCK {
-        other = other | (commands::read_byte(commands, at + i) != byte);
-        i += 1;
+    for i in 0..BLOCK {
+        other |= commands::read_byte(commands, at + i) != byte;
     }
     !other
 }
 
 // An offset from which the run of one byte ends where it does from this one. How far it goes is its own choice: by BLOCK
-// commands at a time, which is quick.
+// commands at a time, which is quick. A `for` in steps of BLOCK would have to stop where less than a block is left, too.
 fn past_blocks(commands: &[u8], byte: u8, at: usize) -> usize
     ensures { behind_run commands.now byte result ≡ behind_run commands.now byte at }
 {
@@ -57,14 +52,13 @@ fn past_blocks(commands: &[u8], byte: u8, at: usize) -> usize
 fn past_run(commands: &[u8], byte: u8, at: usize) -> usize
     ensures { result ≡ behind_run commands.now byte at }
 {
-    let mut here = past_blocks(commands, byte, at);
-    while here < commands.len() {
+    let start = past_blocks(commands, byte, at);
+    for here in start..commands.len() {
         if commands::read_byte(commands, here) != byte {
             return here;
         }
-        here += 1;
     }
-    here
+    start.max(commands.len())
 }
 
 // The offset behind the values of a type, where they are of one byte.
@@ -79,8 +73,8 @@ fn past_held(commands: &[u8], kind: u32, at: usize) -> usize
 }
 
 // The offset behind elements that change nothing: the present sample holds one already, of their type.
-pub fn past_same(commands: &[u8], at: usize, place: usize, table: &[u32]) -> usize
-    requires { IsRow place × IsTable table.now × IsRow (word table.now place first_word) }
+pub fn past_same(commands: &[u8], at: usize, place: usize, table: &Table) -> usize
+    requires { IsRow place × IsRow (word table.now place first_word) }
     ensures { result ≡ past_same commands.now at place table.now }
 {
     let child = words::link(table, place, places::FIRST);

@@ -4,8 +4,7 @@ use Rattle.std.specs.Prelude.{List, ℕ, ◌+◌, ltb, length}
 use Rattle.logic.specs.Test.{when◌then◌else◌}
 use Rattle.logic.specs.Turns.{Turn, done, turns}
 use Rattle.places.specs.Layout.{root_place}
-use Rattle.leaves.specs.declared.Traced.TheVariants as T
-use Rattle.leaves.specs.Leaves.{Out, out}
+use Rattle.leaves.specs.Leaves.{traced_to, Out, out}
 use Rattle.reading.specs.Reading.{State, after_part, state, value_at}
 
 abbrev pub level_limit : ℕ
@@ -13,10 +12,10 @@ level_limit = 20
 
 unfoldable pub record_turn : List ℕ → List ℕ → ℕ → State → Turn State Out
 record_turn commands text options (state i at n t) =
-    when ltb at (length commands) then after_part i (value_at commands text options level_limit at root_place n t) else done (out (T.Next at n) t)
+    when ltb at (length commands) then after_part i (value_at commands text options level_limit at root_place n t) else done (out (traced_to at n) t)
 
 abbrev pub record_stop : State → Out
-record_stop (state i at n t) = out (T.Next at n) t
+record_stop (state i at n t) = out (traced_to at n) t
 
 unfoldable pub records_at : List ℕ → List ℕ → ℕ → ℕ → ℕ → List ℕ → Out
 records_at commands text options at n t = turns (record_turn commands text options) record_stop (length commands + 1) (state 0 at n t)

@@ -10,33 +10,33 @@ ghost use Rattle.samples.specs.Samples.{from_samples};
 
 use leaves::{Site, Traced};
 use options::TracingOptions;
+use refusal::Refused;
+use words::Table;
 
 // Containers stand at most so deep.
 const LEVELS: usize = 20;
 
 // All records of a batch at the root, which is the one place that there is at first.
-fn read_records(commands: &[u8], text: &[u8], options: TracingOptions, table: &mut [u32]) -> Traced
+fn read_records(
+    commands: &[u8],
+    text: &[u8],
+    options: TracingOptions,
+    table: &mut Table,
+) -> Result<Traced, Refused>
     requires { Sound text.now table.old 1 × Told options text.now }
     ensures { TracedAs text table 1 result
         (from_samples commands.now text.now options.word table.old) }
 {
-    let mut at: usize = 0;
-    let mut places: usize = 1;
-    while at < commands.len() {
+    let mut read = Traced { next: 0, count: 1 };
+    while read.next < commands.len() {
         let root = Site {
             place: places::ROOT_PLACE,
-            count: places,
+            count: read.count,
             levels: LEVELS,
         };
-        match reading::read_value(commands, text, options, at, root, table) {
-            Traced::Next(behind, more) => {
-                at = behind;
-                places = more;
-            }
-            Traced::Refused(refusal, offset) => return Traced::Refused(refusal, offset),
-        }
+        read = reading::read_value(commands, text, options, read.next, root, table)?;
     }
-    Traced::Next(at, places)
+    Ok(read)
 }
 
 // Tracer::from_samples. The text is looked at once, so that where it is ASCII no text in it is tested for UTF-8.
@@ -44,8 +44,8 @@ pub fn from_samples(
     commands: &[u8],
     text: &[u8],
     options: TracingOptions,
-    table: &mut [u32],
-) -> Traced
+    table: &mut Table,
+) -> Result<Traced, Refused>
     requires { Sound text.now table.old 1 }
     ensures { TracedAs text table 1 result
         (from_samples commands.now text.now options.word table.old) }

@@ -3,7 +3,7 @@ use borrow.Author.Tests.{ne_eqb}
 use mathlib.Core.Path.{◌≡◌, sym, ◌∙◌}
 use mathlib.Core.Bool.{Bool, true, false, not, ◌||◌, true≢false}
 use mathlib.Core.List.{List}
-use Prim.Native.Nat.{ℕ, zero, suc, ◌-◌, ◌%◌, ◌<◌, ◌≤◌}
+use Prim.Native.Nat.{ℕ, zero, suc, ◌+◌, ◌-◌, ◌%◌, ◌<◌, ◌≤◌}
 use native.Mathlib.Omega.{arith}
 use lib.Dec.{eqb}
 use Rattle.logic.specs.Test.{when◌then◌else◌}
@@ -11,34 +11,28 @@ use Rattle.logic.specs.laws.Test.{neither}
 use Rattle.words.specs.Word.{word}
 use Rattle.model.specs.Kinds.{is_container}
 use Rattle.places.specs.Layout.{kind_word, null_word}
-use Rattle.places.specs.Reading.{variant_at, next_child, child_limit}
-use Rattle.walk.specs.Walk.{sum_of, gaps_at}
-use Rattle.putting.specs.Put.{put, put_gaps, Writing, writing, gaps_in, entries_in}
+use Rattle.places.specs.Reading.{variant_at, next_child}
+use Rattle.walk.specs.Walk.{gaps_at, slot_behind}
+use Rattle.putting.specs.Put.{put, put_gaps, Writing, writing, gaps_in}
 use Rattle.fields.specs.Fields.{is_dictionary, is_leaf, lacking_at}
 use Rattle.schema.specs.Emit.{Writer, field_at, child_in, fields_from, fields_below, emitted_by, emitted_at}
 
--- ---- a turn over a child: what is left gives what the whole gives
-module _ (t : List ℕ) (inner : Writer) (kind place slot child : ℕ) (w : Writing) where
-  pub next : (left number further following : ℕ) (after whole : Writing) → fields_from t inner kind place left slot child w ≡ whole → 0 < left → (child ≡ 0 → ⊥) →
-      after ≡ child_in t inner kind place slot child w → number ≡ variant_at t child → further ≡ sum_of number 1 → following ≡ next_child t true kind place child →
-      fields_from t inner kind place (left - 1) further following after ≡ whole
+-- ---- a turn over a child, where `i` were before it: what is left gives what the whole gives
+module _ (t : List ℕ) (inner : Writer) (kind place most i slot child : ℕ) (w whole : Writing) (e : fields_from t inner kind place (most - i) slot child w ≡ whole) where
+  pub spent : most ≤ i → w ≡ whole
   unfolding fields_from
-  next zero number further following after whole e h n a v f g = absurd (omega arith)
-  next (suc m) number further following after whole e h n a v f g =
-      let l : suc m - 1 ≡ m = omega arith in
-      rw (l, a, f, v, g) (rw (ne_eqb child 0 n, fields_from) at e)
+  spent h = let l : most - i ≡ 0 = omega arith in rw (l, fields_from) at e
 
-  -- the whole is what starts behind a map's entries
-  module _ (entered before : Writing) (first : ℕ) (s : entered ≡ entries_in kind before) (f : first ≡ next_child t true kind place 0) where
-    pub spent : (left : ℕ) → fields_from t inner kind place left slot child w ≡ fields_from t inner kind place child_limit 0 first entered → left ≤ 0 → w ≡ fields_below t inner kind place before
-    unfolding fields_from
-    spent zero e h = rw (s, f) at e
-    spent (suc n) e h = absurd (omega arith)
+  pub ended : i < most → child ≡ 0 → w ≡ whole
+  unfolding fields_from
+  ended h z = let l : most - i ≡ suc (most - (i + 1)) = omega arith in rw (l, z, fields_from) at e
 
-    pub ended : (left : ℕ) → fields_from t inner kind place left slot child w ≡ fields_from t inner kind place child_limit 0 first entered → child ≡ 0 → w ≡ fields_below t inner kind place before
-    unfolding fields_from
-    ended zero e z = rw (s, f) at e
-    ended (suc n) e z = rw (s, f) at (rw z at e)
+  pub next : (further following : ℕ) (after : Writing) → i < most → (child ≡ 0 → ⊥) → after ≡ child_in t inner kind place slot child w →
+      further ≡ slot_behind t child → following ≡ next_child t true kind place child → fields_from t inner kind place (most - (i + 1)) further following after ≡ whole
+  unfolding fields_from
+  next further following after h n a f g =
+      let l : most - i ≡ suc (most - (i + 1)) = omega arith in
+      rw (a, f, g) (rw (l, fields_from, ne_eqb child 0 n) at e)
 
 -- ---- a child, after the slots before it
 pub in_child : (t : List ℕ) (inner : Writer) (kind place slot child i j after count number : ℕ) (lacking : Bool) (fields names records : List ℕ) (w : Writing) →

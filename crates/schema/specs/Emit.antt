@@ -1,9 +1,10 @@
 -- The second walk: what it writes; and the schema, with refusals 15 to 18.
-use Rattle.std.specs.Prelude.{◌≡◌, Bool, true, false, not, ◌||◌, List, ℕ, zero, suc, ◌*◌, ◌%◌, eqb, ltb, length}
+use Rattle.std.specs.Prelude.{◌≡◌, Result, Ok, Err, Bool, true, false, not, ◌||◌, List, ℕ, zero, suc, ◌*◌, ◌%◌, eqb, ltb, length}
 use Rattle.logic.specs.Test.{when◌then◌else◌}
 use Rattle.logic.specs.Slices.{Slice, MutSlice, now_of, at_entry, at_exit}
 use Rattle.datatype.specs.Codes.{null, no_strategy}
 use Rattle.options.specs.Word.{dictionary_type}
+use Rattle.refusal.specs.declared.Refusal.{Refusal}
 use Rattle.refusal.specs.declared.Refusal.TheVariants as F
 use Rattle.words.specs.Word.{word}
 use Rattle.model.specs.Emission.{emits_struct, type_of, strategy_of}
@@ -11,11 +12,8 @@ use Rattle.model.specs.Tracing.{place_limit}
 use Rattle.places.specs.Layout.{kind_word, null_word, root_place}
 use Rattle.places.specs.Reading.{variant_at, child_name, child_limit, next_child}
 use Rattle.order.specs.Sort.{sorted_places}
-use Rattle.walk.specs.declared.Walked.{Walked}
-use Rattle.walk.specs.declared.Walked.TheVariants as W
-use Rattle.walk.specs.Walk.{sum_of, gaps_at, walked}
-use Rattle.schema.specs.declared.Emitted.{Emitted}
-use Rattle.schema.specs.declared.Emitted.TheVariants as E
+use Rattle.walk.specs.declared.Counts.{Counts}
+use Rattle.walk.specs.Walk.{counts, Walked, sum_of, gaps_at, walked}
 use Rattle.putting.specs.Put.{record_of, Writing, writing, both, gaps_in, entries_in}
 use Rattle.fields.specs.Fields.{field_count, lacking_at, is_dictionary, is_leaf}
 
@@ -72,6 +70,10 @@ child_at options text t levels = child_in t (emitted_at options text t levels)
 abbrev pub level_limit : ℕ
 level_limit = place_limit
 
+-- what emission answers: counts of field records, name bytes and columns, or a refusal (12 to 18)
+abbrev pub Emitted : Type 0
+Emitted = Result Counts Refusal
+
 -- what is answered, and both buffers then
 pub data Answered : Type 0 where
   answered : Emitted → List ℕ → List ℕ → Answered
@@ -81,16 +83,16 @@ as_answered e (writing i j fields names) = answered e fields names
 
 unfoldable pub finished : ℕ → List ℕ → List ℕ → List ℕ → List ℕ → ℕ → ℕ → ℕ → Answered
 finished options text t fields names records bytes below =
-    when eqb (word t root_place null_word) 1 then answered (E.Refused F.NullableRoot) fields names
-    else when eqb (word t root_place kind_word) null then answered (E.Refused F.NullRoot) fields names
-    else when not (emits_struct (word t root_place kind_word)) then answered (E.Refused F.RootNotStruct) fields names
-    else when ltb (length fields) (records * 8) || ltb (length names) bytes then answered (E.Refused F.ShortBuffer) fields names
-    else as_answered (E.Schema records bytes below)
+    when eqb (word t root_place null_word) 1 then answered (Err F.NullableRoot) fields names
+    else when eqb (word t root_place kind_word) null then answered (Err F.NullRoot) fields names
+    else when not (emits_struct (word t root_place kind_word)) then answered (Err F.RootNotStruct) fields names
+    else when ltb (length fields) (records * 8) || ltb (length names) bytes then answered (Err F.ShortBuffer) fields names
+    else as_answered (Ok (counts records bytes below))
     (fields_below t (emitted_at options text t level_limit) (word t root_place kind_word) root_place (writing 0 0 fields names))
 
 abbrev pub on_walked : (ℕ → ℕ → ℕ → Answered) → List ℕ → List ℕ → Walked → Answered
-on_walked k fields names (W.Refused refusal) = answered (E.Refused refusal) fields names
-on_walked k fields names (W.Below records bytes below) = k records bytes below
+on_walked k fields names (Err refusal) = answered (Err refusal) fields names
+on_walked k fields names (Ok c) = k c.records c.names c.columns
 
 unfoldable pub to_schema_at : ℕ → List ℕ → List ℕ → List ℕ → List ℕ → Answered
 to_schema_at options text t fields names =

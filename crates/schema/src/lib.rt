@@ -14,14 +14,8 @@ use datatype::Strategy;
 use options::TracingOptions;
 use putting::Ends;
 use refusal::Refusal;
-use walk::Walked;
-
-// What emission answers: counts of field records, name bytes and columns, or a refusal (12 to 18).
-#[derive(Clone, Copy)]
-pub enum Emitted {
-    Schema(u32, u32, u32),
-    Refused(Refusal),
-}
+use walk::Counts;
+use words::Table;
 
 // The bytes of a field record.
 const RECORD: usize = 8;
@@ -37,23 +31,22 @@ fn put_field(
     nullable: bool,
     number: u8,
     ends: Ends,
-    table: &[u32],
+    table: &Table,
     fields: &mut [u8],
     names: &mut [u8],
 ) -> Ends
-    requires settled { Settled text.now table.now × IsRow place }
+    requires settled { Settled text.now table.now }
+    requires row { IsRow place }
     requires within { Within ends fields.old names.old }
     ensures { Writes (field_at options.word text.now table.now place nullable number) ends fields names result }
 {
     let kind = words::get(table, place, places::KIND);
-    let at = ends.records;
-    let start = ends.names;
     let length = places::name_length(text, table, place);
-    let named = putting::put_name(text, table, place, names, start);
+    let named = putting::put_name(text, table, place, names, ends.names);
     if fields::is_dictionary(options, table, place) {
         let next = putting::put_record(
             fields,
-            at,
+            ends.records,
             options.dictionary_type().code(),
             nullable,
             Strategy::None.code(),
@@ -69,7 +62,7 @@ fn put_field(
     let count = fields::field_count(table, kind, place);
     let next = putting::put_record(
         fields,
-        at,
+        ends.records,
         fields::type_of(options, kind),
         nullable,
         fields::strategy_of(kind).code(),
@@ -93,11 +86,12 @@ fn emit(
     lacking: bool,
     number: u8,
     ends: Ends,
-    table: &[u32],
+    table: &Table,
     fields: &mut [u8],
     names: &mut [u8],
 ) -> Ends
-    requires settled { Settled text.now table.now × IsRow place }
+    requires settled { Settled text.now table.now }
+    requires row { IsRow place }
     requires within { Within ends fields.old names.old }
     ensures { Writes (emitted_at options.word text.now table.now levels place lacking number) ends fields names result }
 {
@@ -131,28 +125,27 @@ fn emit_children(
     kind: u32,
     place: usize,
     ends: Ends,
-    table: &[u32],
+    table: &Table,
     fields: &mut [u8],
     names: &mut [u8],
 ) -> Ends
-    requires settled { Settled text.now table.now × IsRow place }
+    requires settled { Settled text.now table.now }
+    requires row { IsRow place }
     requires within { Within ends fields.old names.old }
     ensures { Writes (emitted_below options.word text.now table.now levels kind place) ends fields names result }
 {
     let mut so_far = putting::put_entries(kind, ends, fields, names);
     let mut slot: u32 = 0;
     let mut child = places::next_child(table, true, kind, place, 0);
-    let mut left = places::CHILDREN;
-    while 0 < left {
+    for _ in 0..places::CHILDREN {
         if child == 0 {
             return so_far;
         }
         so_far = emit_child(
             options, text, levels, kind, place, slot, child, so_far, table, fields, names,
         );
-        slot = walk::sum(places::variant(table, child), 1);
+        slot = walk::slot_behind(table, child);
         child = places::next_child(table, true, kind, place, child);
-        left -= 1;
     }
     so_far
 }
@@ -168,18 +161,22 @@ fn emit_child(
     slot: u32,
     child: usize,
     ends: Ends,
-    table: &[u32],
+    table: &Table,
     fields: &mut [u8],
     names: &mut [u8],
 ) -> Ends
-    requires settled { Settled text.now table.now × IsRow place }
-    requires row { IsRow child }
+    requires settled { Settled text.now table.now }
+    requires place_row { IsRow place }
+    requires child_row { IsRow child }
     requires within { Within ends fields.old names.old }
     ensures { Writes (child_at options.word text.now table.now levels kind place slot child) ends fields names result }
 {
-    let at = ends.records;
-    let start = ends.names;
-    let next = putting::put_gaps(fields, at, slot, walk::gaps(kind, table, slot, child));
+    let next = putting::put_gaps(
+        fields,
+        ends.records,
+        slot,
+        walk::gaps(kind, table, slot, child),
+    );
     let number = (places::variant(table, child) % 256) as u8;
     emit(
         options,
@@ -190,7 +187,7 @@ fn emit_child(
         number,
         Ends {
             records: next,
-            names: start,
+            names: ends.names,
         },
         table,
         fields,
@@ -198,41 +195,33 @@ fn emit_child(
     )
 }
 
-fn wide(n: u32) -> usize
-    ensures { result ≡ n }
-{
-    n as usize
-}
-
 // Refusals 15 to 18, and else the schema is written.
 fn finish(
     options: TracingOptions,
     text: &[u8],
-    records: u32,
-    bytes: u32,
-    below: u32,
-    table: &[u32],
+    counts: Counts,
+    table: &Table,
     fields: &mut [u8],
     names: &mut [u8],
-) -> Emitted
+) -> Result<Counts, Refusal>
     requires { Settled text.now table.now }
-    ensures { Finishes options.word text table fields names records bytes below result }
+    ensures { Finishes options.word text table fields names counts.records counts.names counts.columns result }
 {
     let kind = words::get(table, places::ROOT_PLACE, places::KIND);
     if words::get(table, places::ROOT_PLACE, places::NULL) == 1 {
-        return Emitted::Refused(Refusal::NullableRoot);
+        return Err(Refusal::NullableRoot);
     }
     if kind == shapes::UNKNOWN {
-        return Emitted::Refused(Refusal::NullRoot);
+        return Err(Refusal::NullRoot);
     }
     if !kinds::emits_struct(kind) {
-        return Emitted::Refused(Refusal::RootNotStruct);
+        return Err(Refusal::RootNotStruct);
     }
-    if fields.len() < wide(records) * RECORD {
-        return Emitted::Refused(Refusal::ShortBuffer);
+    if fields.len() < counts.records as usize * RECORD {
+        return Err(Refusal::ShortBuffer);
     }
-    if names.len() < wide(bytes) {
-        return Emitted::Refused(Refusal::ShortBuffer);
+    if names.len() < counts.names as usize {
+        return Err(Refusal::ShortBuffer);
     }
     emit_children(
         options,
@@ -248,26 +237,24 @@ fn finish(
         fields,
         names,
     );
-    Emitted::Schema(records, bytes, below)
+    Ok(counts)
 }
 
-// The schema of what was traced, so many places whose root is place 0. Their children are put in order first.
+// The schema of what was traced, so many places whose root is place 0: the counts of field records, name bytes and columns, or a
+// refusal (12 to 18). Their children are put in order first.
 pub fn to_schema(
     options: TracingOptions,
     text: &[u8],
     count: usize,
-    table: &mut [u32],
+    table: &mut Table,
     fields: &mut [u8],
     names: &mut [u8],
-) -> Emitted
-    requires { Settled text.now table.old × (count ≤ place_limit) }
+) -> Result<Counts, Refusal>
+    requires settled { Settled text.now table.old }
+    requires most { count ≤ place_limit }
     ensures { Emits options.word count text table fields names result }
 {
     order::sort_places(text, count, table);
-    match walk::walk_place(options, text, LEVELS, places::ROOT_PLACE, table) {
-        Walked::Refused(refusal) => Emitted::Refused(refusal),
-        Walked::Below(records, bytes, below) => finish(
-            options, text, records, bytes, below, table, fields, names,
-        ),
-    }
+    let counts = walk::walk_place(options, text, LEVELS, places::ROOT_PLACE, table)?;
+    finish(options, text, counts, table, fields, names)
 }

@@ -8,27 +8,27 @@ ghost use Rattle.std.specs.Prelude.{◌≡◌, ◌≤◌, length};
 ghost use Rattle.schema_list.specs.Call.{output_bytes, TracedInto};
 
 use fasthrom::Answer;
+use std::alloc::AllocError;
 use std::env::FillError;
 use std::rt::{Env, Files};
 
 // Bytes of the longest path.
 const PATH: usize = 4096;
 
+// Bytes of commands and of text that are read: one more than the call takes, so that a longer file is refused as too long.
+const MOST: usize = 65536;
+
 fn print_answer(rt: &impl Print, answer: Answer, fields: &[u8], names: &[u8])
     requires { length fields.now ≤ 65536 }
 {
     if answer.refusal != 0 {
-        let _ = rt.write_all(b"refused ");
-        listing::print_number(rt, answer.refusal as usize, b" ");
-        listing::print_number(rt, answer.place as usize, b"\n");
+        let _ = println!(rt; "refused {} {}", answer.refusal, answer.place);
         return;
     }
     let bytes = files::end_of(fields, 0, answer.field_records as usize * 8);
     let named = files::end_of(names, 0, answer.name_bytes as usize);
     listing::print_records(rt, &fields[..bytes], &names[..named]);
-    let _ = rt.write_all(b"accepted ");
-    listing::print_number(rt, answer.field_records as usize, b" ");
-    listing::print_number(rt, answer.columns as usize, b"\n");
+    let _ = println!(rt; "accepted {} {}", answer.field_records, answer.columns);
 }
 
 // The call, over output buffers as long as document 01 has them.
@@ -47,101 +47,65 @@ fn list(rt: &impl Print, options: u16, commands: &[u8], text: &[u8]) {
     print_answer(rt, answer, &fields, &names);
 }
 
-// Both files are read up to one byte more than the call takes, so that a longer one is refused as too long.
-fn list_with<R: Files + Print + Eprint>(
+// The options word, the commands and the text of the return in three files. An options word is two bytes: a third would be
+// read, and turned down.
+fn load_return<R: Files + Eprint + Alloc>(
     rt: &R,
-    options: u16,
+    options_path: &[u8],
     commands_path: &[u8],
     text_path: &[u8],
-) {
-    let mut commands = [0u8; 65536];
-    let mut text = [0u8; 65536];
-    let first = files::load(rt, commands_path, &mut commands);
-    if !first.readable {
-        return;
+) -> Option<(u16, Vec<u8, R::A>, Vec<u8, R::A>)> {
+    let options = files::load(rt, options_path, 3)?;
+    if options.len() != 2 {
+        let path = str::from_utf8(options_path).unwrap_or("");
+        let _ = eprintln!(rt; "{path}: not two bytes long");
+        return None;
     }
-    let second = files::load(rt, text_path, &mut text);
-    if !second.readable {
-        return;
-    }
-    let n = first.bytes;
-    let m = second.bytes;
-    list(rt, options, &commands[..n], &text[..m]);
+    let commands = files::load(rt, commands_path, MOST)?;
+    let text = files::load(rt, text_path, MOST)?;
+    Some((files::two_bytes(&options, 0), commands, text))
 }
 
-// Says on standard error that a file is no options word.
-fn complain(rt: &impl Eprint, path: &[u8]) {
-    let path = str::from_utf8(path).unwrap_or("");
-    let _ = eprintln!(rt; "{path}: not two bytes long");
-}
-
-// The return in three files. An options word is two bytes: a third would be read, and turned down.
-fn list_return<R: Files + Print + Eprint>(
+// Lists the return in three files, if all can be read.
+fn list_return<R: Files + Print + Eprint + Alloc>(
     rt: &R,
     options_path: &[u8],
     commands_path: &[u8],
     text_path: &[u8],
 ) {
-    let mut options = [0u8; 3];
-    let loaded = files::load(rt, options_path, &mut options);
-    if !loaded.readable {
-        return;
-    }
-    if loaded.bytes != 2 {
-        complain(rt, options_path);
-        return;
-    }
-    list_with(
+    if let Some((options, commands, text)) = load_return(
         rt,
-        files::two_bytes(&options, 0) as u16,
+        options_path,
         commands_path,
         text_path,
-    );
+    ) {
+        list(rt, options, &commands, &text);
+    }
 }
 
-// An argument, at the start of a buffer: none, if there is no such argument or it is longer.
-fn argument(rt: &impl Env, i: usize, buffer: &mut [u8]) -> usize
-    ensures { result ≤ length buffer.new }
-{
-    rt.arg(i, buffer).unwrap_or(0)
-}
-
-// The return in the files that three arguments name.
-fn list_named<R: Files + Print + Eprint + Env>(
-    rt: &R,
-    options: usize,
-    commands: usize,
-    text: usize,
-) {
-    let mut first = [0u8; PATH];
-    let mut second = [0u8; PATH];
-    let mut third = [0u8; PATH];
-    let n = argument(rt, options, &mut first);
-    let m = argument(rt, commands, &mut second);
-    let k = argument(rt, text, &mut third);
-    list_return(rt, &first[..n], &second[..m], &third[..k]);
-}
-
-// How many arguments there are, the program's name among them.
-fn argument_count(rt: &impl Env) -> usize {
-    let mut none = [0u8; 0];
-    for i in 0..usize::MAX {
-        if let Err(FillError::NotPresent) = rt.arg(i, &mut none) {
-            return i;
+// The arguments after the program's name, as bytes: one that is no text names no file, where std's `args` would give up all
+// of them. Nor does one that is longer than a path.
+fn arguments<R: Env + Alloc>(rt: &R) -> Result<Vec<Vec<u8, R::A>, R::A>, AllocError> {
+    let mut all = Vec::new(rt.alloc());
+    for i in 1..usize::MAX {
+        let mut argument = vec![in rt.alloc(); 0u8; PATH]?;
+        match rt.arg(i, &mut argument) {
+            Ok(bytes) => argument.truncate(bytes),
+            Err(FillError::TooLong) => argument.clear(),
+            Err(FillError::NotPresent) => break,
         }
+        all.push(argument)?;
     }
-    usize::MAX
+    Ok(all)
 }
 
-fn main(rt: HostRuntime) {
-    let arguments = argument_count(&rt);
-    if arguments < 2 {
+fn main(rt: HostRuntime) -> Result<(), AllocError> {
+    let paths = arguments(&rt)?;
+    if paths.is_empty() {
         list_return(&rt, b"options.bin", b"commands.bin", b"text.bin");
-        return;
     }
-    let mut i = 1;
-    while 3 <= arguments - i {
-        list_named(&rt, i, i + 1, i + 2);
-        i += 3;
+    for three in paths.chunks_exact(3) {
+        list_return(&rt, &three[0], &three[1], &three[2]);
     }
+    Ok(())
 }

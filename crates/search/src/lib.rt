@@ -5,7 +5,7 @@
 
 ghost use Rattle.std.specs.Prelude.{◌≡◌, ◌+◌, ◌-◌, ◌/◌, ◌%◌, ◌<◌, ◌≤◌, true, ◌&&◌};
 ghost use Rattle.model.specs.Tracing.{place_limit};
-ghost use Rattle.words.specs.Word.{word, IsTable, IsRow, is_link};
+ghost use Rattle.words.specs.Word.{word, IsRow, is_link};
 ghost use Rattle.text.specs.Name.{bytes_of};
 ghost use Rattle.text.specs.Tag.{tag_of};
 ghost use Rattle.shapes.specs.Steps.{field_code, code_of, no_name, Inside};
@@ -16,6 +16,7 @@ ghost use Rattle.search.specs.Scan.{few_places, many_places, is_tagged, is_field
 
 use shapes::Step;
 use text::Name;
+use words::Table;
 
 // So many places are looked at together, and so many where the first and the last child stand far apart.
 const FEW: usize = 8;
@@ -31,8 +32,8 @@ const LONG: u16 = 255;
 
 // Whether one place is another's field and its name has that tag. The tags are compared first: most differ there. The root,
 // place 0, is nobody's child.
-fn is_tagged(place: usize, tag: u32, child: usize, table: &[u32]) -> bool
-    requires { IsRow child × IsTable table.now }
+fn is_tagged(place: usize, tag: u32, child: usize, table: &Table) -> bool
+    requires { IsRow child }
     ensures { result ≡ is_tagged place tag child table.now }
 {
     if words::get(table, child, places::TAG) != tag {
@@ -48,7 +49,7 @@ fn is_tagged(place: usize, tag: u32, child: usize, table: &[u32]) -> bool
 }
 
 // Whether one place is another's field with that name.
-fn is_field(text: &[u8], place: usize, name: Name, tag: u32, child: usize, table: &[u32]) -> bool
+fn is_field(text: &[u8], place: usize, name: Name, tag: u32, child: usize, table: &Table) -> bool
     requires comparable { Comparable text.now table.now name child }
     requires tag_value { (tag ≡ tag_of (bytes_of text.now name)) × Tagged text.now table.now child }
     ensures { result ≡ is_field text.now place name child table.now }
@@ -67,7 +68,7 @@ fn is_long_field(
     name: Name,
     tag: u32,
     child: usize,
-    table: &[u32],
+    table: &Table,
 ) -> bool
     requires comparable { Comparable text.now table.now name child }
     requires tag_value { (tag ≡ tag_of (bytes_of text.now name)) × Tagged text.now table.now child }
@@ -88,7 +89,7 @@ fn find_among(
     tag: u32,
     from: usize,
     count: usize,
-    table: &[u32],
+    table: &Table,
 ) -> usize
     requires ready { Ready text.now table.now count place × Inside text.now name }
     requires tag_value { (tag ≡ tag_of (bytes_of text.now name)) × (from + few_places ≤ place_limit) }
@@ -108,8 +109,8 @@ fn find_among(
 }
 
 // Places with other tags are passed, MANY at a time, while so many stand before the last child.
-fn past_others(tag: u32, from: usize, last: usize, table: &[u32]) -> usize
-    requires { (from ≤ last) × IsRow last × IsTable table.now }
+fn past_others(tag: u32, from: usize, last: usize, table: &Table) -> usize
+    requires { (from ≤ last) × IsRow last }
     ensures { result ≡ past_others tag table.now from ((last - from) / many_places) }
 {
     let mut here = from;
@@ -123,8 +124,8 @@ fn past_others(tag: u32, from: usize, last: usize, table: &[u32]) -> usize
 }
 
 // Whether fewer than one in MANY of so many places up to the last child are children: its position tells how many are.
-fn is_sparse(span: usize, last: usize, table: &[u32]) -> bool
-    requires { IsRow last × IsTable table.now }
+fn is_sparse(span: usize, last: usize, table: &Table) -> bool
+    requires { IsRow last }
     ensures { result ≡ is_sparse span last table.now }
 {
     (words::get(table, last, places::POSITION) as usize) * MANY < span
@@ -137,7 +138,7 @@ fn find_linked(
     name: Name,
     tag: u32,
     count: usize,
-    table: &[u32],
+    table: &Table,
 ) -> usize
     requires { Ready text.now table.now count place × Inside text.now name × (tag ≡ tag_of (bytes_of text.now name)) }
     ensures { (result ≡ find_in text.now place field_code name table.now) × (result < count) }
@@ -162,7 +163,7 @@ fn find_from(
     from: usize,
     last: usize,
     count: usize,
-    table: &[u32],
+    table: &Table,
 ) -> usize
     requires ready { Ready text.now table.now count place × Inside text.now name × (tag ≡ tag_of (bytes_of text.now name)) }
     requires last_value { (last ≡ word table.now place last_word) × (from % few_places ≡ 0) × Passed text.now table.now count place name from }
@@ -182,7 +183,7 @@ fn find_from(
 // The field of a place with that name, found in first_seen order; 0 where there is none, for no child is place 0. Children
 // stand in ascending order, so places are looked at by number from the first child to the last; from child to child where
 // few of them are children, or the name is long.
-pub fn find_field(text: &[u8], place: usize, name: Name, count: usize, table: &[u32]) -> usize
+pub fn find_field(text: &[u8], place: usize, name: Name, count: usize, table: &Table) -> usize
     requires { Ready text.now table.now count place × Inside text.now name }
     ensures { (result ≡ find_in text.now place field_code name table.now) × (result < count) }
 {
@@ -206,7 +207,7 @@ pub fn find_field(text: &[u8], place: usize, name: Name, count: usize, table: &[
 }
 
 // The child of a place at a step that is no field: it is told by its code, whatever its name.
-fn find(text: &[u8], place: usize, code: u32, count: usize, table: &[u32]) -> usize
+fn find(text: &[u8], place: usize, code: u32, count: usize, table: &Table) -> usize
     requires { Ready text.now table.now count place × (code ≡ field_code → ⊥) }
     ensures { (result ≡ find_in text.now place code no_name table.now) × (result < count) }
 {
@@ -228,8 +229,8 @@ pub fn is_numbered(code: u32) -> bool
 }
 
 // The child that a link of the search tree leads to, or 0. Links lead to places with higher numbers: none other is followed.
-fn follow(place: usize, field: usize, count: usize, table: &[u32]) -> usize
-    requires { IsRow place × (is_link field ≡ true) × IsTable table.now }
+fn follow(place: usize, field: usize, count: usize, table: &Table) -> usize
+    requires { IsRow place × (is_link field ≡ true) }
     ensures { result ≡ follow place field count table.now }
 {
     let link = words::link(table, place, field);
@@ -262,8 +263,8 @@ pub struct Slot {
 
 // The link where the search for a numbered child ends: it leads to the child with the code, or to none. A bit of the code tells at each
 // child which link to take, so that at most 17 children are visited.
-pub fn seek(place: usize, code: u32, count: usize, table: &[u32]) -> Slot
-    requires { (place < count) × (count ≤ place_limit) × IsTable table.now }
+pub fn seek(place: usize, code: u32, count: usize, table: &Table) -> Slot
+    requires { (place < count) × (count ≤ place_limit) }
     ensures { result ≡ seek place code count table.now }
 {
     let mut bits = code / 2;
@@ -291,16 +292,16 @@ pub fn seek(place: usize, code: u32, count: usize, table: &[u32]) -> Slot
 }
 
 // The numbered child of a place with that code, or 0.
-fn find_numbered(place: usize, code: u32, count: usize, table: &[u32]) -> usize
-    requires { (place < count) × (count ≤ place_limit) × IsTable table.now }
+fn find_numbered(place: usize, code: u32, count: usize, table: &Table) -> usize
+    requires { (place < count) × (count ≤ place_limit) }
     ensures { (result ≡ (seek place code count table.now).child) × (result < count) }
 {
     seek(place, code, count, table).child
 }
 
 // Whether that position stands in the place's block.
-fn is_in_block(place: usize, i: u16, count: usize, table: &[u32]) -> bool
-    requires { IsTable table.now × IsRow place × IsRow (word table.now place first_word) }
+fn is_in_block(place: usize, i: u16, count: usize, table: &Table) -> bool
+    requires { IsRow place × IsRow (word table.now place first_word) }
     ensures { result ≡ in_block place i count table.now }
 {
     (i as usize) < words::link(table, place, places::BLOCK)
@@ -309,7 +310,7 @@ fn is_in_block(place: usize, i: u16, count: usize, table: &[u32]) -> bool
 
 // The child of a place at a step that is no field, or 0: a position in the block stands by its number, any other numbered
 // child is found in the search tree, the others from sibling to sibling.
-pub fn child_at(text: &[u8], place: usize, step: Step, count: usize, table: &[u32]) -> usize
+pub fn child_at(text: &[u8], place: usize, step: Step, count: usize, table: &Table) -> usize
     requires { Ready text.now table.now count place × (code_of step ≡ field_code → ⊥) }
     ensures { (result ≡ child_at text.now place step count table.now) × (result < count) }
 {

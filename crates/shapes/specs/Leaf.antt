@@ -1,17 +1,14 @@
 -- The value at an offset, where it is a primitive.
-use Rattle.std.specs.Prelude.{◌≡◌, Bool, true, not, ◌&&◌, List, ℕ, eqb, ltb}
+use Rattle.std.specs.Prelude.{◌≡◌, Bool, true, not, ◌&&◌, List, ℕ, eqb, ltb, Ok, Err, Some, None, Option}
 use Rattle.logic.specs.Test.{when◌then◌else◌}
 use Rattle.datatype.specs.Codes.{null, uint32}
 use Rattle.options.specs.declared.TracingOptions.{TracingOptions}
 use Rattle.text.specs.Block.{is_ascii}
-use Rattle.commands.specs.declared.Read.{Read}
-use Rattle.commands.specs.declared.Read.TheVariants as R
 use Rattle.commands.specs.declared.Due.TheVariants as D
-use Rattle.commands.specs.Commands.{read_command}
+use Rattle.commands.specs.Commands.{read_command, Read}
 use Rattle.shapes.specs.declared.Shape.{Shape}
 use Rattle.shapes.specs.declared.Shape.TheVariants as H
 use Rattle.shapes.specs.declared.Leaf.{Leaf}
-use Rattle.shapes.specs.declared.Leaf.TheVariants as O
 use Rattle.shapes.specs.Shapes.{shape_at}
 
 -- what the options tell of the text that goes with them is so
@@ -29,18 +26,22 @@ plain_kind byte = when eqb byte char_byte then uint32 else byte
 unfoldable pub is_own_byte : ℕ → Bool
 is_own_byte kind = not (eqb kind null) && ltb kind char_byte
 
+-- a primitive: whether it is null, its type and the offset behind it
+abbrev pub leaf_of : Bool → ℕ → ℕ → Option Leaf
+leaf_of is_null kind behind = Some (record { null = is_null; kind = kind; next = behind })
+
 -- a shape as a leaf
-abbrev pub leaf_by : ℕ → Shape → Leaf
-leaf_by behind (H.Leaf is_null kind) = O.Value is_null kind behind
-leaf_by behind (H.Parts kind n) = O.Other
-leaf_by behind (H.Variant number name contents) = O.Other
-leaf_by behind H.NoValue = O.Other
+abbrev pub leaf_by : ℕ → Shape → Option Leaf
+leaf_by behind (H.Leaf is_null kind) = leaf_of is_null kind behind
+leaf_by behind (H.Parts kind n) = None
+leaf_by behind (H.Variant number name contents) = None
+leaf_by behind H.NoValue = None
 
 -- what was read as a leaf
-abbrev pub leaf_read : ℕ → List ℕ → Read → Leaf
-leaf_read options text (R.Command command behind) = leaf_by behind (shape_at options text command)
-leaf_read options text (R.Refused refusal place) = O.Other
+abbrev pub leaf_read : ℕ → List ℕ → Read → Option Leaf
+leaf_read options text (Ok (command, behind)) = leaf_by behind (shape_at options text command)
+leaf_read options text (Err r) = None
 
 -- the primitive that stands where a value is due
-unfoldable pub leaf_at : ℕ → List ℕ → List ℕ → ℕ → Leaf
+unfoldable pub leaf_at : ℕ → List ℕ → List ℕ → ℕ → Option Leaf
 leaf_at options commands text at = leaf_read options text (read_command commands text at D.Value)

@@ -1,17 +1,16 @@
 -- What a command begins, and what stands before a part of a container (document 01, "Commands and texts"), with names by their operands.
-use Rattle.std.specs.Prelude.{Bool, true, false, not, ◌&&◌, ◌||◌, List, ℕ, ◌+◌, ◌%◌, eqb, leb, ltb, length, get_or}
+use Rattle.std.specs.Prelude.{Bool, true, false, not, ◌&&◌, ◌||◌, List, ℕ, ◌+◌, ◌%◌, eqb, leb, ltb, length, get_or, Result, Ok, Err}
 use Rattle.logic.specs.Test.{when◌then◌else◌}
 use Rattle.datatype.specs.Codes.{null, boolean, int8, int16, int32, int64, uint8, uint16, uint32, uint64, float32, float64}
+use Rattle.refusal.specs.declared.Refused.{Refused}
 use Rattle.options.specs.Word.{map_as_struct, binary_type}
 use Rattle.text.specs.Name.{inside, bytes_of}
 use Rattle.chrono.specs.Text.{text_type}
 use Rattle.commands.specs.declared.Command.{Command}
 use Rattle.commands.specs.declared.Command.TheVariants as C
-use Rattle.commands.specs.declared.Read.{Read}
-use Rattle.commands.specs.declared.Read.TheVariants as R
 use Rattle.commands.specs.declared.Due.{Due}
 use Rattle.commands.specs.declared.Due.TheVariants as D
-use Rattle.commands.specs.Commands.{read_command, name_at, text_byte, end_byte}
+use Rattle.commands.specs.Commands.{read_command, name_at, text_byte, end_byte, Read}
 use Rattle.model.specs.Kinds.{sequence_kind, struct_kind, map_kind, tuple_kind, map_mode_kind, is_struct}
 use Rattle.shapes.specs.declared.Step.{Step}
 use Rattle.shapes.specs.declared.Step.TheVariants as S
@@ -59,18 +58,21 @@ shape_at options text (C.StructVariant k name) = H.Variant k name N.Fields
 unfoldable pub is_parted : ℕ → Bool
 is_parted kind = is_struct kind || eqb kind sequence_kind || eqb kind map_kind || eqb kind tuple_kind
 
--- ---- what stands before a part of a container
-abbrev pub value_part : List ℕ → Step → ℕ → Read → Part
-value_part commands step at (R.Command command behind) = when eqb (get_or commands at 0) end_byte then P.Ended behind else P.Step step at
-value_part commands step at (R.Refused refusal place) = P.Refused refusal place
+-- ---- what stands before a part of a container, or a refusal
+abbrev pub PartRead : Type 0
+PartRead = Result Part Refused
 
-abbrev pub field_part : List ℕ → ℕ → Read → Part
-field_part commands at (R.Command command behind) =
-    when eqb (get_or commands at 0) end_byte then P.Ended behind
-    else P.Step (S.Field (name_at commands (at + 1))) behind
-field_part commands at (R.Refused refusal place) = P.Refused refusal place
+abbrev pub value_part : List ℕ → Step → ℕ → Read → PartRead
+value_part commands step at (Ok (command, behind)) = when eqb (get_or commands at 0) end_byte then Ok (P.Ended behind) else Ok (P.Step step at)
+value_part commands step at (Err r) = Err r
 
-unfoldable pub part_at : List ℕ → List ℕ → ℕ → ℕ → ℕ → ℕ → Part
+abbrev pub field_part : List ℕ → ℕ → Read → PartRead
+field_part commands at (Ok (command, behind)) =
+    when eqb (get_or commands at 0) end_byte then Ok (P.Ended behind)
+    else Ok (P.Step (S.Field (name_at commands (at + 1))) behind)
+field_part commands at (Err r) = Err r
+
+unfoldable pub part_at : List ℕ → List ℕ → ℕ → ℕ → ℕ → ℕ → PartRead
 part_at commands text kind positions i at =
     when eqb kind sequence_kind then value_part commands S.Element at (read_command commands text at D.ValueOrEnd)
     else when eqb kind struct_kind then field_part commands at (read_command commands text at D.FieldOrEnd)
@@ -78,7 +80,7 @@ part_at commands text kind positions i at =
     else when eqb kind map_kind && eqb (i % 2) 0 then value_part commands S.Key at (read_command commands text at D.ValueOrEnd)
     else when eqb kind map_kind then value_part commands S.Value at (read_command commands text at D.Value)
     else when ltb i positions then value_part commands (S.Position i) at (read_command commands text at D.Value)
-    else P.Ended at
+    else Ok (P.Ended at)
 
 -- ---- what the first bytes tell of a part, before its command is read
 -- a value with no operands: of the commands up to struct, text and tuple have some

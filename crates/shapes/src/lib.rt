@@ -3,7 +3,8 @@
 
 #![tactic(auto)]
 
-ghost use Rattle.std.specs.Prelude.{◌≡◌, get_or, true};
+ghost use Rattle.std.specs.Prelude.{◌≡◌, get_or, true, false};
+ghost use Rattle.datatype.specs.Codes.{code_of as type_code};
 ghost use Rattle.text.specs.declared.Name.{Name};
 ghost use Rattle.text.specs.Name.{bytes_of};
 ghost use Rattle.text.specs.Utf8.{is_utf8};
@@ -14,17 +15,18 @@ ghost use Rattle.commands.specs.Commands.{read_command, text_byte};
 ghost use Rattle.model.specs.Kinds.{map_kind};
 ghost use Rattle.shapes.specs.declared.Step.TheVariants.{Element};
 ghost use Rattle.shapes.specs.Steps.{code_of, name_of, packed_name, unpacked_name, Inside};
-ghost use Rattle.shapes.specs.Shapes.{map_kind_of, shape_at, value_part, part_at, plain_byte, plain_at, takes_value, begins_at, sequence_at, struct_at, named_at};
+ghost use Rattle.shapes.specs.Shapes.{map_kind_of, shape_at, value_part, part_at, plain_byte, plain_at, takes_value, begins_at, named_at};
 ghost use Rattle.shapes.specs.Leaf.{Told, plain_kind, is_own_byte, leaf_at};
 ghost use Rattle.shapes.specs.Field.{opener_of, due_of, field_at};
 
 use chrono::text_type;
-use commands::{Command, Due, Read};
+use commands::{Command, Due, byte};
+use datatype::DataType;
 use options::TracingOptions;
-use refusal::Refusal;
+use refusal::{Refusal, Refused};
 use text::Name;
 
-// Kinds: a primitive type's code, or one of these.
+// Kinds: a primitive type's code, or one of these. They are numbers, since they are words of the work table, whose memory is fixed.
 pub const UNKNOWN: u32 = 0;
 
 pub const SEQUENCE: u32 = 22;
@@ -72,29 +74,17 @@ impl Step {
         ensures { result ≡ name_of self }
     {
         match self {
-            Step::Element => Name {
+            Step::Element | Step::Key | Step::Value | Step::Position(_) => Name {
                 offset: 0,
                 length: 0,
             },
-            Step::Key => Name {
-                offset: 0,
-                length: 0,
-            },
-            Step::Value => Name {
-                offset: 0,
-                length: 0,
-            },
-            Step::Field(name) => name,
-            Step::Position(_) => Name {
-                offset: 0,
-                length: 0,
-            },
-            Step::Variant(_, name) => name,
+            Step::Field(name) | Step::Variant(_, name) => name,
         }
     }
 }
 
-// A name in one word, so that names given by the same part of the text are equal words.
+// A name in one word, so that names given by the same part of the text are equal words. No `From`: it is the work table that
+// has names so, and the word's own name says which word it is.
 pub fn packed(name: Name) -> u32
     ensures { result ≡ packed_name name }
 {
@@ -129,52 +119,21 @@ pub enum Shape {
     NoValue,
 }
 
-// What stands before a part of a container: its end and the offset behind it, the step to the part and the offset of its
-// value, or a refusal and its place.
+// What stands before a part of a container: its end and the offset behind it, or the step to the part and the offset of its
+// value.
 #[derive(Clone, Copy)]
 pub enum Part {
     Ended(usize),
     Step(Step, usize),
-    Refused(Refusal, usize),
 }
 
-// A value that is a primitive: whether it is null, its type and the offset behind it; or another command, or none that
-// can stand there.
+// A value that is a primitive: whether it is null, its type and the offset behind it.
 #[derive(Clone, Copy)]
-pub enum Leaf {
-    Value(bool, u32, usize),
-    Other,
+pub struct Leaf {
+    pub null: bool,
+    pub kind: u32,
+    pub next: usize,
 }
-
-// What stands where a field or the end is due: a name inside the text, which may still not be UTF-8; the end; or a
-// refusal.
-#[derive(Clone, Copy)]
-pub enum Field {
-    Named(Name),
-    Ended,
-    Refused(Refusal),
-}
-
-// The commands that are told by their byte: of those up to struct, text and tuple have operands.
-const UNIT: u8 = 0x00;
-
-const CHAR: u8 = 0x0C;
-
-const TEXT: u8 = 0x0D;
-
-const BYTES: u8 = 0x0E;
-
-const NONE: u8 = 0x0F;
-
-const SEQUENCE_BYTE: u8 = 0x12;
-
-const TUPLE_BYTE: u8 = 0x13;
-
-const STRUCT_BYTE: u8 = 0x15;
-
-const FIELD_BYTE: u8 = 0x16;
-
-const END: u8 = 0x17;
 
 // The kind of a map.
 fn map_kind(options: TracingOptions) -> u32
@@ -206,36 +165,39 @@ fn text_kind(name: Name, text: &[u8], options: TracingOptions) -> u32
     options.string_type().code() as u32
 }
 
+// A value of that type that is no null.
+fn primitive(data_type: DataType) -> Shape
+    ensures { result ≡ Shape.Leaf false (type_code data_type) }
+{
+    Shape::Leaf(false, data_type.code() as u32)
+}
+
 // What a command begins.
+#[tactic(auto, using(crate::proofs::Shapes::begins), unfolding(crate::specs::Shapes::shape_at))]
 pub fn shape_of(command: Command, text: &[u8], options: TracingOptions) -> Shape
     requires { (name : Name) → command ≡ Text name → Inside text.now name }
     ensures { result ≡ shape_at options.word text.now command }
 {
     match command {
-        Command::Unit => Shape::Leaf(true, 0),
-        Command::Bool => Shape::Leaf(false, 1),
-        Command::I8 => Shape::Leaf(false, 2),
-        Command::I16 => Shape::Leaf(false, 3),
-        Command::I32 => Shape::Leaf(false, 4),
-        Command::I64 => Shape::Leaf(false, 5),
-        Command::U8 => Shape::Leaf(false, 6),
-        Command::U16 => Shape::Leaf(false, 7),
-        Command::U32 => Shape::Leaf(false, 8),
-        Command::U64 => Shape::Leaf(false, 9),
-        Command::F32 => Shape::Leaf(false, 10),
-        Command::F64 => Shape::Leaf(false, 11),
-        Command::Char => Shape::Leaf(false, 8),
+        Command::Unit | Command::None => Shape::Leaf(true, UNKNOWN),
+        Command::Bool => primitive(DataType::Boolean),
+        Command::I8 => primitive(DataType::Int8),
+        Command::I16 => primitive(DataType::Int16),
+        Command::I32 => primitive(DataType::Int32),
+        Command::I64 => primitive(DataType::Int64),
+        Command::U8 => primitive(DataType::UInt8),
+        Command::U16 => primitive(DataType::UInt16),
+        Command::U32 | Command::Char => primitive(DataType::UInt32),
+        Command::U64 => primitive(DataType::UInt64),
+        Command::F32 => primitive(DataType::Float32),
+        Command::F64 => primitive(DataType::Float64),
         Command::Text(name) => Shape::Leaf(false, text_kind(name, text, options)),
-        Command::Bytes => Shape::Leaf(false, options.binary_type().code() as u32),
-        Command::None => Shape::Leaf(true, 0),
-        Command::Some => Shape::NoValue,
-        Command::NewtypeStruct => Shape::NoValue,
+        Command::Bytes => primitive(options.binary_type()),
+        Command::Some | Command::NewtypeStruct | Command::Field(_) | Command::End => Shape::NoValue,
         Command::Sequence => Shape::Parts(SEQUENCE, 0),
         Command::Tuple(n) => Shape::Parts(TUPLE, n),
         Command::Map => Shape::Parts(map_kind(options), 0),
         Command::Struct => Shape::Parts(STRUCT, 0),
-        Command::Field(_) => Shape::NoValue,
-        Command::End => Shape::NoValue,
         Command::UnitVariant(number, name) => Shape::Variant(number, name, Contents::Unit),
         Command::NewtypeVariant(number, name) => Shape::Variant(number, name, Contents::Value),
         Command::TupleVariant(number, name, n) => Shape::Variant(
@@ -247,80 +209,52 @@ pub fn shape_of(command: Command, text: &[u8], options: TracingOptions) -> Shape
     }
 }
 
-// Whether the command with that byte is a value with no operands.
+// Whether the command with that byte is a value with no operands: of those up to struct, text and tuple have some.
+#[tactic(auto, unfolding(crate::specs::Shapes::plain_byte))]
 fn is_plain_byte(byte: u8) -> bool
     ensures { result ≡ plain_byte byte }
 {
-    if STRUCT_BYTE < byte {
-        return false;
-    }
-    if byte == TEXT {
-        return false;
-    }
-    byte != TUPLE_BYTE
+    byte <= byte::STRUCT && byte != byte::TEXT && byte != byte::TUPLE
 }
 
 // Whether one stands at an offset.
+#[tactic(auto, unfolding(crate::specs::Shapes::plain_at))]
 fn is_plain(commands: &[u8], at: usize) -> bool
     ensures { result ≡ plain_at commands.now at }
 {
-    if commands.len() <= at {
-        return false;
-    }
-    is_plain_byte(commands::read_byte(commands, at))
-}
-
-// Whether the command with that byte stands at an offset, with a name behind it that is inside the text.
-fn is_named(commands: &[u8], text: &[u8], byte: u8, at: usize) -> bool
-    ensures { result ≡ named_at commands.now text.now byte at }
-{
-    if commands.len() <= at {
-        return false;
-    }
-    if commands.len() - at < 5 {
-        return false;
-    }
-    if commands::read_byte(commands, at) != byte {
-        return false;
-    }
-    commands::read_name(commands, at + 1).is_inside(text)
+    at < commands.len() && is_plain_byte(commands::read_byte(commands, at))
 }
 
 // Whether a command with that byte begins at an offset.
-fn begins_at(commands: &[u8], byte: u8, at: usize) -> bool
+#[tactic(auto, unfolding(crate::specs::Shapes::begins_at))]
+pub fn begins_at(commands: &[u8], byte: u8, at: usize) -> bool
     ensures { result ≡ begins_at commands.now byte at }
 {
-    if commands.len() <= at {
-        return false;
-    }
-    commands::read_byte(commands, at) == byte
+    at < commands.len() && commands::read_byte(commands, at) == byte
 }
 
-// Whether a sequence does.
-pub fn is_sequence_at(commands: &[u8], at: usize) -> bool
-    ensures { result ≡ sequence_at commands.now at }
+// Whether one does, with a name behind it that is inside the text.
+#[tactic(auto, unfolding(crate::specs::Shapes::named_at, crate::specs::Shapes::begins_at))]
+fn is_named(commands: &[u8], text: &[u8], byte: u8, at: usize) -> bool
+    ensures { result ≡ named_at commands.now text.now byte at }
 {
-    begins_at(commands, SEQUENCE_BYTE, at)
-}
-
-// Whether a struct does.
-pub fn is_struct_at(commands: &[u8], at: usize) -> bool
-    ensures { result ≡ struct_at commands.now at }
-{
-    begins_at(commands, STRUCT_BYTE, at)
+    begins_at(commands, byte, at)
+        && 5 <= commands.len() - at
+        && commands::read_name(commands, at + 1).is_inside(text)
 }
 
 // The type of a value before text, by its byte: the byte itself, but a char is a UInt32.
 fn plain_kind(byte: u8) -> u32
     ensures { result ≡ plain_kind byte }
 {
-    if byte == CHAR { 8 } else { byte as u32 }
+    if byte == byte::CHAR { 8 } else { byte as u32 }
 }
 
 // Types below this code have the byte of their command as it. 0C is a char, which is a UInt32.
 const OWN_BYTES: u32 = 12;
 
 // Whether a type is not Null, and its code its command's byte.
+#[tactic(auto, unfolding(crate::specs::Leaf::is_own_byte))]
 pub fn is_own_byte(kind: u32) -> bool
     ensures { result ≡ is_own_byte kind }
 {
@@ -329,120 +263,136 @@ pub fn is_own_byte(kind: u32) -> bool
 
 // Whether a name is UTF-8, which need not be tested where the text is known to be ASCII.
 fn is_good(name: Name, text: &[u8], options: TracingOptions) -> bool
-    requires { Inside text.now name × Told options text.now }
+    requires inside { Inside text.now name }
+    requires told { Told options text.now }
     ensures { result ≡ is_utf8 (bytes_of text.now name) }
 {
-    if options.ascii {
-        return true;
-    }
-    name.is_utf8(text)
+    options.ascii || name.is_utf8(text)
 }
 
 // A text that is a value.
-fn text_leaf(commands: &[u8], text: &[u8], options: TracingOptions, at: usize) -> Leaf
-    requires { (get_or commands.now at 0 ≡ text_byte) × Told options text.now }
+fn text_leaf(commands: &[u8], text: &[u8], options: TracingOptions, at: usize) -> Option<Leaf>
+    requires text { get_or commands.now at 0 ≡ text_byte }
+    requires told { Told options text.now }
     ensures { result ≡ leaf_at options.word commands.now text.now at }
 {
-    if is_named(commands, text, TEXT, at) {
+    if is_named(commands, text, byte::TEXT, at) {
         let name = commands::read_name(commands, at + 1);
         if is_good(name, text, options) {
-            return Leaf::Value(false, text_kind(name, text, options), at + 5);
+            return Some(Leaf {
+                null: false,
+                kind: text_kind(name, text, options),
+                next: at + 5,
+            });
         }
     }
-    Leaf::Other
+    None
 }
 
-// The value at an offset, where it is a primitive.
-pub fn leaf_at(commands: &[u8], text: &[u8], options: TracingOptions, at: usize) -> Leaf
+// The value at an offset, where it is a primitive; none where another command stands, or none that can stand there.
+pub fn leaf_at(commands: &[u8], text: &[u8], options: TracingOptions, at: usize) -> Option<Leaf>
     requires { Told options text.now }
     ensures { result ≡ leaf_at options.word commands.now text.now at }
 {
     if commands.len() <= at {
-        return Leaf::Other;
+        return None;
     }
     let byte = commands::read_byte(commands, at);
-    if byte < TEXT {
-        return Leaf::Value(byte == UNIT, plain_kind(byte), at + 1);
+    if byte < byte::TEXT {
+        return Some(Leaf {
+            null: byte == byte::UNIT,
+            kind: plain_kind(byte),
+            next: at + 1,
+        });
     }
-    if byte == TEXT {
-        return text_leaf(commands, text, options, at);
+    match byte {
+        byte::TEXT => text_leaf(commands, text, options, at),
+        byte::BYTES => Some(Leaf {
+            null: false,
+            kind: options.binary_type().code() as u32,
+            next: at + 1,
+        }),
+        byte::NONE => Some(Leaf {
+            null: true,
+            kind: UNKNOWN,
+            next: at + 1,
+        }),
+        _ => None,
     }
-    if byte == BYTES {
-        return Leaf::Value(false, options.binary_type().code() as u32, at + 1);
-    }
-    if byte == NONE {
-        return Leaf::Value(true, UNKNOWN, at + 1);
-    }
-    Leaf::Other
 }
 
 // The byte that opens a field: 16 in a struct, and that of a text in map mode.
 fn opener(kind: u32) -> u8
     ensures { result ≡ opener_of kind }
 {
-    if kind == STRUCT { FIELD_BYTE } else { TEXT }
+    match kind {
+        STRUCT => byte::FIELD,
+        _ => byte::TEXT,
+    }
 }
 
 // What is due where a field can stand.
 fn due_in(kind: u32) -> Due
     ensures { result ≡ due_of kind }
 {
-    if kind == STRUCT {
-        Due::FieldOrEnd
-    } else {
-        Due::KeyOrEnd
+    match kind {
+        STRUCT => Due::FieldOrEnd,
+        _ => Due::KeyOrEnd,
     }
 }
 
-// The field at an offset, of a struct or of a map in map mode.
-pub fn field_at(commands: &[u8], text: &[u8], kind: u32, at: usize) -> Field
+// The field at an offset, of a struct or of a map in map mode: a name inside the text, which may still not be UTF-8, or none
+// where the end stands.
+pub fn field_at(commands: &[u8], text: &[u8], kind: u32, at: usize) -> Result<Option<Name>, Refusal>
     ensures { result ≡ field_at commands.now text.now kind at }
 {
     if is_named(commands, text, opener(kind), at) {
-        return Field::Named(commands::read_name(commands, at + 1));
+        return Ok(Some(commands::read_name(commands, at + 1)));
     }
-    if begins_at(commands, END, at) {
-        return Field::Ended;
+    if begins_at(commands, byte::END, at) {
+        return Ok(None);
     }
-    let read = commands::read_command(commands, text, at, due_in(kind));
-    let Read::Command(_, _) = read else {
-        return Field::Refused(read.refusal());
+    let Err(refused) = commands::read_command(commands, text, at, due_in(kind)) else {
+        return Ok(None);
     };
-    Field::Ended
+    Err(refused.refusal)
 }
 
 // A part that is a value, or the end where it is due. A value with no operands is there at once.
-pub fn value_part(commands: &[u8], text: &[u8], step: Step, due: Due, at: usize) -> Part
+pub fn value_part(
+    commands: &[u8],
+    text: &[u8],
+    step: Step,
+    due: Due,
+    at: usize,
+) -> Result<Part, Refused>
     requires { takes_value due ≡ true }
     ensures { result ≡ value_part commands.now step at (read_command commands.now text.now at due) }
 {
     if is_plain(commands, at) {
-        return Part::Step(step, at);
+        return Ok(Part::Step(step, at));
     }
-    let read = commands::read_command(commands, text, at, due);
-    let Read::Command(_, next) = read else {
-        return Part::Refused(read.refusal(), read.place());
-    };
-    if commands::read_byte(commands, at) == END {
-        Part::Ended(next)
+    let (_, next) = commands::read_command(commands, text, at, due)?;
+    if commands::read_byte(commands, at) == byte::END {
+        Ok(Part::Ended(next))
     } else {
-        Part::Step(step, at)
+        Ok(Part::Step(step, at))
     }
 }
 
 // An element of a sequence, or its end, which its byte tells.
-pub fn element_part(commands: &[u8], text: &[u8], at: usize) -> Part
+pub fn element_part(commands: &[u8], text: &[u8], at: usize) -> Result<Part, Refused>
     ensures { result ≡ value_part commands.now Element at
         (read_command commands.now text.now at ValueOrEnd) }
 {
-    if begins_at(commands, END, at) {
-        return Part::Ended(at + 1);
+    if begins_at(commands, byte::END, at) {
+        return Ok(Part::Ended(at + 1));
     }
     value_part(commands, text, Step::Element, Due::ValueOrEnd, at)
 }
 
 // A key or a value of a map, by turns.
-pub fn entry_part(commands: &[u8], text: &[u8], i: usize, at: usize) -> Part
+pub fn entry_part(commands: &[u8], text: &[u8], i: usize, at: usize) -> Result<Part, Refused>
     ensures { result ≡ part_at commands.now text.now map_kind 0 i at }
 {
     if i % 2 == 0 {

@@ -1,6 +1,2 @@
-pub mod Steps
-pub mod Blocks
-pub mod Compared
-pub mod Begins
-pub mod Ascii
-pub mod Dotless
+pub mod Library
+pub mod Chunks

@@ -1,7 +1,6 @@
 pub mod Name
 pub mod Tag
 pub mod Utf8
-pub mod Due
 pub mod Block
 pub mod Decimal
 pub mod laws

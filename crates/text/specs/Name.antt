@@ -1,7 +1,11 @@
 -- Names, as in document 01's "Commands and texts": an offset and a length in the text.
-use Rattle.std.specs.Prelude.{ℕ, suc, ◌+◌, Bool, true, false, ◌&&◌, ◌||◌, List, [], ◌∷◌, leb, ltb, eqb, length, take, drop}
+use Rattle.std.specs.Prelude.{ℕ, suc, ◌+◌, ◌≤◌, Bool, true, false, ◌&&◌, ◌||◌, List, [], ◌∷◌, leb, ltb, eqb, length, take, drop}
 use Rattle.logic.specs.Test.{when◌then◌else◌}
 use Rattle.text.specs.declared.Name.{Name}
+
+-- the name ends inside the text
+abbrev pub Inside : List ℕ → Name → Type 0
+Inside text name = name.offset + name.length ≤ length text
 
 -- the name's offset plus length does not exceed the text (refusal 5 else)
 abbrev pub inside : List ℕ → Name → Bool

@@ -1,52 +1,41 @@
 -- Words zeroed one after another, and plane after plane.
-use mathlib.Core.Path.{◌≡◌, refl, sym, ◌∙◌}
-use mathlib.Core.Bool.{Bool, ◌&&◌, false≢true}
+use mathlib.Core.Path.{◌≡◌, refl, ◌∙◌}
+use mathlib.Core.Bool.{Bool, ◌&&◌}
 use mathlib.Core.List.{List}
 use Prim.Native.Nat.{ℕ, ◌+◌, ◌-◌, ◌*◌, ◌/◌, ◌%◌, ◌<◌, ◌≤◌}
 use native.Mathlib.Omega.{arith}
 use borrow.Author.Tests.{lt-ltb, le-ltb, le-leb, lt-leb, ltb-true, ltb-false, eqb-true, eqb-false, eq-eqb, ne_eqb}
 use lib.Dec.{eqb, leb, ltb}
-use lib.ListN.{length, get_or, set, length-set}
-use lib.Seq.{get_or-set_same, get_or-set_other}
+use lib.ListN.{length, get_or}
+use borrow.Author.Rules.{rules}
+use borrow.Rule.Slice.PartMut.{put_mid, mid_of}
+use Rattle.std.proofs.lemmas.List.{length-replicate, places}
+use Rattle.std.specs.Prelude.{replicate}
 use Rattle.logic.specs.Test.{when◌then◌else◌}
 use Rattle.logic.specs.laws.Test.{cases}
-use Rattle.words.specs.Word.{table_places, table_words, row_words, plane_words, gap_words, IsTable, row_word, zeros, zeroed_where, orders_from, orders_end, zeroed_in, cleared_in, cleared_to}
-use Rattle.words.specs.laws.Word.{where_length, where_at, where_is, where_zeros}
+use Rattle.words.specs.Word.{table_places, table_words, row_words, plane_words, gap_words, IsTable, row_word, zeros, zeroed_where, orders_from, orders_end, cleared_in, cleared_to}
+use Rattle.words.specs.laws.Word.{where_length, where_at, where_is}
 
--- ---- from an index on
-module _ (t : List ℕ) (a : ℕ) where
-  pub in_none : t ≡ zeroed_in t a a
-  unfolding zeroed_in when◌then◌else◌
-  in_none =
-      where_is (λ j. leb a j && ltb j a) t t refl (λ j _.
-      cases (ltb j a)
-      (λ c. rw (lt-leb a j (ltb-true j a c)) refl)
-      (λ c. rw (le-leb a j (ltb-false j a c), c) refl))
+-- ---- those from one index up to another
+unfoldable zeroed_in : List ℕ → ℕ → ℕ → List ℕ
+zeroed_in t from end = zeroed_where (λ i. leb from i && ltb i end) t
 
-  pub in_more : (i b : ℕ) (u : List ℕ) → u ≡ zeroed_in t a i → a ≤ i → i < b → b ≤ length t → set u i 0 ≡ zeroed_in t a (i + 1)
-  unfolding zeroed_in when◌then◌else◌
-  in_more i b u e l m o =
-      let z : List ℕ = zeroed_in t a i in
-      let g : length z ≡ length t = where_length (λ j. leb a j && ltb j i) t in
-      let q : i < length z = omega arith in
-      rw e (where_is (λ j. leb a j && ltb j (i + 1)) t (set z i 0) (length-set z i 0 ∙ g) (λ j n.
-      cases (eqb j i)
-      (λ c. let d : j ≡ i = eqb-true j i c in
-      rw (d, get_or-set_same z i 0 0 q, le-leb a i l, lt-ltb i (i + 1) (omega arith)) refl)
-      (λ c. let d : j ≡ i → ⊥ = eqb-false j i c in
-      get_or-set_other z i j 0 0 d ∙ where_at (λ j. leb a j && ltb j i) t j ∙ cases (ltb j i)
-      (λ f. rw (f, lt-ltb j (i + 1) (omega (arith, ltb-true j i f))) refl)
-      (λ f. rw (f, le-ltb j (i + 1) (omega (arith, ltb-false j i f))) refl))))
-
-  pub in_end : (i b : ℕ) (u : List ℕ) → u ≡ zeroed_in t a i → i ≤ b → b ≤ i → u ≡ zeroed_in t a b
-  in_end i b u e l m = let q : b ≡ i = omega arith in rw q e
+-- as they are once that part is filled with zeros
+filled : (t zeros : List ℕ) (a k : ℕ) → a + k ≤ length t → zeros ≡ replicate k 0 → put_mid a k t zeros ≡ zeroed_in t a (a + k)
+unfolding zeroed_in when◌then◌else◌
+filled t zeros a k l z =
+    let long : length zeros ≡ k = rw z (length-replicate {A = ℕ} k 0) in
+    where_is (λ i. leb a i && ltb i (a + k)) t (put_mid a k t zeros) (search (rules, places)) (λ i m.
+    cases (leb a i)
+    (λ c. cases (ltb i (a + k))
+    (λ d. rw (c, d, z) (let h : i < a + k = ltb-true i (a + k) d in grind (arith, places)))
+    (λ d. rw (c, d) (let h : a + k ≤ i = ltb-false i (a + k) d in grind (arith, places))))
+    (λ c. rw c (grind (arith, places))))
 
 -- all of them
-pub in_all_lem : (t u : List ℕ) → IsTable t → u ≡ zeroed_in t 0 table_words → u ≡ zeros
-unfolding zeroed_in
-in_all_lem t u n e =
-    e ∙ where_zeros (λ i. leb 0 i && ltb i table_words) t n (λ i l z.
-    absurd (false≢true (sym z ∙ rw (le-leb 0 i (omega arith), lt-ltb i table_words l) refl)))
+pub all_filled : (t filled : List ℕ) → IsTable t → filled ≡ replicate (length t) 0 → filled ≡ zeros
+unfolding zeros
+all_filled t filled n e = rw (e, n) refl
 
 -- ---- gap by gap, each with the plane behind it
 -- how many words of it: the planes 7 and 8, behind the gaps 6 and 7, are those with links that putting children in order stores
@@ -108,13 +97,15 @@ module _ (t : List ℕ) (n : ℕ) where
   unfolding planes_to when◌then◌else◌
   planes_none = where_is (is_done n 0) t t refl (λ i _. rw (le-ltb (i / plane_words) 0 (omega arith)) refl)
 
-  pub planes_more : (k m : ℕ) (u v : List ℕ) → n ≤ table_places → u ≡ planes_to t n k → m ≡ cleared_in k n → v ≡ zeroed_in u (k * plane_words) (k * plane_words + m) →
-      v ≡ planes_to t n (k + 1)
+  pub planes_more : (k m d : ℕ) (u zeros : List ℕ) → n ≤ table_places → u ≡ planes_to t n k → m ≡ cleared_in k n → k * plane_words + m ≤ length u → d ≡ m →
+      zeros ≡ replicate (length (mid_of (k * plane_words) d u)) 0 → put_mid (k * plane_words) d u zeros ≡ planes_to t n (k + 1)
   unfolding planes_to zeroed_in
-  planes_more k m u v l e r d =
+  planes_more k m d u zeros l e r b g f =
       let z : List ℕ = planes_to t n k in
       let now : ℕ → Bool = λ i. leb (k * plane_words) i && ltb i (k * plane_words + cleared_in k n) in
-      rw (d, e, r) (where_is (is_done n (k + 1)) t (zeroed_where now z) (where_length now z ∙ where_length (is_done n k) t) (λ i _.
+      let room : k * plane_words + d ≤ length u = omega arith in
+      let long : length (mid_of (k * plane_words) d u) ≡ d = search (rules, places) in
+      filled u zeros (k * plane_words) d room (rw long at f) ∙ rw (g, e, r) (where_is (is_done n (k + 1)) t (zeroed_where now z) (where_length now z ∙ where_length (is_done n k) t) (λ i _.
       where_at now z i ∙ rw (where_at (is_done n k) t i) (turn n k i (get_or t i 0) l)))
 
   pub planes_all : (k : ℕ) (u : List ℕ) → IsTable t → row_words ≤ k → u ≡ planes_to t n k → u ≡ cleared_to t n

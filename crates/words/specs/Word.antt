@@ -118,10 +118,6 @@ unfoldable pub zeroed_where : (ℕ → Bool) → List ℕ → List ℕ
 zeroed_where test [] = []
 zeroed_where test (w ∷ ws) = (when test 0 then 0 else w) ∷ zeroed_where (λ i. test (suc i)) ws
 
--- those from one index up to another
-unfoldable pub zeroed_in : List ℕ → ℕ → ℕ → List ℕ
-zeroed_in table from end = zeroed_where (λ i. leb from i && ltb i end) table
-
 -- the words among which are the links that putting children in order stores: they fill two planes. The first, and the first behind them:
 abbrev pub orders_from : ℕ
 orders_from = 8

@@ -5,12 +5,15 @@
 #![tactic(auto)]
 
 ghost use Rattle.std.specs.Prelude.{◌≡◌, true, false, ◌+◌, ◌*◌, ◌<◌, ◌≤◌, length};
-ghost use Rattle.words.specs.Word.{table_places, table_words, row_words, plane_words, place_words, link_limit, IsTable, IsRow, is_link};
+ghost use Rattle.words.specs.Word.{table_places, table_words, row_words, plane_words, place_words, link_limit, IsRow, is_link};
 ghost use Rattle.words.specs.Word.{plane_index, index_of};
-ghost use Rattle.words.specs.Word.{part_of, with_part, word, with_word, has_among, zeros, zeroed_in, cleared_in, cleared_to};
+ghost use Rattle.words.specs.Word.{part_of, with_part, word, with_word, has_among, zeros, cleared_in, cleared_to};
 
 // So many words: a row for each place.
 pub const WORDS: usize = 16384;
+
+// The part of the work table that is lent to the tracer.
+pub type Table = [u32; WORDS];
 
 // Words of a gap and the plane behind it, which has one for each place; and those of a gap, which has the words of number 0 of so many
 // places. Without gaps all words of a place would compete for the same few lines of a processor's cache.
@@ -68,16 +71,16 @@ fn link_index(place: usize, field: usize) -> usize
 }
 
 // A whole word of a place.
-pub fn get(table: &[u32], place: usize, field: usize) -> u32
-    requires { IsTable table.now × IsRow place × (field < place_words) × (is_link field ≡ false) }
+pub fn get(table: &Table, place: usize, field: usize) -> u32
+    requires { IsRow place × (field < place_words) × (is_link field ≡ false) }
     ensures { result ≡ word table.now place field }
 {
     table[whole_index(place, field)]
 }
 
 // Stores a whole word of a place.
-pub fn set(table: &mut [u32], place: usize, field: usize, value: u32)
-    requires { IsTable table.old × IsRow place × (field < place_words) × (is_link field ≡ false) }
+pub fn set(table: &mut Table, place: usize, field: usize, value: u32)
+    requires { IsRow place × (field < place_words) × (is_link field ≡ false) }
     ensures { table.new ≡ with_word table.old place field value }
 {
     table[whole_index(place, field)] = value;
@@ -96,8 +99,8 @@ fn link_in(word: u32, field: usize) -> usize
 }
 
 // A link of a place.
-pub fn link(table: &[u32], place: usize, field: usize) -> usize
-    requires { IsTable table.now × IsRow place × (is_link field ≡ true) }
+pub fn link(table: &Table, place: usize, field: usize) -> usize
+    requires { IsRow place × (is_link field ≡ true) }
     ensures { (result ≡ word table.now place field) × (result < link_limit) }
 {
     link_in(table[link_index(place, field)], field)
@@ -116,8 +119,8 @@ fn with_link(word: u32, field: usize, to: usize) -> u32
 }
 
 // Stores a link of a place.
-pub fn set_link(table: &mut [u32], place: usize, field: usize, to: usize)
-    requires { IsTable table.old × IsRow place × (is_link field ≡ true) × (to < link_limit) }
+pub fn set_link(table: &mut Table, place: usize, field: usize, to: usize)
+    requires { IsRow place × (is_link field ≡ true) × (to < link_limit) }
     ensures { table.new ≡ with_word table.old place field to }
 {
     let at = link_index(place, field);
@@ -125,37 +128,23 @@ pub fn set_link(table: &mut [u32], place: usize, field: usize, to: usize)
 }
 
 // Whether one of so many places, from one on, has that value as that word. All are looked at: the compiler takes several at a time.
-pub fn has(table: &[u32], from: usize, count: usize, field: usize, value: u32) -> bool
-    requires { IsTable table.now × (from + count ≤ table_places) × (field < place_words) × (is_link field ≡ false) }
+pub fn has(table: &Table, from: usize, count: usize, field: usize, value: u32) -> bool
+    requires within { from + count ≤ table_places }
+    requires whole { (field < place_words) × (is_link field ≡ false) }
     ensures { result ≡ has_among table.now from count field value }
 {
-    let mut i = 0;
     let mut some = false;
-    while i < count {
+    for i in 0..count {
         some = some | (get(table, from + i, field) == value);
-        i += 1;
     }
     some
 }
 
-// Zeroes the words from one index up to another.
-fn zero_words(table: &mut [u32], from: usize, end: usize)
-    requires { (from ≤ end) × (end ≤ length table.old) }
-    ensures { table.new ≡ zeroed_in table.old from end }
-{
-    let mut i = from;
-    while i < end {
-        table[i] = 0;
-        i += 1;
-    }
-}
-
 // Zeroes every word.
-pub fn clear(table: &mut [u32])
-    requires { IsTable table.old }
+pub fn clear(table: &mut Table)
     ensures { table.new ≡ zeros }
 {
-    zero_words(table, 0, WORDS);
+    table.fill(0);
 }
 
 // How many words are zeroed with the places below `count` from where a gap starts: the gap, and those places of the plane behind
@@ -174,14 +163,12 @@ fn cleared_in(gap: usize, count: usize) -> usize
 }
 
 // Zeroes the words of the places below `count`, the gaps, and the planes whole in which putting children in order stores links.
-pub fn clear_places(table: &mut [u32], count: usize)
-    requires { IsTable table.old × (count ≤ table_places) }
+pub fn clear_places(table: &mut Table, count: usize)
+    requires { count ≤ table_places }
     ensures { table.new ≡ cleared_to table.old count }
 {
-    let mut gap = 0;
-    while gap < ROW_WORDS {
+    for gap in 0..ROW_WORDS {
         let from = gap * PLANE;
-        zero_words(table, from, from + cleared_in(gap, count));
-        gap += 1;
+        table[from..from + cleared_in(gap, count)].fill(0);
     }
 }

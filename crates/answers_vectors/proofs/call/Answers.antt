@@ -1,10 +1,8 @@
 -- `call` lends no more than there is, and what it lent comes back in its place.
-use borrow.Author.Rules.{rules}
-use mathlib.Core.Path.{◌≡◌, sym, ap}
+use mathlib.Core.Path.{◌≡◌, ap}
 use mathlib.Core.List.{List, ◌++◌}
 use Prim.Native.Nat.{ℕ, min}
 use lib.ListN.{length, take, drop}
-use lib.Seq.{length-take-le}
 use Rattle.files.specs.Bytes.{two_bytes}
 use Rattle.questions.specs.Question.{number_at}
 use Rattle.model.specs.Demand3.{batch}
@@ -24,22 +22,13 @@ module _ (question commands text table fields names : List ℕ) (options a b d t
   over o ea et eb ef ed en call =
       rw (et, ef, en, ea, eb, ed) (ap (in_all question (lent table fields names)) (rw (o, et, ef, en, ea, eb, ed) at call))
 
-pub slice_bounds-fasthrom_trace-end-2 : goal.slice_bounds-fasthrom_trace-end-2
-slice_bounds-fasthrom_trace-end-2 c = sym (length-take-le _ _ (search rules))
-
-pub slice_bounds-fasthrom_trace-end-4 : goal.slice_bounds-fasthrom_trace-end-4
-slice_bounds-fasthrom_trace-end-4 c = sym (length-take-le _ _ (search rules))
-
-pub slice_bounds-fasthrom_trace-end-6 : goal.slice_bounds-fasthrom_trace-end-6
-slice_bounds-fasthrom_trace-end-6 c = sym (length-take-le _ _ (search rules))
-
 pub returns : goal.returns
 returns c =
     over _ _ _ _ _ _ _ _ _ _ _ _ _ _ _ _ _ c.options.ensures
-    c.number.ensures.0
-    c.least-words.ensures
-    c.number-2.ensures.0
-    c.least-record_bytes.ensures
-    c.number-3.ensures.0
-    c.least-name_bytes.ensures
+    c.number.ensures.value
+    c.min-words.ensures
+    c.number-2.ensures.value
+    c.min-record_bytes.ensures
+    c.number-3.ensures.value
+    c.min-name_bytes.ensures
     c.fasthrom_trace.ensures

@@ -3,7 +3,6 @@ use Rattle.std.specs.Prelude.{◌≡◌, refl, Bool, true, false, List, ◌↔�
 use Rattle.std.proofs.Math.Path.{sym, ap}
 use Rattle.std.proofs.Common.{subst, ◌∙◌, arith, eqb-true, eq-eqb, le-leb}
 use Rattle.std.proofs.lemmas.Bool.{lt-leb}
-use Rattle.logic.specs.Test.{when◌then◌else◌}
 use Rattle.logic.specs.laws.Test.{both, same_test}
 use Rattle.logic.specs.laws.Flag.{if_either}
 use Rattle.text.specs.laws.Name.{eq_name_true, eq_name_refl}
@@ -11,9 +10,7 @@ use Rattle.files.specs.Bytes.{between}
 use Rattle.questions.specs.Question.{header_bytes, number_at, names_from, commands_in, text_in, records_in, question_end}
 use Rattle.questions.specs.Left.{lent_byte, lent_word, lent_bytes, lent_buffer, written_over, left_table, Answered}
 use Rattle.questions.specs.laws.Left.{no, unlike, rest_is}
-use Rattle.replay.specs.declared.Tally.{Tally}
-use Rattle.replay.specs.Tally.{tally_of, tally_from}
-use Rattle.replay.specs.laws.Tally.{tally_on, tally_ends}
+use Rattle.replay.specs.Records.{IsEnd}
 use Rattle.model.specs.Answer.{Answer}
 use Rattle.call.specs.Call.{lent}
 use Rattle.fasthrom.specs.declared.Answer as R
@@ -136,22 +133,8 @@ pub agrees_by : (question : List ℕ) (a b d : ℕ) (r : Bool) → a ≡ number_
 agrees_by question a b d r ea eb ed room iff = parts question (omega arith) r (rw (ea, eb, ed) at iff)
 
 -- ---- the questions of a file
-later : (vectors : List ℕ) (at : ℕ) → at < length vectors → at < question_end vectors at
+pub question_is_end : (vectors : List ℕ) (at : ℕ) → at < length vectors → IsEnd vectors at 0 (question_end vectors at)
 unfolding question_end
-later vectors at h = if_either (λ n. at < n) (ltb (length vectors - at) header_bytes) h (omega arith)
-
-module _ (vectors : List ℕ) (all : Tally) where
-  -- the rest of the file, with what is passed, gives that
-  abbrev pub RestGives : ℕ → ℕ → ℕ → Type 0
-  RestGives at records differ =
-      tally_from (length vectors) (question_end vectors) (λ at'. agrees (between at' (question_end vectors at') vectors))
-      (record { at = at; records = records; differ = differ })
-      ≡ all
-
-  pub question_on : (at records differ behind : ℕ) (flag : Bool) (one : ℕ) → at < length vectors → behind ≡ question_end vectors at →
-      flag ≡ agrees (between at behind vectors) → one ≡ (when flag then 0 else 1) → RestGives at records differ → RestGives behind (records + 1) (differ + one)
-  question_on at records differ behind flag one h en ef eo e =
-      tally_on (length vectors) (question_end vectors) _ (later vectors) at records differ behind flag one all h en (ef ∙ rw en) eo e
-
-  pub question_ends : (at records differ : ℕ) → length vectors ≤ at → RestGives at records differ → tally_of (record { at = at; records = records; differ = differ }) ≡ all
-  question_ends at records differ h e = tally_ends (length vectors) (question_end vectors) _ (later vectors) at records differ all h e
+question_is_end vectors at h =
+    if_either (λ n. IsEnd vectors at 0 n) (ltb (length vectors - at) header_bytes) (omega arith, omega arith, omega arith)
+    (omega arith, omega arith, omega arith)

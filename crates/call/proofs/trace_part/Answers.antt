@@ -1,5 +1,6 @@
 -- `trace_part` zeroes the part before.
 use borrow.Author.Rules.{rules}
+use native.Mathlib.Omega.{arith}
 use mathlib.Core.Path.{◌≡◌}
 use mathlib.Core.List.{List}
 use Prim.Native.Nat.{ℕ, ◌≤◌}
@@ -11,9 +12,8 @@ use Rattle.samples.specs.Samples.{from_samples}
 use Rattle.commands.specs.Bytes.{Bytes}
 use Rattle.model.specs.Answer.{input_limit, schema_of, answer_of}
 use Rattle.model.specs.Demand3.{batch}
-use Rattle.call.specs.declared.Outcome.{Outcome}
-use Rattle.call.specs.Call.{lent, answer_by, given, emitted_from}
-use Rattle.call.specs.laws.Call.{given_is_answer}
+use Rattle.call.specs.Call.{Outcome, lent, answer_by, given, emitted_from}
+use Rattle.call.specs.laws.Call.{bytes_known, given_is_answer}
 use Rattle.call.proofs.trace_part.Goals as goal
 
 sound_at_first : (text u : List ℕ) → u ≡ zeros → Sound text u 1
@@ -30,4 +30,6 @@ pub trace_and_emit-requires : goal.trace_and_emit-requires
 trace_and_emit-requires c = search (sound_at_first, rules)
 
 pub returns : goal.returns
-returns c = search (ended, rules)
+returns c =
+    let bytes : Bytes c.args.commands.now = bytes_known _ (λ i. omega (arith, c.type_inv.commands i)) in
+    search (ended, rules)

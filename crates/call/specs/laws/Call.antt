@@ -1,6 +1,6 @@
 -- Tracing and emission over a part of zeros, and the part zeroed again, are the model's answer; over the part, and so over the table that it is
 -- the first part of.
-use Rattle.std.specs.Prelude.{◌≡◌, Bool, List, [], ◌∷◌, ◌++◌, ℕ, suc, ◌*◌, ◌<◌, ◌≤◌, length, get_or, take, drop, replicate}
+use Rattle.std.specs.Prelude.{◌≡◌, Ok, Err, Bool, List, [], ◌∷◌, ◌++◌, ℕ, suc, ◌*◌, ◌<◌, ◌≤◌, length, get_or, take, drop, replicate}
 use Rattle.std.proofs.Math.Path.{refl}
 use Rattle.std.proofs.Common.{sym, ap, ◌∙◌, append-nil, length-take, drop_of_length-le}
 use Rattle.std.proofs.Math.Bool.{true, false}
@@ -20,22 +20,19 @@ use Rattle.model.specs.Answer as M
 use Rattle.model.specs.Answer.{input_limit, schema_of, answer_of, is_short, turned_down, cleared, zeroed, written, with_schema}
 use Rattle.model.specs.Demand3.{batch}
 use Rattle.places.specs.Layout.{Linked, Sound}
-use Rattle.leaves.specs.declared.Traced.TheVariants as T
 use Rattle.samples.specs.Samples.{from_samples}
-use Rattle.leaves.specs.Leaves.{Out, out}
+use Rattle.leaves.specs.Leaves.{traced_to, Out, out}
 use Rattle.commands.specs.Bytes.{Bytes}
 use Rattle.refine.specs.Tree.{outcome, tree_of}
 use Rattle.refine.proofs.Refinement.{traced_is_model}
-use Rattle.schema.specs.declared.Emitted.TheVariants as E
 use Rattle.schema.specs.Emit.{Answered, answered, to_schema_at}
 use Rattle.order.specs.Sort.{sorted_places}
 use Rattle.emission.proofs.Refinement.{schema_is_model}
 use Rattle.emission.specs.Emits.{Emits}
 use Rattle.refusal.specs.declared.Refusal.{Refusal}
 use Rattle.refusal.specs.declared.Refusal.TheVariants as F
-use Rattle.call.specs.declared.Outcome.{Outcome}
-use Rattle.call.specs.declared.Outcome.TheVariants as O
-use Rattle.call.specs.Call.{lent, answer_by, Given, given, as_given, emitted_from}
+use Rattle.walk.specs.Walk.{counts}
+use Rattle.call.specs.Call.{refused_at, Outcome, lent, answer_by, Given, given, as_given, emitted_from}
 
 -- bytes are below 256, where each element is
 pub bytes_known : (xs : List ℕ) → ((i : ℕ) → get_or xs i 0 < 256) → Bytes xs
@@ -107,8 +104,8 @@ module _ (options : ℕ) (commands text t fields names : List ℕ) (bytes : Byte
   unfolding zeros
   zeros_are = cleared_all table_words t (omega arith)
 
-  refused_is : (refusal : Refusal) (place : ℕ) (u : List ℕ) → out (T.Refused refusal place) u ≡ from_samples commands text options zeros →
-      ended (given (O.Refused refusal place) fields names) ≡ answer_of b (lent t fields names) (schema_of b)
+  refused_is : (refusal : Refusal) (place : ℕ) (u : List ℕ) → out (Err (refused_at refusal place)) u ≡ from_samples commands text options zeros →
+      ended (given (Err (refused_at refusal place)) fields names) ≡ answer_of b (lent t fields names) (schema_of b)
   unfolding schema_of answer_of outcome
   refused_is refusal place u e =
       let is : refused (number_of refusal) place ≡ trace options (values options commands text) = rw (← e) at (traced_is_model options commands text bytes short) in
@@ -116,8 +113,8 @@ module _ (options : ℕ) (commands text t fields names : List ℕ) (bytes : Byte
 
   -- a schema that fits both buffers, or does not
   fits_or_not : (schema : Fields) (isLong : Bool) (a : Answered) →
-      a ≡ (when isLong then answered (E.Refused F.ShortBuffer) fields names
-      else answered (E.Schema (count_in schema) (length (names_in schema)) (columns_in schema)) (written (records_in schema) fields) (written (names_in schema) names)) →
+      a ≡ (when isLong then answered (Err F.ShortBuffer) fields names
+      else answered (Ok (counts (count_in schema) (length (names_in schema)) (columns_in schema))) (written (records_in schema) fields) (written (names_in schema) names)) →
       ended (as_given (length commands) a) ≡ (when isLong then turned_down short_buffer (length commands) (zeroed (lent t fields names)) else with_schema schema (lent t fields names))
   unfolding when◌then◌else◌
   fits_or_not schema true a e = rw (e, zeros_are) refl
@@ -132,8 +129,8 @@ module _ (options : ℕ) (commands text t fields names : List ℕ) (bytes : Byte
       let swap : count_in schema * 8 ≡ 8 * count_in schema = omega arith in
       fits_or_not schema (is_short schema (lent t fields names)) a (rw swap at e)
 
-  emitted_is : (behind n : ℕ) (u : List ℕ) → out (T.Next behind n) u ≡ from_samples commands text options zeros →
-      ended (emitted_from options commands text fields names (out (T.Next behind n) u)) ≡ answer_of b (lent t fields names) (schema_of b)
+  emitted_is : (behind n : ℕ) (u : List ℕ) → out (traced_to behind n) u ≡ from_samples commands text options zeros →
+      ended (emitted_from options commands text fields names (out (traced_to behind n) u)) ≡ answer_of b (lent t fields names) (schema_of b)
   unfolding schema_of outcome
   emitted_is behind n u e =
       let is : counted n (tree_of text u) ≡ trace options (values options commands text) = rw (← e) at (traced_is_model options commands text bytes short) in
@@ -147,8 +144,8 @@ module _ (options : ℕ) (commands text t fields names : List ℕ) (bytes : Byte
   given_is_answer o records written e = ap ended e ∙ go (from_samples commands text options zeros) refl
     where
       go : (w : Out) → w ≡ from_samples commands text options zeros → ended (emitted_from options commands text fields names w) ≡ answer_of b (lent t fields names) (schema_of b)
-      go (out (T.Refused refusal place) v) q = refused_is refusal place v q
-      go (out (T.Next behind n) v) q = emitted_is behind n v q
+      go (out (Err r) v) q = refused_is r.refusal r.place v q
+      go (out (Ok traced) v) q = emitted_is traced.next traced.count v q
 
 -- ---- a table of which the first words are lent
 module _ (t : List ℕ) (long : table_words ≤ length t) where
@@ -167,8 +164,8 @@ module _ (t : List ℕ) (long : table_words ≤ length t) where
   }
 
   widened_by : (o : Outcome) (u fields names : List ℕ) → answer_by o (lent (u ++ rest) fields names) ≡ widened (answer_by o (lent u fields names))
-  widened_by (O.Schema records bytes columns) u fields names = refl
-  widened_by (O.Refused refusal place) u fields names = refl
+  widened_by (Ok c) u fields names = refl
+  widened_by (Err r) u fields names = refl
 
   widened_of : (b : M.Batch) (fields names : List ℕ) (r : Result Fields) → widened (answer_of b (lent (take table_words t) fields names) r) ≡ answer_of b (lent t fields names) r
   unfolding answer_of when◌then◌else◌

@@ -1,21 +1,20 @@
 -- `guessed_type` tells the fixed forms, and reads other texts.
-use borrow.Author.Rules.{rules}
-use borrow.Author.Tests.{not-true}
-use Rattle.chrono.proofs.Reading.{stringed, no_begin}
+use Rattle.std.proofs.Common.{◌∙◌, rules}
+use Rattle.chrono.proofs.Reading.{no_begin}
 use Rattle.chrono.proofs.Fixed.{date_form, time_form, naive_form, utc_form}
 use Rattle.chrono.proofs.guessed_type.Goals as goal
 
 pub returns-then-not-can_begin : goal.returns-then-not-can_begin
-returns-then-not-can_begin c = search (stringed, no_begin, not-true, rules)
+returns-then-not-can_begin c = c.string_type.ensures ∙ search (no_begin, rules)
 
-pub returns-then-fixed_date : goal.returns-then-fixed_date
-returns-then-fixed_date c = search (date_form, rules)
+pub returns-in-10 : goal.returns-in-10
+returns-in-10 c = search (date_form, rules)
 
-pub returns-then-fixed_datetime-s : goal.returns-then-fixed_datetime-s
-returns-then-fixed_datetime-s c = search (utc_form, rules)
+pub returns-in-20 : goal.returns-in-20
+returns-in-20 c = search (utc_form, rules)
 
-pub returns-then-fixed_datetime : goal.returns-then-fixed_datetime
-returns-then-fixed_datetime c = search (naive_form, rules)
+pub returns-in-19 : goal.returns-in-19
+returns-in-19 c = search (naive_form, rules)
 
-pub returns-then-fixed_time : goal.returns-then-fixed_time
-returns-then-fixed_time c = search (time_form, rules)
+pub returns-in-8 : goal.returns-in-8
+returns-in-8 c = search (time_form, rules)

@@ -1,14 +1,24 @@
--- `read_type` goes by whether there is a date.
-use borrow.Author.Rules.{rules}
-use Rattle.chrono.proofs.Steps.{found}
-use Rattle.chrono.proofs.Reading.{stringed, dateless_time, dateless_string}
+-- `read_type` reads a date and what follows it, or else a time.
+use Rattle.std.proofs.Common.{◌≡◌, refl, ap, ◌∙◌, Option, Some, None, unwrap_or, rules}
+use Rattle.datatype.specs.declared.DataType.{DataType}
+use Rattle.datatype.specs.Codes.{code_of}
+use Rattle.options.specs.Word.{string_type}
+use Rattle.chrono.specs.Reading.{type_or}
+use Rattle.chrono.proofs.Reading.{dated, undated, some_or}
+use Rattle.chrono.proofs.read_type.Goals.{in-Some, in-None}
 use Rattle.chrono.proofs.read_type.Goals as goal
 
-pub type_after_date-requires : goal.type_after_date-requires
-type_after_date-requires c = search (found, rules)
-
-pub returns-then-matches_naive_time : goal.returns-then-matches_naive_time
-returns-then-matches_naive_time c = search (dateless_time, rules)
+unwrapped : (read : Option DataType) (string : DataType) → code_of (unwrap_or read string) ≡ type_or read (code_of string)
+unwrapped (Some t) string = refl
+unwrapped None string = refl
 
 pub returns : goal.returns
-returns c = search (stringed, dateless_string, rules)
+returns c =
+    let string = string_type c.args.options.word in
+    ap code_of c.unwrap_or.ensures ∙
+    unwrapped c.match-match_naive_date.read c.string_type.result ∙
+    ap (type_or c.match-match_naive_date.read) c.string_type.ensures ∙
+    elim c.match-match_naive_date.branch [
+      | in-Some w ↦ ap (λ r. type_or r string) w.read-is ∙ w.type_after_date-read.ensures string ∙ search (dated, rules)
+      | in-None w ↦ some_or _ _ string (w.read-is ∙ w.then_some-read.ensures) ∙ search (undated, rules)
+    ]

@@ -1,38 +1,28 @@
--- `split_prefix` reads the word byte by byte: at each turn what is left of it gives the same as the whole.
-use mathlib.Core.Path.{◌≡◌, sym, ap, ◌∙◌}
-use mathlib.Core.List.{List}
-use Prim.Native.Nat.{ℕ, ◌+◌, ◌≤◌, ◌<◌}
-use native.Mathlib.Numerals.{add-one}
-use lib.ListN.{length, get_or, drop, drop_of_length-le}
-use lib.Seq.{drop-cons}
-use borrow.Author.Rules.{rules}
-use Rattle.chrono.specs.declared.Matched.{Matched}
-use Rattle.chrono.specs.declared.Matched.TheVariants.{Rest, No}
-use Rattle.chrono.specs.Grammar.{byte, word}
-use Rattle.chrono.specs.Scan.{scan, onward}
+-- `split_prefix`: what the library strips is what the grammar of the word leaves.
+use Rattle.std.proofs.Common.{◌≡◌, refl, ap, ◌∙◌, true, false, nat_eq, List, [], ◌∷◌, ℕ, ◌+◌, length, take, drop, Option, Some, None, option_copied, MatchOption}
+use Rattle.std.specs.Borrow.{Bor}
+use Rattle.std.specs.Cmp.Lexicographic.{pointwise}
+use Rattle.std.proofs.lemmas.Bool.{false≢true}
+use Rattle.logic.specs.laws.Test.{cases}
+use Rattle.chrono.specs.Grammar.{word}
+use Rattle.chrono.specs.Scan.{scan}
 use Rattle.chrono.proofs.split_prefix.Goals as goal
 
-module _ (w s : List ℕ) (i j : ℕ) (m : Matched) (whole : scan (word (drop i w)) s j ≡ m) where
-  word_ends : length w ≤ i → Rest j ≡ m
-  unfolding scan
-  word_ends h = rw (drop_of_length-le w h) at whole
+stripped : (w s : List ℕ) → pointwise nat_eq (take (length w) s) w ≡ true → Some (drop (length w) s) ≡ scan (word w) s
+unfolding scan
+stripped [] s e = refl
+stripped (b ∷ w) [] e = absurd (false≢true e)
+stripped (b ∷ w) (c ∷ s) e = cases (nat_eq c b) (λ p. rw p (stripped w s (rw p at e))) (λ p. absurd (false≢true (rw p at e)))
 
-  module _ (r : Matched) (h : i < length w) (e : r ≡ scan (byte (get_or w i 0)) s j) where
-    split : onward r (scan (word (drop (i + 1) w)) s) ≡ m
-    unfolding scan
-    split = rw (e, add-one i) (rw (drop-cons w i 0 h) at whole)
+left : (w s : List ℕ) → pointwise nat_eq (take (length w) s) w ≡ false → None ≡ scan (word w) s
+unfolding scan
+left [] s e = cc
+left (b ∷ w) [] e = refl
+left (b ∷ w) (c ∷ s) e = cases (nat_eq c b) (λ p. rw p (left w s (rw p at e))) (λ p. rw p)
 
-    word_no : r ≡ No → No ≡ m
-    word_no f = ap (λ x. onward x (scan (word (drop (i + 1) w)) s)) (sym f) ∙ split
-
-    word_next : (k : ℕ) → r ≡ Rest k → scan (word (drop (i + 1) w)) s k ≡ m
-    word_next k f = ap (λ x. onward x (scan (word (drop (i + 1) w)) s)) (sym f) ∙ split
-
-pub returns-in_default : goal.returns-in_default
-returns-in_default c = search (word_no, rules)
-
-pub loop-i-preserved : goal.loop-i-preserved
-loop-i-preserved c = search (word_next, rules)
+split : (w s : List ℕ) (r : Option (Bor (List ℕ))) → MatchOption r (pointwise nat_eq (take (length w) s) w ≡ false) (λ x. (pointwise nat_eq (take (length w) s) w ≡ true) × (x.now ≡ drop (length w) s) × (length x.now + length w ≡ length s)) → option_copied r ≡ scan (word w) s
+split w s None h = left w s h
+split w s (Some x) h = ap Some h.1 ∙ stripped w s h.0
 
 pub returns : goal.returns
-returns c = search (word_ends, rules)
+returns c = split _ _ _ c.strip_prefix.ensures.cases

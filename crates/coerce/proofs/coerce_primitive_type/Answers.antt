@@ -1,16 +1,17 @@
--- `coerce_primitive_type` is the joint.
-use borrow.Author.Rules.{rules}
-use Rattle.coerce.proofs.Joint.{equal, first_null, second_null, unequal}
+use Rattle.std.proofs.Common.{arith}
+use Rattle.std.proofs.lemmas.Grind.{common_steps}
+use Rattle.logic.specs.Test.{when◌then◌else◌}
+use Rattle.coerce.specs.Joint.{joint}
 use Rattle.coerce.proofs.coerce_primitive_type.Goals as goal
 
-pub returns-then-a-b : goal.returns-then-a-b
-returns-then-a-b c = search (equal, rules)
+pub returns-then-code : goal.returns-then-code
+unfolding joint when◌then◌else◌
+returns-then-code c = grind (arith, common_steps)
 
-pub returns-then-a-code : goal.returns-then-a-code
-returns-then-a-code c = search (first_null, rules)
-
-pub returns-then-b-code : goal.returns-then-b-code
-returns-then-b-code c = search (second_null, rules)
+pub returns-then-eq-2 : goal.returns-then-eq-2
+unfolding joint when◌then◌else◌
+returns-then-eq-2 c = grind (arith, common_steps)
 
 pub returns : goal.returns
-returns c = search (unequal, rules)
+unfolding joint when◌then◌else◌
+returns c = grind (arith, common_steps)

@@ -1,18 +1,25 @@
 -- `has_bad_name` tells refusal 5 of the name among counted operands.
-use borrow.Author.Tests.{lt-ltb, le-ltb, eq-eqb, ne_eqb}
+use Rattle.std.specs.Prelude.{◌≡◌, ◌<◌, ◌≤◌}
+use Rattle.std.proofs.Common.{arith}
+use borrow.Author.Tests.{lt-ltb, le-ltb, ne_eqb}
 use Rattle.logic.specs.Test.{when◌then◌else◌}
 use Rattle.commands.specs.Commands.{bad_name}
 use Rattle.commands.specs.Counted.{name_among}
 use Rattle.commands.proofs.has_bad_name.Goals as goal
 
-pub returns-then-operands-lt2 : goal.returns-then-operands-lt2
+pub returns-in-0 : goal.returns-in-0
 unfolding name_among when◌then◌else◌ bad_name
-returns-then-operands-lt2 c = rw (lt-ltb _ _ c.if-operands-lt2.true)
+returns-in-0 c =
+    let few : c.args.operands < 2 = omega arith in
+    rw (lt-ltb c.args.operands 2 few)
 
-pub returns-then-operands-eq2 : goal.returns-then-operands-eq2
+pub returns-in-2 : goal.returns-in-2
 unfolding name_among when◌then◌else◌
-returns-then-operands-eq2 c = rw (le-ltb _ _ c.if-operands-lt2.false, eq-eqb _ _ c.if-operands-eq2.true, c.is_bad_name.ensures, c.read_name.ensures)
+returns-in-2 c = rw (c.in-2.is, c.is_bad_name.ensures, c.read_name.ensures)
 
-pub returns-else-operands-eq2 : goal.returns-else-operands-eq2
+pub returns-in_default : goal.returns-in_default
 unfolding name_among when◌then◌else◌
-returns-else-operands-eq2 c = rw (le-ltb _ _ c.if-operands-lt2.false, ne_eqb _ _ c.if-operands-eq2.false, c.is_bad_name-else-operands-eq2.ensures, c.read_name-else-operands-eq2.ensures)
+returns-in_default c =
+    let some : 2 ≤ c.args.operands = omega arith in
+    let more : c.args.operands ≡ 2 → ⊥ = λ e. omega arith in
+    rw (le-ltb c.args.operands 2 some, ne_eqb c.args.operands 2 more, c.is_bad_name-in_default.ensures, c.read_name-in_default.ensures)

@@ -1,4 +1,5 @@
 -- `read_command` reads as document 01 has it: one law for each way through it.
+use Rattle.std.specs.Prelude.{Ok}
 use borrow.Author.Rules.{rules}
 use borrow.Author.Tests.{lt-ltb, le-ltb, le-leb, lt-leb}
 use native.Mathlib.Omega.{arith}
@@ -11,24 +12,23 @@ use Rattle.logic.specs.Test.{when◌then◌else◌}
 use Rattle.refusal.specs.declared.Refusal.TheVariants as F
 use Rattle.commands.specs.declared.Command.{Command}
 use Rattle.commands.specs.declared.Due.{Due}
-use Rattle.commands.specs.declared.Read.TheVariants as R
-use Rattle.commands.specs.Commands.{form_of, operands, width, made, name_in, stands, bad_command, bad_name, bad_key, read_command}
+use Rattle.commands.specs.Commands.{form_of, operands, width, made, name_in, stands, bad_command, bad_name, bad_key, read_command, refused_at}
 use Rattle.commands.specs.Counted.{name_among}
 use Rattle.commands.specs.laws.Counted.{among_is}
 use Rattle.commands.proofs.read_command.Goals as goal
 
-none_left : (commands text : List ℕ) (at : ℕ) (due : Due) → length commands ≤ at → R.Refused F.BadCommand at ≡ read_command commands text at due
+none_left : (commands text : List ℕ) (at : ℕ) (due : Due) → length commands ≤ at → refused_at F.BadCommand at ≡ read_command commands text at due
 unfolding read_command bad_command when◌then◌else◌
 none_left commands text at due h = rw (le-leb _ _ h)
 
 module _ (commands text : List ℕ) (at : ℕ) (due : Due) (byte : ℕ) (is : byte ≡ get_or commands at 0) (left : at < length commands) where
-  unknown : 28 ≤ byte → R.Refused F.BadCommand at ≡ read_command commands text at due
+  unknown : 28 ≤ byte → refused_at F.BadCommand at ≡ read_command commands text at due
   unfolding read_command bad_command when◌then◌else◌
   unknown h = rw (← is, lt-leb _ _ left, le-leb _ _ h)
 
 module _ (commands text : List ℕ) (at : ℕ) (due : Due) (byte : ℕ) (is : byte ≡ get_or commands at 0) (count : ℕ) (left : at < length commands)
     (known : byte < 28) (counts : count ≡ operands (form_of byte)) where
-  cut_off : length commands - at < 1 + 2 * count → R.Refused F.BadCommand at ≡ read_command commands text at due
+  cut_off : length commands - at < 1 + 2 * count → refused_at F.BadCommand at ≡ read_command commands text at due
   unfolding read_command bad_command when◌then◌else◌
   cut_off h =
       let short : length commands < at + width (form_of byte) = omega arith in
@@ -43,7 +43,7 @@ module _ (commands text : List ℕ) (at : ℕ) (due : Due) (byte : ℕ) (is : by
       let long : at + width (form_of byte) ≤ length commands = omega arith in
       rw (← is, lt-leb _ _ left, lt-leb _ _ known, le-ltb _ _ long, stood)
 
-  misplaced : not admitted ≡ true → R.Refused F.BadCommand at ≡ read_command commands text at due
+  misplaced : not admitted ≡ true → refused_at F.BadCommand at ≡ read_command commands text at due
   unfolding read_command when◌then◌else◌
   misplaced h = rw (by_standing, h)
 
@@ -56,16 +56,16 @@ module _ (commands text : List ℕ) (at : ℕ) (due : Due) {byte : ℕ} (is : by
   by_name_lem : bad_name text (name_in (form_of (get_or commands at 0)) commands (at + 1)) ≡ bad
   by_name_lem = rw (← is, named, counts, among_is)
 
-  misnamed : bad ≡ true → R.Refused F.BadName at ≡ read_command commands text at due
+  misnamed : bad ≡ true → refused_at F.BadName at ≡ read_command commands text at due
   unfolding read_command when◌then◌else◌
   misnamed h = rw (stands_there, by_name_lem, h)
 
   module _ {key : Bool} (well-named : bad ≡ false) (keyed : key ≡ bad_key due byte) where
-    no_key : key ≡ true → R.Refused F.BadKey at ≡ read_command commands text at due
+    no_key : key ≡ true → refused_at F.BadKey at ≡ read_command commands text at due
     unfolding read_command when◌then◌else◌
     no_key h = rw (stands_there, by_name_lem, well-named, ← is, ← keyed, h)
 
-    read : {command : Command} → key ≡ false → command ≡ made (form_of byte) commands (at + 1) → R.Command command (at + (1 + 2 * count)) ≡ read_command commands text at due
+    read : {command : Command} → key ≡ false → command ≡ made (form_of byte) commands (at + 1) → Ok (command, at + (1 + 2 * count)) ≡ read_command commands text at due
     unfolding read_command when◌then◌else◌
     read h e = rw (stands_there, by_name_lem, well-named, ← is, ← keyed, h, e, counts)
 

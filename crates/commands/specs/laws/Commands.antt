@@ -2,8 +2,8 @@
 -- one with its byte.
 use Prim.{tt}
 use Prim.Native.Nat.{ℕ, zero, suc, ◌+◌, ◌<◌, ◌≤◌}
-use Rattle.std.proofs.Common.{zero-add, le_of_suc-le-suc, not-suc-le-zero, arith, sym, ◌∙◌, true≢false}
-use Rattle.std.specs.Prelude.{◌≡◌, refl, Bool, true, false, not, ◌&&◌, ◌||◌, List, [], ◌∷◌, eqb, leb, ltb}
+use Rattle.std.proofs.Common.{zero-add, le_of_suc-le-suc, not-suc-le-zero, arith, sym, ap, ◌∙◌, true≢false}
+use Rattle.std.specs.Prelude.{◌≡◌, refl, Bool, true, false, not, ◌&&◌, ◌||◌, List, [], ◌∷◌, eqb, leb, ltb, Ok, Err}
 use Rattle.std.proofs.lemmas.Bool.{false≢true}
 use Rattle.std.proofs.Math.Option.{Option, none, some}
 use borrow.Author.Tests.{leb-true, leb-false, lt-leb, ltb-false, le-ltb, eqb-true, not-false}
@@ -20,9 +20,7 @@ use Rattle.commands.specs.declared.Command.{Command}
 use Rattle.commands.specs.declared.Command.TheVariants as C
 use Rattle.commands.specs.declared.Due.{Due}
 use Rattle.commands.specs.declared.Due.TheVariants as D
-use Rattle.commands.specs.declared.Read.{Read}
-use Rattle.commands.specs.declared.Read.TheVariants as R
-use Rattle.commands.specs.Commands.{name_at, Form, plain, forms, form_of, width, made, name_in, text_byte, field_byte, end_byte, stands, bad_command, bad_name, bad_key, read_command}
+use Rattle.commands.specs.Commands.{name_at, Form, plain, forms, form_of, width, made, name_in, text_byte, field_byte, end_byte, stands, bad_command, bad_name, bad_key, read_command, Read, refused_at}
 
 -- the byte of each command
 abbrev pub byte_of : Command → ℕ
@@ -114,8 +112,14 @@ unfolding when◌then◌else◌
 went_on true a b x e n k = absurd (n e)
 went_on false a b x e n k = k refl e
 
-refused : (refusal : Refusal) (place next : ℕ) (command : Command) → R.Refused refusal place ≡ R.Command command next → ⊥
+refused : (refusal : Refusal) (place next : ℕ) (command : Command) → refused_at {A = Command × ℕ} refusal place ≡ Ok (command, next) → ⊥
 refused refusal place next command e = let z : ◌≡◌ {A = ℕ} 0 1 = cc in omega arith
+
+-- equal commands that were read, and the offsets behind them
+pub same_read : {P : Type 0} {c d : Command} {b n : ℕ} → ◌≡◌ {A = Read} (Ok (c, b)) (Ok (d, n)) → (c ≡ d → b ≡ n → P) → P
+same_read {c = c} {d = d} {b = b} {n = n} e k =
+    let p : ◌≡◌ {A = Command × ℕ} (c, b) (d, n) = cc in
+    k (ap (λ (q : Command × ℕ). q.0) p) (ap (λ (q : Command × ℕ). q.1) p)
 
 none_passed :
     {P : Type 0} (s t u v : Bool) → (s || t || u || v) ≡ false → (s ≡ false → t ≡ false → u ≡ false → v ≡ false → P) → P
@@ -156,22 +160,20 @@ module _ (commands text : List ℕ) (at : ℕ) (due : Due) where
         behind = refl;
       }
 
-  pub good : (command : Command) (next : ℕ) → read_command commands text at due ≡ R.Command command next → Good commands text at due command next
+  pub good : (command : Command) (next : ℕ) → read_command commands text at due ≡ Ok (command, next) → Good commands text at due command next
   unfolding read_command
   good command next h =
       went_on _ _ _ _ h (refused _ _ _ _) λ e h₁.
       went_on _ _ _ _ h₁ (refused _ _ _ _) λ f h₂.
       went_on _ _ _ _ h₂ (refused _ _ _ _) λ g h₃.
-      let c : made (form_of (get_or commands at 0)) commands (at + 1) ≡ command = cc in
-      let n : at + width (form_of (get_or commands at 0)) ≡ next = cc in
-      rw (← c, ← n) (good_made e f g)
+      same_read h₃ λ c n. rw (← c, ← n) (good_made e f g)
 
 -- a refusal's place is the offset where something was due
 RefusedAt : ℕ → Read → Type 0
-RefusedAt at (R.Command command next) = Unit {0}
-RefusedAt at (R.Refused refusal place) = place ≡ at
+RefusedAt at (Ok (command, next)) = Unit {0}
+RefusedAt at (Err e) = e.place ≡ at
 
-pub refused_place : (commands text : List ℕ) (at : ℕ) (due : Due) (refusal : Refusal) (place : ℕ) → read_command commands text at due ≡ R.Refused refusal place → place ≡ at
+pub refused_place : (commands text : List ℕ) (at : ℕ) (due : Due) (refusal : Refusal) (place : ℕ) → read_command commands text at due ≡ refused_at refusal place → place ≡ at
 unfolding read_command RefusedAt
 refused_place commands text at due refusal place e =
     let P : Read → Type 0 = RefusedAt at in
@@ -188,24 +190,24 @@ module _ (commands text : List ℕ) (at : ℕ) (due : Due) (byte : ℕ) (is : ge
   whole = rw (is, lt-leb (length commands) at (omega arith), lt-leb (length forms) byte small, le-ltb (length commands) (at + width (form_of byte)) fits, s)
 
   pub read_made : bad_name text (name_in (form_of byte) commands (at + 1)) ≡ false → bad_key due byte ≡ false →
-      read_command commands text at due ≡ R.Command (made (form_of byte) commands (at + 1)) (at + width (form_of byte))
+      read_command commands text at due ≡ Ok (made (form_of byte) commands (at + 1), at + width (form_of byte))
   unfolding read_command when◌then◌else◌
   read_made n k = rw (whole, is, n, k)
 
-  pub read_misnamed : bad_name text (name_in (form_of byte) commands (at + 1)) ≡ true → read_command commands text at due ≡ R.Refused F.BadName at
+  pub read_misnamed : bad_name text (name_in (form_of byte) commands (at + 1)) ≡ true → read_command commands text at due ≡ refused_at F.BadName at
   unfolding read_command when◌then◌else◌
   read_misnamed n = rw (whole, is, n)
 
 -- where no end stands, a field that is due is one (16), and a key under map_as_struct is text (0D), with the name behind the byte
 module _ (commands text : List ℕ) (at : ℕ) (command : Command) (next : ℕ) (no_end : eqb (get_or commands at 0) end_byte ≡ false) where
-  pub field_due : read_command commands text at D.FieldOrEnd ≡ R.Command command next → command ≡ C.Field (name_at commands (at + 1))
+  pub field_due : read_command commands text at D.FieldOrEnd ≡ Ok (command, next) → command ≡ C.Field (name_at commands (at + 1))
   unfolding made form_of
   field_due e =
       let g : Good commands text at D.FieldOrEnd command next = good commands text at D.FieldOrEnd command next e in
       cases (eqb (get_or commands at 0) field_byte) (λ f. rw (eqb-true (get_or commands at 0) field_byte f) at g.form)
       (λ f. absurd (false≢true (rw (g.byte, f, no_end) at g.standing)))
 
-  pub key_due : read_command commands text at D.KeyOrEnd ≡ R.Command command next → command ≡ C.Text (name_at commands (at + 1))
+  pub key_due : read_command commands text at D.KeyOrEnd ≡ Ok (command, next) → command ≡ C.Text (name_at commands (at + 1))
   unfolding made form_of
   key_due e =
       let g : Good commands text at D.KeyOrEnd command next = good commands text at D.KeyOrEnd command next e in
@@ -213,7 +215,7 @@ module _ (commands text : List ℕ) (at : ℕ) (command : Command) (next : ℕ) 
       (λ f. absurd (true≢false (rw (g.byte, f, no_end) at g.key)))
 
 -- the same of an answer that reading gave
-module _ (commands text : List ℕ) (at : ℕ) (due : Due) (answer : Read) (command : Command) (next : ℕ) (e : answer ≡ read_command commands text at due) (h : answer ≡ R.Command command next) where
+module _ (commands text : List ℕ) (at : ℕ) (due : Due) (answer : Read) (command : Command) (next : ℕ) (e : answer ≡ read_command commands text at due) (h : answer ≡ Ok (command, next)) where
   pub read_good : Good commands text at due command next
   read_good = good commands text at due command next (sym e ∙ h)
 

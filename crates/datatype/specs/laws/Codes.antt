@@ -1,14 +1,13 @@
 -- Laws of the codes of types.
-use Rattle.std.specs.Prelude.{◌≡◌, refl}
+use Rattle.std.specs.Prelude.{◌≡◌, refl, Ok}
 use Rattle.std.proofs.Common.{ap}
 use Rattle.datatype.specs.declared.Zone.TheVariants as Z
 use Rattle.datatype.specs.declared.DataType.{DataType}
 use Rattle.datatype.specs.declared.DataType.TheVariants as D
-use Rattle.datatype.specs.declared.Decoded.TheVariants as E
 use Rattle.datatype.specs.Codes.{code_of, decoded}
 
 -- a type is found again by its code
-pub decoded_code : (t : DataType) → decoded (code_of t) ≡ E.Type t
+pub decoded_code : (t : DataType) → decoded (code_of t) ≡ Ok t
 unfolding decoded
 decoded_code D.Null = refl
 decoded_code D.Boolean = refl

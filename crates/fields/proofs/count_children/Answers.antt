@@ -1,40 +1,30 @@
 -- `count_children`: the children that are left count the same as all of them.
-use borrow.Author.Rules.{rules}
-use borrow.Author.Tests.{ne_eqb}
-use mathlib.Core.Path.{◌≡◌}
-use mathlib.Core.Bool.{false}
-use mathlib.Core.List.{List}
-use Prim.Native.Nat.{ℕ, zero, suc, ◌-◌, ◌<◌, ◌≤◌}
-use native.Mathlib.Omega.{arith}
+use Rattle.std.proofs.Common.{◌≡◌, ℕ, suc, ◌+◌, ◌-◌, ◌<◌, ◌≤◌, false, List, arith, rules, ne_eqb}
 use Rattle.places.specs.Reading.{next_child}
 use Rattle.fields.specs.Fields.{count_with, count_from}
 use Rattle.fields.proofs.count_children.Goals as goal
 
-module _ (t : List ℕ) (kind place count child whole : ℕ) where
-  spent : (left : ℕ) → count_from t kind place left count child ≡ whole → left ≤ 0 → count ≡ whole
+-- where `i` children were before this one
+module _ (t : List ℕ) (kind place most i count child whole : ℕ) (w : count_from t kind place (most - i) count child ≡ whole) where
+  spent : most ≤ i → count ≡ whole
   unfolding count_from
-  spent zero w h = w
-  spent (suc n) w h = absurd (omega arith)
+  spent h = let l : most - i ≡ 0 = omega arith in rw (l, count_from) at w
 
-  ended : (left : ℕ) → count_from t kind place left count child ≡ whole → child ≡ 0 → count ≡ whole
+  ended : i < most → child ≡ 0 → count ≡ whole
   unfolding count_from
-  ended zero w e = w
-  ended (suc n) w e = rw e at w
+  ended h e = let l : most - i ≡ suc (most - (i + 1)) = omega arith in rw (l, e, count_from) at w
 
-  next : (left further following : ℕ) → count_from t kind place left count child ≡ whole → 0 < left → (child ≡ 0 → ⊥) →
-      further ≡ count_with kind t child count → following ≡ next_child t false kind place child → count_from t kind place (left - 1) further following ≡ whole
+  next : (further following : ℕ) → i < most → (child ≡ 0 → ⊥) → further ≡ count_with kind t child count → following ≡ next_child t false kind place child →
+      count_from t kind place (most - (i + 1)) further following ≡ whole
   unfolding count_from
-  next zero further following w h n f g = absurd (omega arith)
-  next (suc m) further following w h n f g = let l : suc m - 1 ≡ m = omega arith in rw (l, f, g) (rw (ne_eqb child 0 n, count_from) at w)
-
-pub loop-left-init : goal.loop-left-init
-loop-left-init c = (rw c.next_child-child.ensures.0, search rules)
+  next further following h n f g =
+      let l : most - i ≡ suc (most - (i + 1)) = omega arith in rw (f, g) (rw (l, count_from, ne_eqb child 0 n) at w)
 
 pub returns-then-child-eq0 : goal.returns-then-child-eq0
 returns-then-child-eq0 c = search (ended, rules)
 
-pub loop-left-preserved : goal.loop-left-preserved
-loop-left-preserved c = (search (next, rules), search rules)
+pub loop-preserved : goal.loop-preserved
+loop-preserved c = record { same_whole = search (next, rules); child_row = search rules }
 
 pub returns : goal.returns
 returns c = search (spent, rules)

@@ -1,5 +1,5 @@
 -- `add` appends a child, gives it its tag and enters it into the search tree, where there is room.
-use Rattle.std.proofs.Common.{◌≡◌, ℕ, ◌+◌, ◌<◌, ◌≤◌, List, rules, le-leb}
+use Rattle.std.proofs.Common.{◌≡◌, ℕ, ◌+◌, ◌<◌, ◌≤◌, List, Ok, Err, rules, le-leb}
 use borrow.Author.Tests.{lt-leb}
 use Rattle.logic.specs.Test.{when◌then◌else◌}
 use Rattle.refusal.specs.declared.Refusal.TheVariants as F
@@ -9,21 +9,20 @@ use Rattle.text.specs.Tag.{tag_of}
 use Rattle.words.specs.Word.{with_word}
 use Rattle.model.specs.Tracing.{place_limit}
 use Rattle.shapes.specs.Steps.{Good}
-use Rattle.growth.specs.declared.Ensured.TheVariants as E
 use Rattle.places.specs.Layout.{tag_word, position_word, Sound, Ready}
-use Rattle.growth.specs.Growth.{appended, position_in, tagged, ensuring, ensured_by, entered}
+use Rattle.growth.specs.Growth.{found, appended, position_in, tagged, ensuring, ensured_by, entered}
 use Rattle.growth.specs.laws.Growth.{sound_tagged, sound_entered}
 use Rattle.growth.specs.laws.Growth.{last_small}
 use Rattle.growth.proofs.add.Goals as goal
 
 module _ (text t : List ℕ) (n place code : ℕ) (name : Name) where
-  full : place_limit ≤ n → ensuring (E.Refused F.TooManyPlaces) t ≡ ensured_by text place code name n t 0
+  full : place_limit ≤ n → ensuring (Err F.TooManyPlaces) t ≡ ensured_by text place code name n t 0
   unfolding ensured_by when◌then◌else◌
   full m = rw (le-leb place_limit n m)
 
   module _ (u v x w : List ℕ) (tag position : ℕ) (room : n < place_limit) (i : position ≡ position_in place t) (a : u ≡ appended place code name n t)
       (b : tag ≡ tag_of (bytes_of text name)) (d : v ≡ with_word u n tag_word tag) (g : x ≡ with_word v n position_word position) (f : w ≡ entered place code n x) where
-    new : ensuring (E.Child n (n + 1)) w ≡ ensured_by text place code name n t 0
+    new : ensuring (Ok (found n (n + 1))) w ≡ ensured_by text place code name n t 0
     unfolding ensured_by tagged when◌then◌else◌
     new = rw (lt-leb place_limit n room, f, g, i, d, b, a)
 
@@ -36,10 +35,10 @@ pub returns-then-count-ge-PLACES : goal.returns-then-count-ge-PLACES
 returns-then-count-ge-PLACES c = (search (full, rules), tt)
 
 pub next_position-position-requires : goal.next_position-position-requires
-next_position-position-requires c = (search rules, search rules, search (last_small, rules))
+next_position-position-requires c = (search rules, search (last_small, rules))
 
 pub append-requires : goal.append-requires
-append-requires c = (search rules, search rules, search rules, search (last_small, rules))
+append-requires c = (search rules, search rules, search (last_small, rules))
 
 pub returns : goal.returns
 returns c =

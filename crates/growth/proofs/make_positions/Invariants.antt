@@ -10,6 +10,3 @@ rest place positions i n t = appended_from place i (positions - i) n t
 
 abbrev pub invariant-loop-i : goal.invariant-loop-i
 invariant-loop-i l = (rest l.place l.positions l.i l.places l.table ≡ appended_from l.place 0 l.positions l.count l.initial.table) × Ready l.text l.table l.places l.place × (length l.table ≡ length l.initial.table)
-
-abbrev pub decreases-loop-i : goal.decreases-loop-i
-decreases-loop-i l = l.positions - l.i

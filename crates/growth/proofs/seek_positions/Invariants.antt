@@ -10,6 +10,3 @@ rest text place positions i n t = made_all text place (positions_from i (positio
 
 abbrev pub invariant-loop-i : goal.invariant-loop-i
 invariant-loop-i l = (rest l.text l.place l.positions l.i l.places l.table ≡ made_all l.text l.place (positions_from 0 l.positions) l.count l.initial.table) × Ready l.text l.table l.places l.place × (length l.table ≡ length l.initial.table)
-
-abbrev pub decreases-loop-i : goal.decreases-loop-i
-decreases-loop-i l = l.positions - l.i

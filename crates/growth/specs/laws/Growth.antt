@@ -1,5 +1,5 @@
 -- Laws of new places: the table stays sound, and there are never fewer places.
-use Rattle.std.specs.Prelude.{◌≡◌, ℕ, zero, suc, ◌+◌, ◌/◌, ◌%◌, ◌<◌, ◌≤◌, Bool, true, false, not, ◌&&◌, ◌||◌, List, [], ◌∷◌, length, ◌==◌, ◌≢◌, nat_le}
+use Rattle.std.specs.Prelude.{◌≡◌, ℕ, zero, suc, ◌+◌, ◌/◌, ◌%◌, ◌<◌, ◌≤◌, Bool, true, false, not, ◌&&◌, ◌||◌, List, [], ◌∷◌, length, ◌==◌, ◌≢◌, nat_le, Ok, Err}
 use Rattle.std.proofs.Math.Path.{refl}
 use Rattle.std.proofs.Common.{ap, sym, ◌∙◌, le_refl}
 use Rattle.std.proofs.lemmas.Bool.{false≢true}
@@ -20,12 +20,9 @@ use Rattle.model.specs.Kinds.{sequence_kind, map_kind, tuple_kind}
 use Rattle.model.specs.Tracing.{place_limit}
 use Rattle.shapes.specs.declared.Step.{Step}
 use Rattle.shapes.specs.Steps.{field_code, name_of, packed_name, unpacked_name, Inside, Good}
-use Rattle.growth.specs.declared.Ensured.{Ensured}
-use Rattle.growth.specs.declared.Ensured.TheVariants as E
-use Rattle.growth.specs.declared.Made.{Made}
-use Rattle.growth.specs.declared.Made.TheVariants as D
+use Rattle.growth.specs.declared.Found.{Found}
 use Rattle.places.specs.Layout.{kind_word, samples_word, first_word, last_word, block_word, next_word, parent_word, step_word, name_word, held_word, mark_word, tag_word, position_word, Linked, Siblings, Sound, Ready}
-use Rattle.growth.specs.Growth.{linked, lengthened, described, appended, tagged, Ensuring, ensuring, confirmed, ensured_by, ensured, touched, sampled, Making, making, of_ensuring, made_one, then_made, made_all, appended_from, positions_made, made, SoundEnsured, SoundMade, entered}
+use Rattle.growth.specs.Growth.{linked, lengthened, described, appended, tagged, Ensured, Made, Ensuring, ensuring, confirmed, ensured_by, ensured, touched, sampled, Making, making, of_ensuring, made_one, then_made, made_all, appended_from, positions_made, made, SoundEnsured, SoundMade, entered}
 use Rattle.search.specs.Search.{child_at}
 use Rattle.search.specs.laws.Tree.{seek_ends}
 use Rattle.search.specs.Tree.{is_numbered}
@@ -295,16 +292,16 @@ module _ (text t : List ℕ) (n place : ℕ) (ready : Ready text t n place) (roo
 
 -- what is said of a child and the count of places, where there is one
 abbrev pub OnChild : (ℕ → ℕ → Type 0) → Ensuring → Type 0
-OnChild P (ensuring (E.Child child m) u) = P child m
-OnChild P (ensuring (E.Refused refusal) u) = Unit {0}
+OnChild P (ensuring (Ok f) u) = P f.child f.count
+OnChild P (ensuring (Err refusal) u) = Unit {0}
 
 abbrev pub OnPlaces : (ℕ → Type 0) → Making → Type 0
-OnPlaces P (making (D.Places m) u) = P m
-OnPlaces P (making (D.Refused refusal) u) = Unit {0}
+OnPlaces P (making (Ok m) u) = P m
+OnPlaces P (making (Err refusal) u) = Unit {0}
 
 -- a child that was ensured is ready
-pub child_ready : (text u : List ℕ) (r : Ensured) (child m : ℕ) → SoundEnsured text u r → r ≡ E.Child child m → Ready text u m child
-child_ready text u r child m s p = let h : Sound text u m × (child < m) = rw p at s in record { sound = h.0; here = h.1 }
+pub child_ready : (text u : List ℕ) (r : Ensured) (f : Found) → SoundEnsured text u r → r ≡ Ok f → Ready text u f.count f.child
+child_ready text u r f s p = let h : Sound text u f.count × (f.child < f.count) = rw p at s in record { sound = h.0; here = h.1 }
 
 module _ (text t : List ℕ) (n place : ℕ) (step : Step) where
   abbrev sought : ℕ
@@ -313,17 +310,17 @@ module _ (text t : List ℕ) (n place : ℕ) (step : Step) where
   -- it is the child found, or place n
   ensured_says : (P : ℕ → ℕ → Type 0) → ((sought ≢ 0) → P sought n) → P n (n + 1) → OnChild P (ensured text place step n t)
   unfolding ensured ensured_by confirmed when◌then◌else◌
-  ensured_says P found new =
+  ensured_says P known new =
       cases (sought == 0)
       (λ e. rw e (if_either (OnChild P) (nat_le place_limit n) tt new))
-      (λ e. rw e (if_either (λ r. OnChild P (ensuring r t)) (eq_name (bytes_of text (unpacked_name (word t sought name_word))) (bytes_of text (name_of step))) (found (eqb-false sought 0 e)) tt))
+      (λ e. rw e (if_either (λ r. OnChild P (ensuring r t)) (eq_name (bytes_of text (unpacked_name (word t sought name_word))) (bytes_of text (name_of step))) (known (eqb-false sought 0 e)) tt))
 
   -- there are never fewer places than before
   pub ensured_more : OnChild (λ child m. n ≤ m) (ensured text place step n t)
   ensured_more = ensured_says (λ child m. n ≤ m) (λ z. le_refl n) (omega arith)
 
-  module _ (r : Ensured) (u : List ℕ) (child m : ℕ) (e : ensuring r u ≡ ensured text place step n t) (p : r ≡ E.Child child m) where
-    pub ensured_grows : n ≤ m
+  module _ (r : Ensured) (u : List ℕ) (f : Found) (e : ensuring r u ≡ ensured text place step n t) (p : r ≡ Ok f) where
+    pub ensured_grows : n ≤ f.count
     ensured_grows = rw (← e, p) at ensured_more
 
 made_more : (text : List ℕ) (place : ℕ) (steps : List Step) (n : ℕ) (t : List ℕ) → OnPlaces (λ m. n ≤ m) (made_all text place steps n t)
@@ -333,12 +330,12 @@ made_more text place (s ∷ ss) n t = go (λ k u. made_more text place ss k u) (
   where
     go : ((k : ℕ) (u : List ℕ) → OnPlaces (λ m. k ≤ m) (made_all text place ss k u)) → (x : Ensuring) → OnChild (λ child m. n ≤ m) x →
         OnPlaces (λ m. n ≤ m) (then_made (of_ensuring x) (made_all text place ss))
-    go ih (ensuring (E.Child child k) u) h = up (made_all text place ss k u) (ih k u)
+    go ih (ensuring (Ok f) u) h = up (made_all text place ss f.count u) (ih f.count u)
       where
-        up : (y : Making) → OnPlaces (λ m. k ≤ m) y → OnPlaces (λ m. n ≤ m) y
-        up (making (D.Places m) v) l = omega arith
-        up (making (D.Refused refusal) v) l = tt
-    go ih (ensuring (E.Refused refusal) u) h = tt
+        up : (y : Making) → OnPlaces (λ m. f.count ≤ m) y → OnPlaces (λ m. n ≤ m) y
+        up (making (Ok m) v) l = omega arith
+        up (making (Err refusal) v) l = tt
+    go ih (ensuring (Err refusal) u) h = tt
 
 appended_more : (place i left n : ℕ) (t : List ℕ) → OnPlaces (λ m. n ≤ m) (appended_from place i left n t)
 unfolding appended_from
@@ -347,8 +344,8 @@ appended_more place i (suc left) n t =
     if_either (OnPlaces (λ m. n ≤ m)) (nat_le place_limit n) tt (up (appended_from place (suc i) left (n + 1) _) (appended_more place (suc i) left (n + 1) _))
   where
     up : (x : Making) → OnPlaces (λ m. n + 1 ≤ m) x → OnPlaces (λ m. n ≤ m) x
-    up (making (D.Places m) u) l = omega arith
-    up (making (D.Refused refusal) u) l = tt
+    up (making (Ok m) u) l = omega arith
+    up (making (Err refusal) u) l = tt
 
 pub all_more : (text t : List ℕ) (place kind positions before n : ℕ) → OnPlaces (λ m. n ≤ m) (made text place kind positions before n t)
 unfolding made positions_made
@@ -362,12 +359,12 @@ all_more text t place kind positions before n =
     More : Making → Type 0
     More = OnPlaces (λ m. n ≤ m)
 
-    stored : (x : Making) → More x → More (then_made x (λ m u. making (D.Places m) (with_word u place block_word positions)))
-    stored (making (D.Places m) u) l = l
-    stored (making (D.Refused refusal) u) l = tt
+    stored : (x : Making) → More x → More (then_made x (λ m u. making (Ok m) (with_word u place block_word positions)))
+    stored (making (Ok m) u) l = l
+    stored (making (Err refusal) u) l = tt
 
 -- the place that children were made for is still one
-still_ready : (text t u : List ℕ) (n m place : ℕ) (r : Made) → Ready text t n place → n ≤ m → SoundMade text u r → r ≡ D.Places m → Ready text u m place
+still_ready : (text t u : List ℕ) (n m place : ℕ) (r : Made) → Ready text t n place → n ≤ m → SoundMade text u r → r ≡ Ok m → Ready text u m place
 still_ready text t u n m place r ready l s p = let h : place < n = ready.here in record { sound = rw p at s; here = omega arith }
 
 pub made_single : (text t : List ℕ) (n place : ℕ) (step : Step) → made_all text place (step ∷ []) n t ≡ made_one text place step n t
@@ -375,20 +372,20 @@ unfolding made_all
 made_single text t n place step = go (made_one text place step n t)
   where
     go : (x : Making) → then_made x (made_all text place []) ≡ x
-    go (making (D.Places m) u) = refl
-    go (making (D.Refused refusal) u) = refl
+    go (making (Ok m) u) = refl
+    go (making (Err refusal) u) = refl
 
 -- one child after another
 module _ (text t u : List ℕ) (n place : ℕ) (step : Step) (r : Made) (one : making r u ≡ made_one text place step n t) where
-  pub one_ready : (m : ℕ) → Ready text t n place → SoundMade text u r → r ≡ D.Places m → Ready text u m place
+  pub one_ready : (m : ℕ) → Ready text t n place → SoundMade text u r → r ≡ Ok m → Ready text u m place
   unfolding made_all
   one_ready m ready s p = still_ready text t u n m place r ready (rw (made_single text t n place step, ← one, p) at (made_more text place (step ∷ []) n t)) s p
 
-  pub made_first : (steps : List Step) (m : ℕ) → r ≡ D.Places m → made_all text place (step ∷ steps) n t ≡ made_all text place steps m u
+  pub made_first : (steps : List Step) (m : ℕ) → r ≡ Ok m → made_all text place (step ∷ steps) n t ≡ made_all text place steps m u
   unfolding made_all
   made_first steps m p = rw (← one, p)
 
-  pub made_stops : (steps : List Step) (refusal : Refusal) → r ≡ D.Refused refusal → made_all text place (step ∷ steps) n t ≡ making (D.Refused refusal) u
+  pub made_stops : (steps : List Step) (refusal : Refusal) → r ≡ Err refusal → made_all text place (step ∷ steps) n t ≡ making (Err refusal) u
   unfolding made_all
   made_stops steps refusal p = rw (← one, p)
 

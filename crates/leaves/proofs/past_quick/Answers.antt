@@ -12,11 +12,11 @@ returns-then-is_same c = search (quick_same, rules)
 pub returns-in_default : goal.returns-in_default
 returns-in_default c = search (quick_other, rules)
 
-pub returns-then-null : goal.returns-then-null
-returns-then-null c = search (quick_null, rules)
+pub returns-then-leaf : goal.returns-then-leaf
+returns-then-leaf c = quick_null _ _ _ _ _ _ _ c.leaf_at.ensures _ _ _ c.in-Some.is _ c.if-leaf.true c.set.ensures
 
-pub returns-then-get-kind : goal.returns-then-get-kind
-returns-then-get-kind c = quick_known _ _ _ _ _ _ _ c.leaf_at.ensures _ _ _ c.in-Value.is _ c.get.ensures c.if-null.false c.if-get-kind.true
+pub returns-then-get-leaf : goal.returns-then-get-leaf
+returns-then-get-leaf c = quick_known _ _ _ _ _ _ _ c.leaf_at.ensures _ _ _ c.in-Some.is _ c.get.ensures c.if-leaf.false c.if-get-leaf.true
 
 pub returns : goal.returns
-returns c = quick_changes _ _ _ _ _ _ _ c.leaf_at.ensures _ _ _ c.in-Value.is _ c.get.ensures c.if-null.false c.if-get-kind.false
+returns c = quick_changes _ _ _ _ _ _ _ c.leaf_at.ensures _ _ _ c.in-Some.is _ c.get.ensures c.if-leaf.false c.if-get-leaf.false

@@ -1,16 +1,14 @@
 -- Laws of a primitive at a place: kinds that met, a value of the type that is there, and the table that stays sound.
-use Rattle.std.specs.Prelude.{◌≡◌, Bool, true, false, not, ◌&&◌, List, ℕ, ◌<◌, eqb, ltb}
+use Rattle.std.specs.Prelude.{◌≡◌, Bool, true, false, not, ◌&&◌, List, ℕ, ◌<◌, eqb, ltb, Result, Ok, Err}
 use Rattle.std.proofs.Math.Path.{refl}
 use Rattle.std.proofs.Common.{sym, ◌∙◌}
 use Rattle.refusal.specs.declared.Refusal.{Refusal}
+use Rattle.commands.specs.Commands.{refused_at}
 use Rattle.words.specs.Word.{word}
 use Rattle.words.specs.laws.Word.{with_word_lem}
-use Rattle.kinds.specs.declared.Met.{Met}
-use Rattle.kinds.specs.declared.Met.TheVariants as M
 use Rattle.places.specs.Layout.{kind_word}
 use Rattle.kinds.specs.Meeting.{meeting}
-use Rattle.leaves.specs.declared.Traced.TheVariants as T
-use Rattle.leaves.specs.Leaves.{Out, out, on_met, stored, observed, is_known}
+use Rattle.leaves.specs.Leaves.{traced_to, Out, out, on_met, stored, observed, is_known}
 use borrow.Author.Tests.{eqb-true, eq-eqb, ne_eqb, lt-leb, ltb-true, not-true}
 use Rattle.logic.specs.Test.{when◌then◌else◌}
 use Rattle.logic.specs.laws.Test.{both}
@@ -18,21 +16,21 @@ use Rattle.coerce.specs.laws.Joined.{joint_same}
 use Rattle.model.specs.Kinds.{sequence_kind}
 
 -- ---- kinds that met
-module _ (options levels before kind place : ℕ) (t : List ℕ) (met : Met) (b : before ≡ word t place kind_word) (m : met ≡ meeting options levels before kind) where
-  on_kind : (here joint : ℕ) (k : ℕ → Out) → met ≡ M.Kind joint → k joint ≡ on_met here t k (meeting options levels (word t place kind_word) kind)
+module _ (options levels before kind place : ℕ) (t : List ℕ) (met : Result ℕ Refusal) (b : before ≡ word t place kind_word) (m : met ≡ meeting options levels before kind) where
+  on_kind : (here joint : ℕ) (k : ℕ → Out) → met ≡ Ok joint → k joint ≡ on_met here t k (meeting options levels (word t place kind_word) kind)
   on_kind here joint k e = rw (← b, ← m, e) refl
 
-  on_refused : (here : ℕ) (refusal : Refusal) (k : ℕ → Out) → met ≡ M.Refused refusal → out (T.Refused refusal here) t ≡ on_met here t k (meeting options levels (word t place kind_word) kind)
+  on_refused : (here : ℕ) (refusal : Refusal) (k : ℕ → Out) → met ≡ Err refusal → out (refused_at refusal here) t ≡ on_met here t k (meeting options levels (word t place kind_word) kind)
   on_refused here refusal k e = rw (← b, ← m, e) refl
 
-  pub observe_kind : (is_null : Bool) (here behind n joint : ℕ) (u : List ℕ) → met ≡ M.Kind joint → u ≡ stored is_null joint place t →
-      out (T.Next behind n) u ≡ observed options is_null kind levels here behind place n t
+  pub observe_kind : (is_null : Bool) (here behind n joint : ℕ) (u : List ℕ) → met ≡ Ok joint → u ≡ stored is_null joint place t →
+      out (traced_to behind n) u ≡ observed options is_null kind levels here behind place n t
   unfolding observed
-  observe_kind is_null here behind n joint u e s = rw s (on_kind here joint (λ j. out (T.Next behind n) (stored is_null j place t)) e)
+  observe_kind is_null here behind n joint u e s = rw s (on_kind here joint (λ j. out (traced_to behind n) (stored is_null j place t)) e)
 
-  pub observe_refused : (is_null : Bool) (here behind n : ℕ) (refusal : Refusal) → met ≡ M.Refused refusal → out (T.Refused refusal here) t ≡ observed options is_null kind levels here behind place n t
+  pub observe_refused : (is_null : Bool) (here behind n : ℕ) (refusal : Refusal) → met ≡ Err refusal → out (refused_at refusal here) t ≡ observed options is_null kind levels here behind place n t
   unfolding observed
-  observe_refused is_null here behind n refusal e = on_refused here refusal (λ j. out (T.Next behind n) (stored is_null j place t)) e
+  observe_refused is_null here behind n refusal e = on_refused here refusal (λ j. out (traced_to behind n) (stored is_null j place t)) e
 
 -- ---- one test of a known type after the other
 module _ (is_null : Bool) (before kind : ℕ) where
@@ -50,19 +48,19 @@ module _ (is_null : Bool) (before kind : ℕ) where
     known_same d = rw (e, eq-eqb before kind d) refl
 
 -- a type meets itself, and is stored where it stood
-meets_itself : (options levels kind : ℕ) → kind < sequence_kind → M.Kind kind ≡ meeting options levels kind kind
+meets_itself : (options levels kind : ℕ) → kind < sequence_kind → Ok kind ≡ meeting options levels kind kind
 unfolding meeting when◌then◌else◌
 meets_itself options levels kind h = rw (lt-leb sequence_kind kind h, joint_same options kind) refl
 
 pub observed_again : (options kind levels here behind place n : ℕ) (t : List ℕ) → word t place kind_word ≡ kind → kind < sequence_kind →
-    out (T.Next behind n) t ≡ observed options false kind levels here behind place n t
+    out (traced_to behind n) t ≡ observed options false kind levels here behind place n t
 unfolding stored when◌then◌else◌
 observed_again options kind levels here behind place n t e h =
-    observe_kind options levels kind kind place t (M.Kind kind) (sym e) (meets_itself options levels kind h) false here behind n kind t refl (sym (rw e at (with_word_lem t place kind_word)))
+    observe_kind options levels kind kind place t (Ok kind) (sym e) (meets_itself options levels kind h) false here behind n kind t refl (sym (rw e at (with_word_lem t place kind_word)))
 
 pub observe_known : (options : ℕ) (is_null : Bool) (before kind levels here behind place n : ℕ) (t : List ℕ) (known : Bool) →
     before ≡ word t place kind_word → known ≡ is_known is_null before kind → known ≡ true →
-    out (T.Next behind n) t ≡ observed options is_null kind levels here behind place n t
+    out (traced_to behind n) t ≡ observed options is_null kind levels here behind place n t
 unfolding is_known
 observe_known options is_null before kind levels here behind place n t known b k e =
     both (not is_null && eqb before kind) (ltb kind sequence_kind) (sym k ∙ e) λ p small.

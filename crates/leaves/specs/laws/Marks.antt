@@ -10,15 +10,13 @@ use Rattle.logic.specs.Turns.{Turn, again, done}
 use Rattle.logic.specs.laws.Turns.{Says, Falls, holds, goes_on, ends}
 use Rattle.leaves.specs.Marks.{Chain, chain, is_mark, past_turn, past_marks, marked, some_byte}
 use Rattle.logic.specs.laws.Flag.{if_either}
+use Rattle.refusal.specs.declared.Refusal.{Refusal}
 use Rattle.words.specs.Word.{word}
-use Rattle.kinds.specs.declared.Met.{Met}
-use Rattle.kinds.specs.declared.Met.TheVariants as M
+use Rattle.std.specs.Prelude as M
 use Rattle.places.specs.Layout.{kind_word, null_word, Sound, Ready}
 use Rattle.kinds.specs.Meeting.{meeting}
 use Rattle.places.specs.laws.Layout.{sound_plain}
-use Rattle.leaves.specs.declared.Traced.{Traced}
-use Rattle.leaves.specs.declared.Traced.TheVariants as T
-use Rattle.leaves.specs.Leaves.{Out, out, on_met, stored, observed, SoundTraced}
+use Rattle.leaves.specs.Leaves.{Outcome, traced_to, Out, out, on_met, stored, observed, SoundTraced}
 
 -- ---- the marks before a value
 pub turn_has : {S R : Type 0} (P : S → Type 0) (Q : R → Type 0) (t : Bool) (a b : Turn S R) → (t ≡ true → Says P Q a) → (t ≡ false → Says P Q b) → Says P Q (when t then a else b)
@@ -94,7 +92,7 @@ module _ (text t : List ℕ) (n place : ℕ) (ready : Ready text t n place) wher
           h
 
   -- a primitive
-  pub observed_sound : (options : ℕ) (is_null : Bool) (kind levels here behind : ℕ) (r : Traced) (u : List ℕ) →
+  pub observed_sound : (options : ℕ) (is_null : Bool) (kind levels here behind : ℕ) (r : Outcome) (u : List ℕ) →
       out r u ≡ observed options is_null kind levels here behind place n t → SoundTraced text u n r
   unfolding observed stored
   observed_sound options is_null kind levels here behind r u e = rw (← e) at (go (meeting options levels (word t place kind_word) kind))
@@ -102,11 +100,11 @@ module _ (text t : List ℕ) (n place : ℕ) (ready : Ready text t n place) wher
       Ok : Out → Type 0
       Ok (out r x) = SoundTraced text x n r
 
-      go : (met : Met) → Ok (on_met here t (λ joint. out (T.Next behind n) (stored is_null joint place t)) met)
-      go (M.Kind joint) = (
+      go : (met : M.Result ℕ Refusal) → Ok (on_met here t (λ joint. out (traced_to behind n) (stored is_null joint place t)) met)
+      go (M.Ok joint) = (
         if_either (λ x. Sound text x n) is_null
             (sound_plain text _ n place null_word 1 refl ready.here (sound_plain text t n place kind_word joint refl ready.here ready.sound))
             (sound_plain text t n place kind_word joint refl ready.here ready.sound),
         le_refl n,
       )
-      go (M.Refused refusal) = tt
+      go (M.Err refusal) = tt

@@ -1,5 +1,5 @@
 -- Laws of the quick way: what each of its answers is, and that what it passes is observed so.
-use Rattle.std.specs.Prelude.{◌≡◌, Bool, ◌&&◌, List, ℕ, ◌+◌, ◌<◌, ltb}
+use Rattle.std.specs.Prelude.{◌≡◌, Bool, ◌&&◌, List, ℕ, ◌+◌, ◌<◌, ltb, Option, Some, None, Ok}
 use Rattle.std.proofs.Math.Path.{refl}
 use Rattle.std.proofs.Common.{sym, ap, ◌∙◌, arith}
 use Rattle.std.proofs.Math.Bool.{true, false}
@@ -14,15 +14,12 @@ use Rattle.words.specs.Word.{word, with_word}
 use Rattle.words.specs.laws.Word.{with_word_lem}
 use Rattle.model.specs.Kinds.{is_container}
 use Rattle.shapes.specs.declared.Leaf.{Leaf}
-use Rattle.shapes.specs.declared.Leaf.TheVariants as O
-use Rattle.shapes.specs.Leaf.{is_own_byte, leaf_at}
+use Rattle.shapes.specs.Leaf.{is_own_byte, leaf_at, leaf_of}
 use Rattle.shapes.specs.laws.Leaf.{LeafThere, leaf_there, leaf_above, leaf_untyped, own_leaf}
-use Rattle.kinds.specs.declared.Met.TheVariants as M
 use Rattle.kinds.specs.Meeting.{meeting}
 use Rattle.places.specs.Layout.{kind_word, null_word}
-use Rattle.leaves.specs.declared.Traced.TheVariants as T
 use Rattle.leaves.specs.Marks.{chain}
-use Rattle.leaves.specs.Leaves.{out, stored, observed}
+use Rattle.leaves.specs.Leaves.{traced_to, out, stored, observed}
 use Rattle.leaves.specs.laws.Leaves.{observe_kind, observed_again}
 use Rattle.leaves.specs.Quick.{same_at, quick_leaf, quick_at}
 
@@ -44,12 +41,12 @@ module _ (options : ℕ) (commands text : List ℕ) (at place : ℕ) (t : List �
       let there : at < length commands = ltb-true at (length commands) l in
       rw (← own_leaf options commands text at there (rw is own), eq-eqb (word t place kind_word) (get_or commands at 0) (sym is)) refl
 
-  module _ (leaf : Leaf) (l : leaf ≡ leaf_at options commands text at) where
-    pub quick_other : leaf ≡ O.Other → chain 0 t ≡ quick_at options commands text at place t
+  module _ (leaf : Option Leaf) (l : leaf ≡ leaf_at options commands text at) where
+    pub quick_other : leaf ≡ None → chain 0 t ≡ quick_at options commands text at place t
     unfolding quick_at
     quick_other e = rw (← l, e) refl
 
-    module _ (is_null : Bool) (kind behind : ℕ) (v : leaf ≡ O.Value is_null kind behind) where
+    module _ (is_null : Bool) (kind behind : ℕ) (v : leaf ≡ leaf_of is_null kind behind) where
       pub quick_null : (u : List ℕ) → is_null ≡ true → u ≡ with_word t place null_word 1 → chain behind u ≡ quick_at options commands text at place t
       unfolding quick_at when◌then◌else◌
       quick_null u e d = rw (← l, v, e, d) refl
@@ -64,30 +61,30 @@ module _ (options : ℕ) (commands text : List ℕ) (at place : ℕ) (t : List �
         quick_changes k = rw (← l, v, e, ← b, ne_eqb before kind k) refl
 
 -- ---- a null meets what is there, and leaves it so
-meets_null : (options levels kind : ℕ) → M.Kind kind ≡ meeting options levels kind null
+meets_null : (options levels kind : ℕ) → Ok kind ≡ meeting options levels kind null
 unfolding meeting when◌then◌else◌
 meets_null options levels kind = cases (is_container kind) (λ e. rw e refl) (λ e. rw (e, joint_null options kind) refl)
 
-observed_null : (options levels here behind place n : ℕ) (t : List ℕ) → out (T.Next behind n) (with_word t place null_word 1) ≡ observed options true null levels here behind place n t
+observed_null : (options levels here behind place n : ℕ) (t : List ℕ) → out (traced_to behind n) (with_word t place null_word 1) ≡ observed options true null levels here behind place n t
 unfolding stored when◌then◌else◌
 observed_null options levels here behind place n t =
-    observe_kind options levels (word t place kind_word) null place t (M.Kind (word t place kind_word)) refl (meets_null options levels (word t place kind_word))
+    observe_kind options levels (word t place kind_word) null place t (Ok (word t place kind_word)) refl (meets_null options levels (word t place kind_word))
     true here behind n (word t place kind_word) (with_word t place null_word 1) refl (sym (ap (λ (x : List ℕ). with_word x place null_word 1) (with_word_lem t place kind_word)))
 
 -- ---- what is passed is a leaf, and is observed so
 pub record Quick (options : ℕ) (commands text : List ℕ) (at place n : ℕ) (t : List ℕ) (behind : ℕ) (u : List ℕ) : Type 0 where
   pub is_null : Bool
   pub kind : ℕ
-  pub is : leaf_at options commands text at ≡ O.Value is_null kind behind
+  pub is : leaf_at options commands text at ≡ leaf_of is_null kind behind
   pub leaf : LeafThere options commands text at is_null kind behind
-  pub seen : (levels : ℕ) → out (T.Next behind n) u ≡ observed options is_null kind levels at behind place n t
+  pub seen : (levels : ℕ) → out (traced_to behind n) u ≡ observed options is_null kind levels at behind place n t
 
 module _ (options : ℕ) (commands text : List ℕ) (at place n : ℕ) (t : List ℕ) (behind : ℕ) (u : List ℕ) (some : behind ≡ 0 → ⊥) where
   nothing : chain behind u ≡ chain 0 t → Quick options commands text at place n t behind u
   nothing e = absurd (some cc)
 
-  by_value : (is_null : Bool) (kind next : ℕ) → leaf_at options commands text at ≡ O.Value is_null kind next → LeafThere options commands text at is_null kind next →
-      chain behind u ≡ quick_leaf place t (O.Value is_null kind next) → Quick options commands text at place n t behind u
+  by_value : (is_null : Bool) (kind next : ℕ) → leaf_at options commands text at ≡ leaf_of is_null kind next → LeafThere options commands text at is_null kind next →
+      chain behind u ≡ quick_leaf place t (leaf_of is_null kind next) → Quick options commands text at place n t behind u
   unfolding when◌then◌else◌
   by_value true kind next l there e =
       let b : next ≡ behind = cc in
@@ -116,9 +113,9 @@ module _ (options : ℕ) (commands text : List ℕ) (at place n : ℕ) (t : List
       })
       (λ q. nothing (rw q at e))
 
-  by_leaf : (leaf : Leaf) → leaf ≡ leaf_at options commands text at → chain behind u ≡ quick_leaf place t leaf → Quick options commands text at place n t behind u
-  by_leaf (O.Value is_null kind next) l e = by_value is_null kind next (sym l) (leaf_there options commands text at _ l is_null kind next refl) e
-  by_leaf O.Other l e = nothing e
+  by_leaf : (leaf : Option Leaf) → leaf ≡ leaf_at options commands text at → chain behind u ≡ quick_leaf place t leaf → Quick options commands text at place n t behind u
+  by_leaf (Some leaf) l e = by_value leaf.null leaf.kind leaf.next (sym l) (leaf_there options commands text at _ l leaf.null leaf.kind leaf.next refl) e
+  by_leaf None l e = nothing e
 
   pub quick_is : chain behind u ≡ quick_at options commands text at place t → Quick options commands text at place n t behind u
   unfolding quick_at
@@ -126,15 +123,19 @@ module _ (options : ℕ) (commands text : List ℕ) (at place n : ℕ) (t : List
 
 -- where nothing is passed the table is as it was
 module _ (options : ℕ) (commands text : List ℕ) (at place : ℕ) (t u : List ℕ) where
-  none_by : (leaf : Leaf) → leaf ≡ leaf_at options commands text at → chain 0 u ≡ quick_leaf place t leaf → u ≡ t
+  none_value : (is_null : Bool) (kind behind : ℕ) → leaf_of is_null kind behind ≡ leaf_at options commands text at →
+      chain 0 u ≡ quick_leaf place t (leaf_of is_null kind behind) → u ≡ t
   unfolding when◌then◌else◌
-  none_by (O.Value true kind behind) l e =
+  none_value true kind behind l e =
       let b : 0 ≡ behind = cc in
       let there : at < behind = leaf_above options commands text at kind behind true (leaf_there options commands text at _ l true kind behind refl) in
       absurd (omega arith)
-  none_by (O.Value false kind behind) l e =
+  none_value false kind behind l e =
       cases (eqb (word t place kind_word) kind) (λ q. let f : chain 0 u ≡ chain behind t = rw q at e in cc) (λ q. let f : chain 0 u ≡ chain 0 t = rw q at e in cc)
-  none_by O.Other l e = cc
+
+  none_by : (leaf : Option Leaf) → leaf ≡ leaf_at options commands text at → chain 0 u ≡ quick_leaf place t leaf → u ≡ t
+  none_by (Some leaf) l e = none_value leaf.null leaf.kind leaf.next l e
+  none_by None l e = cc
 
   pub quick_none : (behind : ℕ) → behind ≡ 0 → chain behind u ≡ quick_at options commands text at place t → u ≡ t
   unfolding quick_at

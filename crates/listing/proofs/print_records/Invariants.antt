@@ -1,9 +1,10 @@
 -- `print_records` goes from record to record; a level is never above the number of records passed.
-use Rattle.std.proofs.Common.{length, ◌-◌, ◌*◌, ◌≤◌}
+use Rattle.std.proofs.Common.{length, ◌+◌, ◌*◌, ◌≤◌, ◌≡◌}
 use Rattle.listing.proofs.print_records.Given as goal
 
-abbrev pub invariant-loop-at : goal.invariant-loop-at
-invariant-loop-at g l = (l.at ≤ length l.fields) × (l.name ≤ length l.names) × (l.level * 8 ≤ l.at)
-
-abbrev pub decreases-loop-at : goal.decreases-loop-at
-decreases-loop-at g l = length l.fields - l.at
+abbrev pub invariant-loop-record : goal.invariant-loop-record
+invariant-loop-record g l =
+    (goal.iterator-loop-record g).can_next l.record-iterator
+    × (goal.iterator-loop-record g).is_finite l.record-iterator
+    × (l.record-iterator.size ≡ 8)
+    × (l.levels.level * 8 + length l.record-iterator.rest.now ≤ 65536)

@@ -1,7 +1,7 @@
 -- Laws of levels: how the search for the next one goes up.
 use Rattle.std.specs.Prelude.{◌≡◌, refl, List, ℕ, zero, suc, ◌+◌, ◌-◌, ◌<◌, ◌≤◌, get_or, set}
-use Rattle.std.proofs.Common.{sym, ap, ◌∙◌, arith, lt-ltb, le-ltb, eq-eqb, ne_eqb}
-use Rattle.logic.specs.laws.Test.{if_passed, if_failed}
+use Rattle.std.proofs.Common.{sym, ap, subst, ◌∙◌, arith, ltb, lt-ltb, le-ltb, ltb-true, ltb-false, eq-eqb, ne_eqb}
+use Rattle.logic.specs.laws.Test.{if_passed, if_failed, cases}
 use Rattle.listing.specs.Levels.{level_after, one_fewer, next_level, next_due}
 
 -- where another is due at a level, it stands there
@@ -18,26 +18,28 @@ rises due (suc level) low none =
     let up : level ≡ suc level - 1 = omega arith in
     if_failed (suc level) (le-ltb _ _ none) ∙ ap (level_after due) up
 
--- ---- the search from a level `from` up, at a level
--- it ends where another is due
-pub ends : (due : List ℕ) (from level : ℕ) → level_after due level ≡ level_after due from → 0 < level → 1 < get_or due level 0 → level ≡ level_after due from
-ends due from level e low more = stays due level low more ∙ e
+-- it stands at the lowest level, from that one up, at which another is due, or at 0
+pub level_is : (due : List ℕ) (from level : ℕ) → level ≤ from → (0 < level → 1 < get_or due level 0) →
+    ((k : ℕ) → level < k → k ≤ from → get_or due k 0 ≤ 1) → level ≡ level_after due from
+unfolding level_after
+level_is due zero level within more none = omega arith
+level_is due (suc from) level within more none =
+    cases (ltb level (suc from))
+    (λ e.
+    let below : level < suc from = ltb-true level (suc from) e in
+    let up : suc from - 1 ≡ from = omega arith in
+    level_is due from level (omega arith) more (λ k above most. none k above (omega arith))
+    ∙ sym (rises due (suc from) (omega arith) (none (suc from) below (omega arith)) ∙ ap (level_after due) up))
+    (λ e.
+    let same : level ≡ suc from = omega (arith, ltb-false level (suc from) e) in
+    same ∙ stays due (suc from) (omega arith) (subst (λ n. 1 < get_or due n 0) same (more (omega arith))))
 
+-- ---- what is due, with one passed
 pub counts : (due : List ℕ) (level : ℕ) → 0 < level → set due level (get_or due level 0 - 1) ≡ one_fewer due level
 unfolding one_fewer
 counts due level low = rw (if_failed due (ne_eqb level 0 (λ e. omega arith)))
 
--- it goes on where none is
-pub goes_on : (due : List ℕ) (from level : ℕ) → level_after due level ≡ level_after due from → 0 < level → get_or due level 0 ≤ 1 →
-    level_after due (level - 1) ≡ level_after due from
-goes_on due from level e low none = sym (rises due level low none) ∙ e
-
--- and it ends at level 0, where nothing is counted
-pub ends_at_root : (due : List ℕ) (from level : ℕ) → level_after due level ≡ level_after due from → level ≤ 0 → 0 ≡ level_after due from
-unfolding level_after
-ends_at_root due from zero e low = e
-ends_at_root due from (suc level) e low = absurd (omega arith)
-
+-- at level 0 nothing is counted
 pub at_root : (due : List ℕ) → due ≡ one_fewer due 0
 unfolding one_fewer
 at_root due = rw (if_passed (set due 0 (get_or due 0 0 - 1)) (eq-eqb 0 0 refl))

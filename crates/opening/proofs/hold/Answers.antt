@@ -7,13 +7,11 @@ use Rattle.opening.proofs.hold.Goals as goal
 pub touch-requires : goal.touch-requires
 touch-requires c = search (is_place, child_place, child_room, rules)
 
-pub returns-in-Child : goal.returns-in-Child
-returns-in-Child c = (
-  search (held_child, rules),
-  child_held _ _ _
-      c.ensure.ensures.1 _ _
-      c.in-Child.is _ _ c.touch.ensures,
+pub returns : goal.returns
+returns c = (
+  held_child _ _ _ _ _ _ _ c.ensure.ensures.0 _ _ c.in_ok-found.was c.touch.ensures,
+  child_held _ _ _ c.ensure.ensures.1 _ c.in_ok-found.was _ _ c.touch.ensures,
 )
 
-pub returns-in-Refused : goal.returns-in-Refused
-returns-in-Refused c = (search (held_refused, rules), search rules)
+pub returns-in_err-found : goal.returns-in_err-found
+returns-in_err-found c = (held_refused _ _ _ _ _ _ _ c.ensure.ensures.0 _ _ c.in_err-found.was (search rules), search rules)

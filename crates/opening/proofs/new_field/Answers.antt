@@ -14,8 +14,14 @@ add-requires c = (search rules, search (tested, not-false, rules))
 pub touch-requires : goal.touch-requires
 touch-requires c = search (is_place, child_place, child_room, rules)
 
-pub returns-in-Child : goal.returns-in-Child
-returns-in-Child c = (search (new_child, not-false, rules), search (new_opened, rules))
+pub returns : goal.returns
+returns c = (
+  new_child _ _ _ _ _ (search rules) _ c.is_utf8.ensures (search (not-false, rules)) _ _ c.add.ensures.0 _ _ c.in_ok-found.was c.touch.ensures,
+  new_opened _ _ _ c.add.ensures.1 _ c.in_ok-found.was _ _ _ _ _ (search rules) c.add.ensures.0 c.touch.ensures,
+)
 
-pub returns-in-Refused : goal.returns-in-Refused
-returns-in-Refused c = (search (new_full, not-false, rules), search rules)
+pub returns-in_err-found : goal.returns-in_err-found
+returns-in_err-found c = (
+  new_full _ _ _ _ _ (search rules) _ c.is_utf8.ensures (search (not-false, rules)) _ _ c.add.ensures.0 _ _ c.in_err-found.was (search rules),
+  search rules,
+)

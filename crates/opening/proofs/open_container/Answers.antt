@@ -10,8 +10,8 @@ make-requires c =
     c.requires _ _
     c.sample.ensures
 
-pub returns-in-Kind : goal.returns-in-Kind
-returns-in-Kind c = (search (opens_met, rules), search rules)
+pub returns : goal.returns
+returns c = (search (opens_met, rules), search rules)
 
-pub returns-in-Refused : goal.returns-in-Refused
-returns-in-Refused c = (search (opens_unmet, rules), search rules)
+pub returns-in_err-joint : goal.returns-in_err-joint
+returns-in_err-joint c = (opens_unmet _ _ _ _ _ _ _ c.get-before.ensures c.meet.ensures _ _ _ _ _ c.in_err-joint.was (search rules), search rules)

@@ -14,8 +14,8 @@ hold-requires c = (
   λ e. omega arith,
 )
 
-pub returns-in-Kind : goal.returns-in-Kind
-returns-in-Kind c = (search (holds_met, rules), search rules)
+pub returns : goal.returns
+returns c = (search (holds_met, rules), search rules)
 
-pub returns-in-Refused : goal.returns-in-Refused
-returns-in-Refused c = (search (holds_unmet, rules), search rules)
+pub returns-in_err-joint : goal.returns-in_err-joint
+returns-in_err-joint c = (holds_unmet _ _ _ _ _ _ _ _ _ _ c.get-before.ensures c.meet.ensures _ _ c.in_err-joint.was (search rules), search rules)

@@ -11,9 +11,6 @@ use Rattle.walk.specs.Walk.{sum_of}
 use Rattle.putting.specs.Put.{Put, put, put_bytes, record_of, put_gaps}
 use Rattle.putting.proofs.put_gaps.Goals as goal
 
-started : (slot count : ℕ) (p : Put) → put_gaps slot 0 (count - 0) p ≡ put_gaps slot 0 count p
-started slot count p = let l : count - 0 ≡ count = omega arith in rw l
-
 module _ (slot i count at : ℕ) (buffer : List ℕ) (whole : Put) (w : put_gaps slot i (count - i) (put at buffer) ≡ whole) where
   ended : count ≤ i → put at buffer ≡ whole
   unfolding put_gaps
@@ -26,11 +23,8 @@ module _ (slot i count at : ℕ) (buffer : List ℕ) (whole : Put) (w : put_gaps
       let l : count - i ≡ suc (count - (i + 1)) = omega arith in
       rw (e, t, s, n, add-one i) (rw (l, put_gaps, add-one i) at w)
 
-pub loop-i-init : goal.loop-i-init
-loop-i-init c = (search (started, rules), (omega arith, (search rules, search rules)))
-
 pub loop-i-preserved : goal.loop-i-preserved
-loop-i-preserved c = (search (again, rules), (search rules, (search rules, search rules)))
+loop-i-preserved c = record { same_whole = search (again, rules); within = search rules }
 
 pub returns : goal.returns
 returns c = (search (ended, rules), search rules)

@@ -1,29 +1,36 @@
 -- `end_of_question` looks for a header, and then for all that it counts.
-use borrow.Author.Rules.{rules}
-use borrow.Author.Tests.{lt-ltb, le-ltb}
-use mathlib.Core.Path.{◌≡◌, sym, ap, ◌∙◌}
-use mathlib.Core.List.{List}
-use Prim.Native.Nat.{ℕ, ◌+◌, ◌-◌, ◌<◌, ◌≤◌, min}
-use lib.ListN.{length, take, drop, length-drop}
-use lib.Seq.{take_all}
-use native.Mathlib.Omega.{arith}
+use Rattle.std.proofs.Common.{rules, ◌≡◌, ◌+◌, ◌-◌, ◌<◌, ◌≤◌, ℕ, List, length, take, drop, arith, sym, ap, ◌∙◌}
+use Rattle.std.specs.Prelude.{min}
+use Rattle.std.proofs.lemmas.Bool.{lt-ltb, le-ltb}
+use Rattle.std.proofs.lemmas.List.{length-drop}
 use Rattle.logic.specs.laws.Test.{if_passed, if_failed}
 use Rattle.questions.specs.Question.{header_bytes, question_size, question_end}
+use Rattle.questions.specs.laws.Left.{rest_is}
 use Rattle.questions.proofs.end_of_question.Goals as goal
 
-cut : (vectors : List ℕ) (at : ℕ) → length vectors - at < header_bytes → length vectors ≡ question_end vectors at
-unfolding question_end
-cut vectors at h = sym (if_passed _ (lt-ltb _ _ h))
+module _ (vectors : List ℕ) (at : ℕ) where
+  -- what the file has from there on, as code lends it
+  abbrev lent : List ℕ
+  lent = take (length vectors - at) (drop at vectors)
 
-whole : (vectors : List ℕ) (at size r : ℕ) → header_bytes ≤ length vectors - at →
-    size ≡ question_size (take (length vectors - at) (drop at vectors)) → r ≡ min (length vectors) (at + size) → r ≡ question_end vectors at
-unfolding question_end
-whole vectors at size r h e f =
-    let all : take (length vectors - at) (drop at vectors) ≡ drop at vectors = take_all (length vectors - at) (drop at vectors) (simp length-drop (omega arith)) in
-    f ∙ ap (λ (n : ℕ). min (length vectors) (at + n)) (e ∙ ap question_size all) ∙ sym (if_failed (length vectors) (le-ltb _ _ h))
+  size_lent : length lent ≡ length vectors - at
+  size_lent = ap length (rest_is at vectors) ∙ length-drop at vectors
 
-pub returns-then-vectors-at-lt-HEADER : goal.returns-then-vectors-at-lt-HEADER
-returns-then-vectors-at-lt-HEADER c = search (cut, rules)
+  cut : length lent < header_bytes → length vectors ≡ question_end vectors at
+  unfolding question_end
+  cut h = sym (if_passed _ (lt-ltb _ _ (omega (arith, size_lent, h))))
 
-pub returns : goal.returns
-returns c = (whole _ _ _ _ (search rules) c.size-size.ensures.0 c.end_of.ensures.0, search rules, search rules)
+  whole : (bytes : List ℕ) (size r : ℕ) → bytes ≡ lent → header_bytes ≤ length bytes → size ≡ question_size bytes → r ≡ min (length vectors) (at + size) →
+      r ≡ question_end vectors at
+  unfolding question_end
+  whole bytes size r lends h e f =
+      let room : header_bytes ≤ length vectors - at = omega (arith, size_lent, h, ap length lends) in
+      f ∙ ap (λ (n : ℕ). min (length vectors) (at + n)) (e ∙ ap question_size (lends ∙ rest_is at vectors))
+      ∙ sym (if_failed (length vectors) (le-ltb _ _ room))
+
+pub returns-in-Some : goal.returns-in-Some
+returns-in-Some c =
+    (whole _ _ _ _ _ c.in-Some.ensures c.in-Some.question.has_header c.size.ensures.value c.end_of.ensures.value, search rules, search rules)
+
+pub returns-in-None : goal.returns-in-None
+returns-in-None c = search (cut, rules)

@@ -1,9 +1,12 @@
 -- Laws of what is left: answers that decide something, lists whose elements are all one and the same, and lists by their first part and the rest.
 use Rattle.std.specs.Prelude.{◌≡◌, Bool, true, false, ◌↔◌, List, ◌++◌, ℕ, ◌-◌, ◌<◌, ◌≤◌, get_or}
 use Rattle.std.proofs.Math.Path.{refl, sym, ap}
-use Rattle.std.proofs.Common.{◌∙◌, arith, take-append-drop, length-append, length-drop, ext_get_or, take_at, drop_at, length-take-le}
+use Rattle.std.proofs.Common.{◌∙◌, arith, eqb-true, eq-eqb, take-append-drop, length-append, length-drop, ext_get_or, take_at, drop_at, length-take-le}
 use Rattle.std.proofs.Math.ListN.{length, take, drop, replicate}
 use Rattle.std.proofs.lemmas.List.{length-replicate, get_or-replicate}
+use Rattle.std.specs.List.{list_all}
+use Rattle.std.proofs.lemmas.List.Sums.{AllPass-from_list_all, list_all-from_AllPass}
+use Rattle.std.proofs.Math.Dec.{eqb}
 use Rattle.std.proofs.Math.Seq.{take_all}
 use Rattle.logic.specs.laws.Test.{if_passed, if_failed}
 use Rattle.words.specs.Word.{table_words, zeros}
@@ -13,9 +16,6 @@ use Rattle.questions.specs.Left.{lent_byte, lent_word, lent_bytes, lent_buffer, 
 -- what is not so is answered false
 pub no : (P : Type 0) → (P → ⊥) → (false ≡ true) ↔ P
 no P never = ((λ e. let z : ◌≡◌ {A = ℕ} 0 1 = cc in absurd (omega arith)), λ p. absurd (never p))
-
-pub yes : (P : Type 0) → P → (true ≡ true) ↔ P
-yes P p = ((λ e. p), λ q. refl)
 
 -- an answer is not both
 pub unlike : (b : Bool) → b ≡ false → b ≡ true → ⊥
@@ -29,8 +29,13 @@ pub alike : (xs : List ℕ) (x : ℕ) → ((k : ℕ) → k < length xs → get_o
 alike xs x all =
     ext_get_or 0 xs (replicate (length xs) x) (sym (length-replicate (length xs) x)) (λ k below. all k below ∙ sym (get_or-replicate (length xs) k x 0 below))
 
-pub alike_at : (xs : List ℕ) (x k : ℕ) → k < length xs → xs ≡ replicate (length xs) x → get_or xs k 0 ≡ x
-alike_at xs x k below e = ap (λ (ys : List ℕ). get_or ys k 0) e ∙ get_or-replicate (length xs) k x 0 below
+-- the answer of a test of each element
+pub all_alike : (xs : List ℕ) (x : ℕ) (r : Bool) → r ≡ list_all (λ y. eqb y x) xs → (r ≡ true) ↔ (xs ≡ replicate (length xs) x)
+all_alike xs x r e = (
+  λ t. alike xs x (λ k below. eqb-true (get_or xs k 0) x (AllPass-from_list_all (λ y. eqb y x) xs (sym e ∙ t) k 0 below)),
+  λ same. e ∙ list_all-from_AllPass (λ y. eqb y x) xs
+      (λ k d below. eq-eqb (get_or xs k d) x (ap (λ ys. get_or ys k d) same ∙ get_or-replicate (length xs) k x d below)),
+)
 
 -- a list is its first part and the rest
 pub joined : (n : ℕ) (xs first rest : List ℕ) → take n xs ≡ first → drop n xs ≡ rest → xs ≡ first ++ rest
@@ -48,9 +53,6 @@ rest_is n xs = take_all (length xs - n) (drop n xs) (simp length-drop (omega ari
 
 -- ---- a buffer that is written, by what comparing its parts answers
 module _ (buffer bytes : List ℕ) where
-  pub written_short : length buffer < length bytes → (false ≡ true) ↔ (buffer ≡ written_over bytes)
-  written_short h = no (buffer ≡ written_over bytes) (λ e. omega (arith, simp length-append at (ap length e)))
-
   module _ (first : Bool) (same : (first ≡ true) ↔ (take (length bytes) buffer ≡ bytes)) where
     pub written_other : first ≡ false → (false ≡ true) ↔ (buffer ≡ written_over bytes)
     written_other f = no (buffer ≡ written_over bytes) (λ e. unlike first f (same.1 (first_part (length bytes) buffer bytes _ refl e)))

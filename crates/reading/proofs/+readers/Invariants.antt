@@ -54,23 +54,23 @@ decreases-read_value l = 8 * l.site.levels + 3
 abbrev pub decreases-read_variant : goal.decreases-read_variant
 decreases-read_variant l = 8 * l.site.levels + 1
 
-abbrev pub invariant-read_elements-loop-behind : goal.invariant-read_elements-loop-behind
-invariant-read_elements-loop-behind l = Left l.commands l.text l.options sequence_kind 0 l.start l.initial.grown l.initial.table 0 l.at l.grown l.table
+abbrev pub invariant-read_elements-loop-next : goal.invariant-read_elements-loop-next
+invariant-read_elements-loop-next l = Left l.commands l.text l.options sequence_kind 0 l.start l.initial.grown l.initial.table 0 l.at l.grown l.table
 
-abbrev pub decreases-read_elements-loop-behind : goal.decreases-read_elements-loop-behind
-decreases-read_elements-loop-behind l = length l.commands - l.at
+abbrev pub decreases-read_elements-loop-next : goal.decreases-read_elements-loop-next
+decreases-read_elements-loop-next l = length l.commands - l.at
 
-abbrev pub invariant-read_entries-loop-behind : goal.invariant-read_entries-loop-behind
-invariant-read_entries-loop-behind l = Left l.commands l.text l.options map_kind 0 l.start l.initial.grown l.initial.table l.i l.at l.grown l.table × (l.i ≤ l.at)
+abbrev pub invariant-read_entries-loop-next : goal.invariant-read_entries-loop-next
+invariant-read_entries-loop-next l = Left l.commands l.text l.options map_kind 0 l.start l.initial.grown l.initial.table l.i l.at l.grown l.table × (l.i ≤ l.at)
 
-abbrev pub decreases-read_entries-loop-behind : goal.decreases-read_entries-loop-behind
-decreases-read_entries-loop-behind l = length l.commands - l.at
+abbrev pub decreases-read_entries-loop-next : goal.decreases-read_entries-loop-next
+decreases-read_entries-loop-next l = length l.commands - l.at
 
-abbrev pub invariant-read_fields-loop-refusal : goal.invariant-read_fields-loop-refusal
-invariant-read_fields-loop-refusal l = Left l.commands l.text l.options l.kind 0 l.start l.initial.grown l.initial.table 0 l.at l.grown l.table
+abbrev pub invariant-read_fields-loop-field : goal.invariant-read_fields-loop-field
+invariant-read_fields-loop-field l = Left l.commands l.text l.options l.kind 0 l.start l.initial.grown l.initial.table 0 l.at l.grown l.table
 
-abbrev pub decreases-read_fields-loop-refusal : goal.decreases-read_fields-loop-refusal
-decreases-read_fields-loop-refusal l = length l.commands - l.at
+abbrev pub decreases-read_fields-loop-field : goal.decreases-read_fields-loop-field
+decreases-read_fields-loop-field l = length l.commands - l.at
 
 abbrev pub invariant-read_positions-loop-i : goal.invariant-read_positions-loop-i
 invariant-read_positions-loop-i l = Left l.commands l.text l.options tuple_kind l.positions l.start l.initial.grown l.initial.table l.i l.at l.grown l.table × (l.i ≤ l.positions)

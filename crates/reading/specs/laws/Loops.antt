@@ -1,6 +1,6 @@
 -- The loops of the readers: what is left of each gives the same as the whole.
 use Prim.{tt}
-use Rattle.std.specs.Prelude.{◌≡◌, Bool, List, eqb, length, get_or}
+use Rattle.std.specs.Prelude.{◌≡◌, Bool, List, eqb, length, get_or, Ok, Err, Some, None}
 use Rattle.std.proofs.Math.Path.{refl, sym, ap}
 use Rattle.std.proofs.Common.{◌∙◌, arith}
 use Rattle.std.proofs.Math.Bool.{true, false}
@@ -11,48 +11,39 @@ use Rattle.logic.specs.laws.Test.{cases}
 use Rattle.logic.specs.Turns.{Turn, again, done, after, turns}
 use Rattle.logic.specs.laws.Turns.{goes_on, ends}
 use Rattle.refusal.specs.declared.Refusal.{Refusal}
+use Rattle.refusal.specs.declared.Refused.{Refused}
 use Rattle.refusal.specs.declared.Refusal.TheVariants as F
 use Rattle.text.specs.declared.Name.{Name}
 use Rattle.text.specs.Name.{bytes_of}
 use Rattle.text.specs.Utf8.{is_utf8}
-use Rattle.commands.specs.declared.Read.{Read}
-use Rattle.commands.specs.declared.Read.TheVariants as R
 use Rattle.commands.specs.declared.Due.TheVariants as D
-use Rattle.commands.specs.Commands.{read_command, name_at, end_byte}
+use Rattle.commands.specs.Commands.{Read, read_command, refused_at, name_at, end_byte}
 use Rattle.model.specs.Kinds.{sequence_kind, map_kind, tuple_kind, is_struct}
 use Rattle.shapes.specs.declared.Step.{Step}
 use Rattle.shapes.specs.declared.Step.TheVariants as S
 use Rattle.shapes.specs.declared.Contents.TheVariants as N
-use Rattle.shapes.specs.declared.Part.{Part}
 use Rattle.shapes.specs.declared.Part.TheVariants as P
 use Rattle.shapes.specs.Steps.{Unnamed, Inside}
-use Rattle.shapes.specs.Shapes.{is_parted, value_part, part_at}
+use Rattle.shapes.specs.Shapes.{PartRead, is_parted, value_part, part_at}
 use Rattle.shapes.specs.laws.Shapes.{step_above, step_within, sequence_part, tuple_part, map_part}
-use Rattle.growth.specs.declared.Ensured.TheVariants as E
-use Rattle.growth.specs.Growth.{Ensuring, ensuring}
-use Rattle.shapes.specs.declared.Field.{Field}
-use Rattle.shapes.specs.declared.Field.TheVariants as X
-use Rattle.opening.specs.declared.Opened.{Opened}
-use Rattle.opening.specs.declared.Opened.TheVariants as O
-use Rattle.leaves.specs.declared.Traced.{Traced}
-use Rattle.leaves.specs.declared.Traced.TheVariants as T
-use Rattle.shapes.specs.Field.{field_at}
+use Rattle.growth.specs.Growth.{found, Ensuring, ensuring}
+use Rattle.shapes.specs.Field.{Field, field_at}
 use Rattle.shapes.specs.laws.Field.{part_of, field_part_lem, field_name, field_inside, field_within, end_inside}
 use Rattle.reading.specs.Reading.{Readers, dots_in, part_read, State, state, after_part, on_part, part_turn, part_stop, parts_from, parts_by, readers, value_at, on_held}
-use Rattle.opening.specs.Opening.{held, Opening, opening, of_held, field_held, field_opened}
-use Rattle.leaves.specs.Leaves.{Out, out}
+use Rattle.opening.specs.Opening.{held, Opened, Opening, opening, of_held, field_held, field_opened}
+use Rattle.leaves.specs.Leaves.{Outcome, traced_to, Out, out}
 use Rattle.reading.specs.laws.Progress.{Moved, part_on, part_falls, left_state, readers_on}
 use Rattle.reading.specs.laws.Readers.{value_below}
 
 -- ---- what was read ends behind
-pub moved_at : (low most behind m : ℕ) (u : List ℕ) → Moved low most (out (T.Next behind m) u) → (low ≤ behind) × (behind ≤ most)
+pub moved_at : (low most behind m : ℕ) (u : List ℕ) → Moved low most (out (traced_to behind m) u) → (low ≤ behind) × (behind ≤ most)
 unfolding Moved
 moved_at low most behind m u h = h
 
 -- ---- the parts of a container
 module _ (commands text : List ℕ) (options levels kind positions place i at n : ℕ) (t : List ℕ) (r : Out)
     (whole : parts_from commands text (readers commands text options levels) kind positions place i at n t ≡ r)
-    (part : Part) (p : part ≡ part_at commands text kind positions i at) where
+    (part : PartRead) (p : part ≡ part_at commands text kind positions i at) where
   turn_is : part_turn commands text (readers commands text options levels) kind positions place (state i at n t) ≡ on_part text (readers commands text options levels) place i at n t part
   unfolding part_turn
   turn_is = rw p refl
@@ -64,18 +55,18 @@ module _ (commands text : List ℕ) (options levels kind positions place i at n 
       (part_falls commands text (readers commands text options levels) (readers_on commands text options levels) kind positions place)
       (length commands + 1) (state i at n t) o (omega arith) (turn_is ∙ e)) ∙ whole
 
-  pub parts_end : (behind : ℕ) → part ≡ P.Ended behind → out (T.Next behind n) t ≡ r
-  parts_end behind e = parts_ends (out (T.Next behind n) t) (rw e refl)
+  pub parts_end : (behind : ℕ) → part ≡ Ok (P.Ended behind) → out (traced_to behind n) t ≡ r
+  parts_end behind e = parts_ends (out (traced_to behind n) t) (rw e refl)
 
-  pub parts_refused : (refusal : Refusal) (offset : ℕ) → part ≡ P.Refused refusal offset → out (T.Refused refusal offset) t ≡ r
-  parts_refused refusal offset e = parts_ends (out (T.Refused refusal offset) t) (rw e refl)
+  pub parts_refused : (x : Refused) (o : Outcome) → part ≡ Err x → o ≡ Err x → out o t ≡ r
+  parts_refused x o e p = parts_ends (out o t) (rw (e, p) refl)
 
-  module _ (step : Step) (value : ℕ) (s : part ≡ P.Step step value) (traced : Traced) (u : List ℕ)
+  module _ (step : Step) (value : ℕ) (s : part ≡ Ok (P.Step step value)) (traced : Outcome) (u : List ℕ)
       (q : out traced u ≡ part_read text (readers commands text options levels) step at value place n t) where
-    pub parts_stopped : (refusal : Refusal) (offset : ℕ) → traced ≡ T.Refused refusal offset → out (T.Refused refusal offset) u ≡ r
-    parts_stopped refusal offset e = parts_ends (out (T.Refused refusal offset) u) (rw (s, ← q, e) refl)
+    pub parts_stopped : (x : Refused) (o : Outcome) → traced ≡ Err x → o ≡ Err x → out o u ≡ r
+    parts_stopped x o e p = parts_ends (out o u) (rw (s, ← q, e, p) refl)
 
-    module _ (behind m : ℕ) (e : traced ≡ T.Next behind m) where
+    module _ (behind m : ℕ) (e : traced ≡ traced_to behind m) where
       pub parts_more : parts_from commands text (readers commands text options levels) kind positions place (i + 1) behind m u ≡ r
       unfolding parts_from
       parts_more =
@@ -126,13 +117,13 @@ module _ (commands text : List ℕ) (inner : Readers) (kind positions other more
       Ih = (i j at n : ℕ) (t : List ℕ) → R i j → first (state i at n t) ≡ second (state j at n t)
 
       read : Ih → (o : Out) → after first (after_part (i + 1) o) ≡ after second (after_part (j + 1) o)
-      read ih (out (T.Next behind m) u) = ih (i + 1) (j + 1) behind m u (on i j r)
-      read ih (out (T.Refused refusal offset) u) = refl
+      read ih (out (Ok to) u) = ih (i + 1) (j + 1) to.next to.count u (on i j r)
+      read ih (out (Err x) u) = refl
 
-      onward : Ih → (part : Part) → after first (on_part text inner place i at n t part) ≡ after second (on_part text inner place j at n t part)
-      onward ih (P.Ended behind) = refl
-      onward ih (P.Step step value) = read ih (part_read text inner step at value place n t)
-      onward ih (P.Refused refusal offset) = refl
+      onward : Ih → (part : PartRead) → after first (on_part text inner place i at n t part) ≡ after second (on_part text inner place j at n t part)
+      onward ih (Ok (P.Ended behind)) = refl
+      onward ih (Ok (P.Step step value)) = read ih (part_read text inner step at value place n t)
+      onward ih (Err x) = refl
 
   parts_alike : (i j at n : ℕ) (t : List ℕ) → R i j → parts_from commands text inner kind positions place i at n t ≡ parts_from commands text inner other more place j at n t
   unfolding parts_from
@@ -145,30 +136,30 @@ Any i j = Unit {0}
 element_any : (commands text : List ℕ) (positions more i j at : ℕ) → part_at commands text sequence_kind positions i at ≡ part_at commands text sequence_kind more j at
 element_any commands text positions more i j at = sequence_part commands text positions i at ∙ sym (sequence_part commands text more j at)
 
-pub element_part : (commands text : List ℕ) (at : ℕ) (part : Part) →
+pub element_part : (commands text : List ℕ) (at : ℕ) (part : PartRead) →
     part ≡ value_part commands S.Element at (read_command commands text at D.ValueOrEnd) → part ≡ part_at commands text sequence_kind 0 0 at
 element_part commands text at part e = e ∙ sym (sequence_part commands text 0 0 at)
 
 module _ (commands text : List ℕ) (options levels place at n : ℕ) (t : List ℕ) (r : Out)
     (whole : parts_from commands text (readers commands text options levels) sequence_kind 0 place 0 at n t ≡ r)
-    (part : Part) (p : part ≡ part_at commands text sequence_kind 0 0 at) (step : Step) (value : ℕ) (s : part ≡ P.Step step value)
-    (traced : Traced) (u : List ℕ) (q : out traced u ≡ part_read text (readers commands text options levels) step at value place n t) (behind m : ℕ) (e : traced ≡ T.Next behind m) where
+    (part : PartRead) (p : part ≡ part_at commands text sequence_kind 0 0 at) (step : Step) (value : ℕ) (s : part ≡ Ok (P.Step step value))
+    (traced : Outcome) (u : List ℕ) (q : out traced u ≡ part_read text (readers commands text options levels) step at value place n t) (behind m : ℕ) (e : traced ≡ traced_to behind m) where
   pub elements_more : parts_from commands text (readers commands text options levels) sequence_kind 0 place 0 behind m u ≡ r
   elements_more =
       parts_alike commands text (readers commands text options levels) sequence_kind 0 sequence_kind 0 place Any (λ i j x. tt) (λ i j at x. element_any commands text 0 0 i j at) 0 1 behind m u tt
       ∙ parts_more commands text options levels sequence_kind 0 place 0 at n t r whole part p step value s traced u q behind m e
 
 -- a part that is a value stands at the step given
-step_given : (commands : List ℕ) (at : ℕ) (step : Step) (answer : Read) (other : Step) (value : ℕ) → value_part commands step at answer ≡ P.Step other value → other ≡ step
+step_given : (commands : List ℕ) (at : ℕ) (step : Step) (answer : Read) (other : Step) (value : ℕ) → value_part commands step at answer ≡ Ok (P.Step other value) → other ≡ step
 unfolding when◌then◌else◌
-step_given commands at step (R.Command command behind) other value e =
+step_given commands at step (Ok (command, behind)) other value e =
     cases (eqb (get_or commands at 0) end_byte)
-    (λ q. let d : P.Ended behind ≡ P.Step other value = rw q at e in let z : ◌≡◌ {A = ℕ} 0 1 = cc in absurd (omega arith))
-    (λ q. let d : P.Step step at ≡ P.Step other value = rw q at e in cc)
-step_given commands at step (R.Refused refusal place) other value e = let z : ◌≡◌ {A = ℕ} 0 1 = cc in absurd (omega arith)
+    (λ q. let d : ◌≡◌ {A = PartRead} (Ok (P.Ended behind)) (Ok (P.Step other value)) = rw q at e in let z : ◌≡◌ {A = ℕ} 0 1 = cc in absurd (omega arith))
+    (λ q. let d : ◌≡◌ {A = PartRead} (Ok (P.Step step at)) (Ok (P.Step other value)) = rw q at e in cc)
+step_given commands at step (Err x) other value e = let z : ◌≡◌ {A = ℕ} 0 1 = cc in absurd (omega arith)
 
-pub part_unnamed : (commands : List ℕ) (at : ℕ) (given : Step) (answer : Read) (part : Part) → part ≡ value_part commands given at answer →
-    Unnamed given → (step : Step) (value : ℕ) → part ≡ P.Step step value → Unnamed step
+pub part_unnamed : (commands : List ℕ) (at : ℕ) (given : Step) (answer : Read) (part : PartRead) → part ≡ value_part commands given at answer →
+    Unnamed given → (step : Step) (value : ℕ) → part ≡ Ok (P.Step step value) → Unnamed step
 part_unnamed commands at given answer part p none step value s = rw (step_given commands at given answer step value (sym p ∙ s)) none
 
 pub element_unnamed : Unnamed S.Element
@@ -177,7 +168,7 @@ element_unnamed = record { name = refl; field = λ e. omega arith }
 pub position_unnamed : (i : ℕ) → Unnamed (S.Position i)
 position_unnamed i = record { name = refl; field = λ e. omega arith }
 
-pub entry_unnamed : (commands text : List ℕ) (i at : ℕ) (part : Part) → part ≡ part_at commands text map_kind 0 i at → (step : Step) (value : ℕ) → part ≡ P.Step step value → Unnamed step
+pub entry_unnamed : (commands text : List ℕ) (i at : ℕ) (part : PartRead) → part ≡ part_at commands text map_kind 0 i at → (step : Step) (value : ℕ) → part ≡ Ok (P.Step step value) → Unnamed step
 unfolding part_at when◌then◌else◌
 entry_unnamed commands text i at part p step value s =
     cases (eqb (i % 2) 0)
@@ -191,26 +182,26 @@ module _ (commands text : List ℕ) (options levels place at n : ℕ) (t : List 
   inner = readers commands text options levels
 
   abbrev after_opened : Name → Opening → Turn State Out
-  after_opened name (opening (O.Child child m) v) = after_part 1 (inner (dots_in text name) N.Value at (at + 5) child m v)
-  after_opened name (opening O.Ended v) = done (out (T.Next (at + 1) n) v)
-  after_opened name (opening (O.Refused refusal) v) = done (out (T.Refused refusal at) v)
+  after_opened name (opening (Ok (Some f)) v) = after_part 1 (inner (dots_in text name) N.Value at (at + 5) f.child f.count v)
+  after_opened name (opening (Ok None) v) = done (out (traced_to (at + 1) n) v)
+  after_opened name (opening (Err refusal) v) = done (out (refused_at refusal at) v)
 
   by_child : (name : Name) (x : Ensuring) → after_part 1 (on_held at (inner (dots_in text name) N.Value at (at + 5)) x) ≡ after_opened name (of_held x)
-  by_child name (ensuring (E.Child child m) v) = refl
-  by_child name (ensuring (E.Refused refusal) v) = refl
+  by_child name (ensuring (Ok f) v) = refl
+  by_child name (ensuring (Err refusal) v) = refl
 
-  by_name_lem : (name : Name) (good : Bool) → on_part text inner place 0 at n t (when good then P.Step (S.Field name) (at + 5) else P.Refused F.BadName at)
-      ≡ after_opened name (when good then of_held (held text place (S.Field name) n t) else opening (O.Refused F.BadName) t)
+  by_name_lem : (name : Name) (good : Bool) → on_part text inner place 0 at n t (when good then Ok (P.Step (S.Field name) (at + 5)) else refused_at F.BadName at)
+      ≡ after_opened name (when good then of_held (held text place (S.Field name) n t) else opening (Err F.BadName) t)
   unfolding part_read when◌then◌else◌
   by_name_lem name true = by_child name (held text place (S.Field name) n t)
   by_name_lem name false = refl
 
-  by_field : (field : Field) → ((name : Name) → field ≡ X.Named name → name ≡ name_at commands (at + 1)) →
+  by_field : (field : Field) → ((name : Name) → field ≡ Ok (Some name) → name ≡ name_at commands (at + 1)) →
       on_part text inner place 0 at n t (part_of text at field) ≡ after_opened (name_at commands (at + 1)) (field_opened text place n t field)
   unfolding field_held
-  by_field (X.Named name) is = rw (← is name refl) (by_name_lem name (is_utf8 (bytes_of text name)))
-  by_field X.Ended is = refl
-  by_field (X.Refused refusal) is = refl
+  by_field (Ok (Some name)) is = rw (← is name refl) (by_name_lem name (is_utf8 (bytes_of text name)))
+  by_field (Ok None) is = refl
+  by_field (Err refusal) is = refl
 
 module _ (commands text : List ℕ) (options levels kind place at n : ℕ) (t : List ℕ) (fields : is_struct kind ≡ true) (r : Out)
     (whole : parts_from commands text (readers commands text options levels) kind 0 place 0 at n t ≡ r)
@@ -226,18 +217,18 @@ module _ (commands text : List ℕ) (options levels kind place at n : ℕ) (t : 
 
   -- what stands there is inside the commands
   opened_by : (field : Field) → field ≡ field_at commands text kind at → opening did u ≡ field_opened text place n t field → (P : Type 0) →
-      ((name : Name) → field ≡ X.Named name → P) → ((child m : ℕ) → did ≡ O.Child child m → P)
-  opened_by (X.Named name) f o P named child m e = named name refl
-  opened_by X.Ended f o P named child m e = absurd (differ (rw e at o))
+      ((name : Name) → field ≡ Ok (Some name) → P) → ((child m : ℕ) → did ≡ Ok (Some (found child m)) → P)
+  opened_by (Ok (Some name)) f o P named child m e = named name refl
+  opened_by (Ok None) f o P named child m e = absurd (differ (rw e at o))
     where
-      differ : opening (O.Child child m) u ≡ opening O.Ended t → ⊥
+      differ : opening (Ok (Some (found child m))) u ≡ opening (Ok None) t → ⊥
       differ q = let z : ◌≡◌ {A = ℕ} 0 1 = cc in omega arith
-  opened_by (X.Refused refusal) f o P named child m e = absurd (differ (rw e at o))
+  opened_by (Err refusal) f o P named child m e = absurd (differ (rw e at o))
     where
-      differ : opening (O.Child child m) u ≡ opening (O.Refused refusal) t → ⊥
+      differ : opening (Ok (Some (found child m))) u ≡ opening (Err refusal) t → ⊥
       differ q = let z : ◌≡◌ {A = ℕ} 0 1 = cc in omega arith
 
-  module _ (child m : ℕ) (e : did ≡ O.Child child m) where
+  module _ (child m : ℕ) (e : did ≡ Ok (Some (found child m))) where
     pub whole_field : at + 5 ≤ length commands
     whole_field = opened_by (field_at commands text kind at) refl d (at + 5 ≤ length commands) (λ name f. field_within commands text kind at (field_at commands text kind at) refl name f) child m e
 
@@ -257,15 +248,15 @@ module _ (commands text : List ℕ) (options levels kind place at n : ℕ) (t : 
     name_whole = let h : at + 5 ≤ length commands = whole_field in omega arith
 
   -- the end is inside the commands
-  end_there : did ≡ O.Ended → (field : Field) → field ≡ field_at commands text kind at → opening did u ≡ field_opened text place n t field → at < length commands
-  end_there e (X.Named name) f o = let h : at + 5 ≤ length commands = field_within commands text kind at (X.Named name) f name refl in omega arith
-  end_there e X.Ended f o = end_inside commands text kind at X.Ended f refl
-  end_there e (X.Refused refusal) f o = absurd (differ (rw e at o))
+  end_there : did ≡ Ok None → (field : Field) → field ≡ field_at commands text kind at → opening did u ≡ field_opened text place n t field → at < length commands
+  end_there e (Ok (Some name)) f o = let h : at + 5 ≤ length commands = field_within commands text kind at (Ok (Some name)) f name refl in omega arith
+  end_there e (Ok None) f o = end_inside commands text kind at (Ok None) f refl
+  end_there e (Err refusal) f o = absurd (differ (rw e at o))
     where
-      differ : opening O.Ended u ≡ opening (O.Refused refusal) t → ⊥
+      differ : opening (Ok None) u ≡ opening (Err refusal) t → ⊥
       differ q = let z : ◌≡◌ {A = ℕ} 0 1 = cc in omega arith
 
-  pub end_fits_lem : did ≡ O.Ended → (most : ℕ) → length commands < most → at + 1 < most
+  pub end_fits_lem : did ≡ Ok None → (most : ℕ) → length commands < most → at + 1 < most
   end_fits_lem e most l = let h : at < length commands = end_there e (field_at commands text kind at) refl d in omega arith
 
   fields_end : (o : Out) → turned (opening did u) ≡ done o → o ≡ r
@@ -275,13 +266,13 @@ module _ (commands text : List ℕ) (options levels kind place at n : ℕ) (t : 
       (part_falls commands text (readers commands text options levels) (readers_on commands text options levels) kind 0 place)
       (length commands + 1) (state 0 at n t) o (omega arith) (field_turn ∙ e)) ∙ whole
 
-  pub fields_ended : did ≡ O.Ended → out (T.Next (at + 1) n) u ≡ r
-  fields_ended e = fields_end (out (T.Next (at + 1) n) u) (rw e refl)
+  pub fields_ended : did ≡ Ok None → out (traced_to (at + 1) n) u ≡ r
+  fields_ended e = fields_end (out (traced_to (at + 1) n) u) (rw e refl)
 
-  pub fields_refused : (refusal : Refusal) → did ≡ O.Refused refusal → out (T.Refused refusal at) u ≡ r
-  fields_refused refusal e = fields_end (out (T.Refused refusal at) u) (rw e refl)
+  pub fields_refused : (refusal : Refusal) (o : Outcome) → did ≡ Err refusal → o ≡ refused_at refusal at → out o u ≡ r
+  fields_refused refusal o e p = fields_end (out o u) (rw (e, p) refl)
 
-  module _ (child m : ℕ) (e : did ≡ O.Child child m) (name : Name) (k : name ≡ name_at commands (at + 1)) (traced : Traced) (v : List ℕ)
+  module _ (child m : ℕ) (e : did ≡ Ok (Some (found child m))) (name : Name) (k : name ≡ name_at commands (at + 1)) (traced : Outcome) (v : List ℕ)
       (q : out traced v ≡ value_at commands text options (levels - dots_in text name) (at + 5) child m u) where
     child_turn : turned (opening did u) ≡ after_part 1 (out traced v)
     child_turn =
@@ -289,10 +280,10 @@ module _ (commands text : List ℕ) (options levels kind place at n : ℕ) (t : 
         = q ∙ value_below commands text options levels name at (at + 5) child m u ∙ ap (λ x. readers commands text options levels (dots_in text x) N.Value at (at + 5) child m u) k in
         ap (λ x. turned (opening x u)) e ∙ ap (after_part 1) (sym w)
 
-    pub fields_stopped : (refusal : Refusal) (offset : ℕ) → traced ≡ T.Refused refusal offset → out (T.Refused refusal offset) v ≡ r
-    fields_stopped refusal offset f = fields_end (out (T.Refused refusal offset) v) (rw f at child_turn)
+    pub fields_stopped : (x : Refused) (o : Outcome) → traced ≡ Err x → o ≡ Err x → out o v ≡ r
+    fields_stopped x o f p = fields_end (out o v) (rw p (rw f at child_turn))
 
-    module _ (behind l : ℕ) (f : traced ≡ T.Next behind l) where
+    module _ (behind l : ℕ) (f : traced ≡ traced_to behind l) where
       pub fields_more : parts_from commands text (readers commands text options levels) kind 0 place 0 behind l v ≡ r
       unfolding parts_from
       fields_more =
@@ -313,11 +304,11 @@ module _ (commands text : List ℕ) (options levels kind place at n : ℕ) (t : 
 
 -- ---- the values of a tuple
 module _ (commands text : List ℕ) (positions i at : ℕ) where
-  pub position_part : (part : Part) → i < positions → part ≡ value_part commands (S.Position i) at (read_command commands text at D.Value) → part ≡ part_at commands text tuple_kind positions i at
+  pub position_part : (part : PartRead) → i < positions → part ≡ value_part commands (S.Position i) at (read_command commands text at D.Value) → part ≡ part_at commands text tuple_kind positions i at
   unfolding when◌then◌else◌
   position_part part h e = rw (tuple_part commands text positions i at, lt-ltb i positions h) e
 
-  pub positions_end : positions ≤ i → P.Ended at ≡ part_at commands text tuple_kind positions i at
+  pub positions_end : positions ≤ i → Ok (P.Ended at) ≡ part_at commands text tuple_kind positions i at
   unfolding when◌then◌else◌
   positions_end h = rw (tuple_part commands text positions i at, le-ltb i positions h) refl
 

@@ -1,48 +1,41 @@
 -- What was read ends behind where it began, inside the commands.
 use Prim.{Unit, tt}
-use Rattle.std.specs.Prelude.{◌≡◌, refl, Bool, List, length}
+use Rattle.std.specs.Prelude.{◌≡◌, refl, Bool, List, length, Result, Ok, Err}
 use Rattle.std.proofs.Common.{ap, ◌∙◌, le_refl}
 use Rattle.std.proofs.Math.Bool.{true}
 use Prim.Native.Nat.{◌-◌, ℕ, zero, suc, ◌+◌, ◌≤◌}
 use native.Mathlib.Omega.{arith}
 use Rattle.logic.specs.laws.Turns.{Says, Falls, holds}
 use Rattle.refusal.specs.declared.Refusal.{Refusal}
+use Rattle.refusal.specs.declared.Refused.{Refused}
 use Rattle.refusal.specs.declared.Refusal.TheVariants as F
 use Rattle.text.specs.declared.Name.{Name}
 use Rattle.words.specs.Word.{word}
-use Rattle.commands.specs.declared.Read.{Read}
-use Rattle.commands.specs.declared.Read.TheVariants as R
 use Rattle.commands.specs.declared.Due.TheVariants as D
-use Rattle.commands.specs.Commands.{read_command}
+use Rattle.commands.specs.Commands.{Read, read_command}
 use Rattle.commands.specs.laws.Commands as C
 use Rattle.shapes.specs.declared.Step.{Step}
 use Rattle.shapes.specs.declared.Contents.{Contents}
 use Rattle.shapes.specs.declared.Contents.TheVariants as N
 use Rattle.shapes.specs.declared.Shape.{Shape}
 use Rattle.shapes.specs.declared.Shape.TheVariants as H
-use Rattle.shapes.specs.declared.Part.{Part}
 use Rattle.shapes.specs.declared.Part.TheVariants as P
 use Rattle.shapes.specs.Steps.{name_of}
-use Rattle.shapes.specs.Shapes.{shape_at, part_at}
+use Rattle.shapes.specs.Shapes.{PartRead, shape_at, part_at}
 use Rattle.shapes.specs.laws.Shapes.{KnownPart, part_known}
-use Rattle.kinds.specs.declared.Met.{Met}
-use Rattle.kinds.specs.declared.Met.TheVariants as M
-use Rattle.growth.specs.declared.Ensured.TheVariants as E
-use Rattle.growth.specs.declared.Made.TheVariants as L
 use Rattle.places.specs.Layout.{kind_word}
 use Rattle.growth.specs.Growth.{Ensuring, ensuring, Making, making}
 use Rattle.kinds.specs.Meeting.{meeting}
-use Rattle.leaves.specs.declared.Traced.TheVariants as T
 use Rattle.reading.specs.Reading.{on_made, Readers, dots_in, part_read, State, state, after_part, on_part, part_turn, part_stop, parts_from, container_by, variant_by, at_shape, at_read, after_chain, value_by, none_left, readers, on_held}
 use Rattle.opening.specs.Opening.{held, container_made, variant_held}
-use Rattle.leaves.specs.Leaves.{Out, out, on_met, stored, observed}
+use Rattle.leaves.specs.Leaves.{traced_to, Out, out, on_met, stored, observed}
 use Rattle.leaves.specs.Marks.{Chain, chain, past_marks}
 use Rattle.leaves.specs.laws.Marks.{FromChain, left_at, past_on}
 
 -- the offset behind is from `low` on and inside
 unfoldable pub Moved : ℕ → ℕ → Out → Type 0
-Moved low most (out (T.Next behind n) t) = (low ≤ behind) × (behind ≤ most)
-Moved low most (out (T.Refused refusal place) t) = Unit {0}
+Moved low most (out (Ok to) t) = (low ≤ to.next) × (to.next ≤ most)
+Moved low most (out (Err r) t) = Unit {0}
 
 -- a value takes at least its command; the contents of a variant may be none
 abbrev pub from : Contents → ℕ → ℕ
@@ -59,35 +52,35 @@ from_above N.Fields at = le_refl at
 
 moved_from : (low lower most : ℕ) → lower ≤ low → (o : Out) → Moved low most o → Moved lower most o
 unfolding Moved
-moved_from low lower most h (out (T.Next behind n) t) m = (omega arith, m.1)
-moved_from low lower most h (out (T.Refused refusal place) t) m = tt
+moved_from low lower most h (out (Ok to) t) m = (omega arith, m.1)
+moved_from low lower most h (out (Err r) t) m = tt
 
-pub moved : (low most behind n : ℕ) (t : List ℕ) → low ≤ behind → behind ≤ most → Moved low most (out (T.Next behind n) t)
+pub moved : (low most behind n : ℕ) (t : List ℕ) → low ≤ behind → behind ≤ most → Moved low most (out (traced_to behind n) t)
 unfolding Moved
 moved low most behind n t p q = (p, q)
 
-stopped : (low most : ℕ) (refusal : Refusal) (place : ℕ) (t : List ℕ) → Moved low most (out (T.Refused refusal place) t)
+stopped : (low most : ℕ) (r : Refused) (t : List ℕ) → Moved low most (out (Err r) t)
 unfolding Moved
-stopped low most refusal place t = tt
+stopped low most r t = tt
 
 abbrev pub On : ℕ → Readers → Type 0
 On most inner = (down : ℕ) (contents : Contents) (here at place n : ℕ) (t : List ℕ) → at ≤ most → Moved (from contents at) most (inner down contents here at place n t)
 
-on_met_lem : (low most here : ℕ) (t : List ℕ) (k : ℕ → Out) → ((kind : ℕ) → Moved low most (k kind)) → (m : Met) → Moved low most (on_met here t k m)
+on_met_lem : (low most here : ℕ) (t : List ℕ) (k : ℕ → Out) → ((kind : ℕ) → Moved low most (k kind)) → (m : Result ℕ Refusal) → Moved low most (on_met here t k m)
 unfolding Moved
-on_met_lem low most here t k h (M.Kind kind) = h kind
-on_met_lem low most here t k h (M.Refused refusal) = tt
+on_met_lem low most here t k h (Ok kind) = h kind
+on_met_lem low most here t k h (Err refusal) = tt
 
 on_made_lem : (low most here : ℕ) (k : ℕ → List ℕ → Out) → ((n : ℕ) (t : List ℕ) → Moved low most (k n t)) → (m : Making) → Moved low most (on_made here k m)
 unfolding Moved
-on_made_lem low most here k h (making (L.Places n) t) = h n t
-on_made_lem low most here k h (making (L.Refused refusal) t) = tt
+on_made_lem low most here k h (making (Ok n) t) = h n t
+on_made_lem low most here k h (making (Err refusal) t) = tt
 
 observed_on : (options : ℕ) (is_null : Bool) (kind levels here low behind most place n : ℕ) (t : List ℕ) → low ≤ behind → behind ≤ most →
     Moved low most (observed options is_null kind levels here behind place n t)
 unfolding observed Moved
 observed_on options is_null kind levels here low behind most place n t p q =
-    on_met_lem low most here t (λ joint. out (T.Next behind n) (stored is_null joint place t)) (λ joint. (p, q))
+    on_met_lem low most here t (λ joint. out (traced_to behind n) (stored is_null joint place t)) (λ joint. (p, q))
     (meeting options levels (word t place kind_word) kind)
 
 module _ (commands : List ℕ) where
@@ -96,14 +89,14 @@ module _ (commands : List ℕ) where
 
   pub after_falls : (i at : ℕ) (o : Out) → Moved (suc at) (length commands) o → Falls left_state (left_at commands at) (after_part i o)
   unfolding Moved
-  after_falls i at (out (T.Next behind n) t) (m₀, m₁) = omega arith
-  after_falls i at (out (T.Refused refusal place) t) m = tt
+  after_falls i at (out (Ok to) t) (m₀, m₁) = omega arith
+  after_falls i at (out (Err r) t) m = tt
 
 module _ (commands text : List ℕ) (inner : Readers) (on : On (length commands) inner) where
   held_on : (down : ℕ) (contents : Contents) (here at : ℕ) → at ≤ length commands → (x : Ensuring) → Moved (from contents at) (length commands) (on_held here (inner down contents here at) x)
   unfolding Moved
-  held_on down contents here at h (ensuring (E.Child child n) t) = on down contents here at child n t h
-  held_on down contents here at h (ensuring (E.Refused refusal) t) = tt
+  held_on down contents here at h (ensuring (Ok f) t) = on down contents here at f.child f.count t h
+  held_on down contents here at h (ensuring (Err refusal) t) = tt
 
   pub part_on : (step : Step) (here at place n : ℕ) (t : List ℕ) → at ≤ length commands → Moved (suc at) (length commands) (part_read text inner step here at place n t)
   unfolding part_read
@@ -114,18 +107,18 @@ module _ (commands text : List ℕ) (inner : Readers) (on : On (length commands)
   unfolding part_turn
   part_falls kind positions place (state i at n t) = go (part_at commands text kind positions i at) (part_known commands text at kind positions i)
     where
-      go : (part : Part) → KnownPart commands text at part → Falls (left_state commands) (left_at commands at) (on_part text inner place i at n t part)
-      go (P.Ended behind) k = tt
-      go (P.Step step value) (k₀, k₁, k₂) = after_falls commands (i + 1) at _ (moved_from (suc value) (suc at) (length commands) (omega arith) _ (part_on step at value place n t k₂))
-      go (P.Refused refusal offset) k = tt
+      go : (part : PartRead) → KnownPart commands text at part → Falls (left_state commands) (left_at commands at) (on_part text inner place i at n t part)
+      go (Ok (P.Ended behind)) k = tt
+      go (Ok (P.Step step value)) (k₀, k₁, k₂) = after_falls commands (i + 1) at _ (moved_from (suc value) (suc at) (length commands) (omega arith) _ (part_on step at value place n t k₂))
+      go (Err r) k = tt
 
   abbrev From : ℕ → State → Type 0
   From low (state i at n t) = (low ≤ at) × (at ≤ length commands)
 
   after_from : (low i at : ℕ) → low ≤ at → (o : Out) → Moved (suc at) (length commands) o → Says (From low) (Moved low (length commands)) (after_part i o)
   unfolding Moved
-  after_from low i at h (out (T.Next behind n) t) (m₀, m₁) = (omega arith, m₁)
-  after_from low i at h (out (T.Refused refusal place) t) m = tt
+  after_from low i at h (out (Ok to) t) (m₀, m₁) = (omega arith, m₁)
+  after_from low i at h (out (Err r) t) m = tt
 
   pub parts_on : (kind positions place i at n : ℕ) (t : List ℕ) → at ≤ length commands → Moved at (length commands) (parts_from commands text inner kind positions place i at n t)
   unfolding parts_from part_turn
@@ -133,15 +126,15 @@ module _ (commands text : List ℕ) (inner : Readers) (on : On (length commands)
       (Moved at (length commands)) kept (λ s p. stop s) (length commands + 1) (state i at n t) (le_refl at, h)
     where
       stop : (s : State) → Moved at (length commands) (part_stop s)
-      stop (state i here n t) = stopped at (length commands) F.BadCommand here t
+      stop (state i here n t) = stopped at (length commands) (record { refusal = F.BadCommand; place = here }) t
 
       kept : (s : State) → From at s → Says (From at) (Moved at (length commands)) (part_turn commands text inner kind positions place s)
       kept (state i here n t) (p₀, p₁) = go (part_at commands text kind positions i here) (part_known commands text here kind positions i)
         where
-          go : (part : Part) → KnownPart commands text here part → Says (From at) (Moved at (length commands)) (on_part text inner place i here n t part)
-          go (P.Ended behind) (k₀, k₁) = moved at (length commands) behind n t (omega arith) (k₁ p₁)
-          go (P.Step step value) (k₀, k₁, k₂) = after_from at (i + 1) here p₀ _ (moved_from (suc value) (suc here) (length commands) (omega arith) _ (part_on step here value place n t k₂))
-          go (P.Refused refusal offset) k = stopped at (length commands) refusal offset t
+          go : (part : PartRead) → KnownPart commands text here part → Says (From at) (Moved at (length commands)) (on_part text inner place i here n t part)
+          go (Ok (P.Ended behind)) (k₀, k₁) = moved at (length commands) behind n t (omega arith) (k₁ p₁)
+          go (Ok (P.Step step value)) (k₀, k₁, k₂) = after_from at (i + 1) here p₀ _ (moved_from (suc value) (suc here) (length commands) (omega arith) _ (part_on step here value place n t k₂))
+          go (Err r) k = stopped at (length commands) r t
 
   -- ---- a value
   container_on : (options levels kind positions here at place n : ℕ) (t : List ℕ) → at ≤ length commands →
@@ -162,14 +155,14 @@ module _ (commands text : List ℕ) (inner : Readers) (on : On (length commands)
   shape_on options levels here low behind place n t p q (H.Parts kind positions) = moved_from behind low (length commands) p _ (container_on options levels kind positions here behind place n t q)
   shape_on options levels here low behind place n t p q (H.Variant number name contents) = moved_from behind low (length commands) p _
       (variant_on options levels number name contents here behind place n t q)
-  shape_on options levels here low behind place n t p q H.NoValue = stopped low (length commands) F.BadCommand here t
+  shape_on options levels here low behind place n t p q H.NoValue = stopped low (length commands) (record { refusal = F.BadCommand; place = here }) t
 
   read_on : (options levels here place n : ℕ) (t : List ℕ) (answer : Read) → answer ≡ read_command commands text here D.Value →
       Moved (suc here) (length commands) (at_read commands text options levels inner here place n t answer)
-  read_on options levels here place n t (R.Command command behind) e =
+  read_on options levels here place n t (Ok (command, behind)) e =
       shape_on options levels here (suc here) behind place n t (C.next_above commands text here D.Value _ command behind e refl)
       (C.next_within commands text here D.Value _ command behind e refl) (shape_at options text command)
-  read_on options levels here place n t (R.Refused refusal offset) e = stopped (suc here) (length commands) refusal offset t
+  read_on options levels here place n t (Err r) e = stopped (suc here) (length commands) r t
 
   chain_on : (options levels at place n : ℕ) (c : Chain) → FromChain commands at c → Moved (suc at) (length commands) (after_chain commands text options levels inner place n c)
   chain_on options levels at place n (chain here t) h = moved_from (suc here) (suc at) (length commands) (omega arith) _

@@ -5,8 +5,7 @@ use Rattle.logic.specs.laws.Table.{all_below, below_at}
 use Rattle.shapes.specs.Leaf.{leaf_at}
 use Rattle.shapes.specs.laws.Leaf.{LeafThere, leaf_inside, leaf_byte}
 use Rattle.places.specs.Layout.{Sound, Ready}
-use Rattle.leaves.specs.declared.Traced.TheVariants as T
-use Rattle.leaves.specs.Leaves.{out}
+use Rattle.leaves.specs.Leaves.{traced_to, out}
 use Rattle.leaves.specs.Marks.{chain, is_mark, past_marks}
 use Rattle.leaves.specs.Quick.{quick_at}
 use Rattle.leaves.specs.laws.Marks.{past_other, observed_sound}
@@ -29,10 +28,10 @@ module _ (commands text : List ℕ) (options at place n : ℕ) (t : List ℕ) wh
     quick : Quick options commands text at place n t behind u
     quick = quick_is options commands text at place n t behind u some q
 
-    pub quick_read : (levels : ℕ) → out (T.Next behind n) u ≡ value_at commands text options levels at place n t
+    pub quick_read : (levels : ℕ) → out (traced_to behind n) u ≡ value_at commands text options levels at place n t
     quick_read levels =
         value_leaf commands text options at place n t at t (no_marks quick.is_null quick.kind behind quick.leaf)
-        (leaf_at options commands text at) refl quick.is_null quick.kind behind quick.is levels levels (out (T.Next behind n) u) (quick.seen levels)
+        (leaf_at options commands text at) refl quick.is_null quick.kind behind quick.is levels levels (out (traced_to behind n) u) (quick.seen levels)
 
     pub quick_sound : Ready text t n place → Sound text u n
-    quick_sound ready = (observed_sound text t n place ready options quick.is_null quick.kind 0 at behind (T.Next behind n) u (quick.seen 0)).0
+    quick_sound ready = (observed_sound text t n place ready options quick.is_null quick.kind 0 at behind (traced_to behind n) u (quick.seen 0)).0

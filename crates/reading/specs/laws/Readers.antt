@@ -1,19 +1,18 @@
 -- The ways through the readers: what each answers where its callees answered so.
-use Rattle.std.specs.Prelude.{◌≡◌, Bool, true, List, ◌-◌, ℕ, zero, suc, ◌+◌, ◌<◌, length}
+use Rattle.std.specs.Prelude.{◌≡◌, Bool, true, List, ◌-◌, ℕ, zero, suc, ◌+◌, ◌<◌, length, Option, Ok, Err}
 use Rattle.std.proofs.Math.Path.{refl}
 use Rattle.std.proofs.Common.{sym, ap, ◌∙◌, arith}
 use Rattle.std.proofs.lemmas.Bool.{lt-leb}
 use Rattle.logic.specs.Test.{when◌then◌else◌}
 use Rattle.datatype.specs.Codes.{null}
 use Rattle.refusal.specs.declared.Refusal.{Refusal}
+use Rattle.refusal.specs.declared.Refused.{Refused}
 use Rattle.refusal.specs.declared.Refusal.TheVariants as F
 use Rattle.text.specs.declared.Name.{Name}
 use Rattle.text.specs.Name.{dots}
 use Rattle.commands.specs.declared.Command.{Command}
-use Rattle.commands.specs.declared.Read.{Read}
-use Rattle.commands.specs.declared.Read.TheVariants as R
 use Rattle.commands.specs.declared.Due.TheVariants as D
-use Rattle.commands.specs.Commands.{read_command, refusal_of, place_of}
+use Rattle.commands.specs.Commands.{Read, read_command, refused_at}
 use Rattle.model.specs.Kinds.{sequence_kind, struct_kind, tuple_kind}
 use Rattle.shapes.specs.declared.Step.{Step}
 use Rattle.shapes.specs.declared.Contents.{Contents}
@@ -24,20 +23,14 @@ use Rattle.shapes.specs.Steps.{no_name, name_of, Unnamed, Good}
 use Rattle.shapes.specs.laws.Shapes.{no_name_good}
 use Rattle.shapes.specs.Shapes.{shape_at, begins_at, sequence_at, struct_at}
 use Rattle.shapes.specs.laws.Bytes.{sequence_read, struct_read, begins_inside}
-use Rattle.growth.specs.declared.Ensured.{Ensured}
-use Rattle.growth.specs.declared.Ensured.TheVariants as E
-use Rattle.growth.specs.declared.Made.{Made}
-use Rattle.growth.specs.declared.Made.TheVariants as L
-use Rattle.growth.specs.Growth.{ensuring, making}
+use Rattle.growth.specs.Growth.{Ensured, Made, found, ensuring, making}
 use Rattle.kinds.specs.Meeting.{meeting}
-use Rattle.leaves.specs.declared.Traced.TheVariants as T
 use Rattle.shapes.specs.declared.Leaf.{Leaf}
-use Rattle.shapes.specs.declared.Leaf.TheVariants as Y
-use Rattle.shapes.specs.Leaf.{leaf_at}
+use Rattle.shapes.specs.Leaf.{leaf_at, leaf_of}
 use Rattle.shapes.specs.laws.Leaf.{LeafThere, leaf_there}
 use Rattle.reading.specs.Reading.{dots_in, part_read, parts_by, container_by, variant_by, at_shape, value_by, readers, inner_of, value_at, parted}
 use Rattle.opening.specs.Opening.{held, container_made, variant_held}
-use Rattle.leaves.specs.Leaves.{Out, out, observed}
+use Rattle.leaves.specs.Leaves.{Outcome, Out, out, observed}
 use Rattle.leaves.specs.Marks.{chain, past_marks}
 use Rattle.reading.specs.laws.Progress.{less}
 
@@ -48,29 +41,29 @@ inner_is commands text options (suc levels) h = let e : levels ≡ suc levels - 
 
 module _ (commands text : List ℕ) (options levels : ℕ) where
   module _ (kind positions here at place n : ℕ) (t u : List ℕ) (did : Made) (d : making did u ≡ container_made text options levels kind positions place n t) where
-    pub container_parts : (m : ℕ) (o : Out) → did ≡ L.Places m → 0 < levels → o ≡ parts_by commands text (readers commands text options (levels - 1)) kind positions place at m u →
+    pub container_parts : (m : ℕ) (o : Out) → did ≡ Ok m → 0 < levels → o ≡ parts_by commands text (readers commands text options (levels - 1)) kind positions place at m u →
         o ≡ container_by commands text options levels (inner_of commands text options levels) kind positions here at place n t
     unfolding container_by
     container_parts m o e left p = rw (← d, e, inner_is commands text options levels left) p
 
-    pub container_refused : (refusal : Refusal) → did ≡ L.Refused refusal →
-        out (T.Refused refusal here) u ≡ container_by commands text options levels (inner_of commands text options levels) kind positions here at place
+    pub container_refused : (refusal : Refusal) (r : Outcome) → did ≡ Err refusal → r ≡ refused_at refusal here →
+        out r u ≡ container_by commands text options levels (inner_of commands text options levels) kind positions here at place
         n t
     unfolding container_by
-    container_refused refusal e = rw (← d, e) refl
+    container_refused refusal r e p = rw (← d, e, p) refl
 
   module _ (number : ℕ) (name : Name) (contents : Contents) (here at place n : ℕ) (t u : List ℕ) (did : Ensured) (d : ensuring did u ≡ variant_held text options levels number name place n t) where
-    pub variant_child : (child m lower : ℕ) (o : Out) → did ≡ E.Child child m → 0 < levels → lower ≡ levels - 1 - dots_in text name →
+    pub variant_child : (child m lower : ℕ) (o : Out) → did ≡ Ok (found child m) → 0 < levels → lower ≡ levels - 1 - dots_in text name →
         o ≡ readers commands text options lower 0 contents here at child m u →
         o ≡ variant_by text options levels (inner_of commands text options levels) number name contents here at place n t
     unfolding variant_by
     variant_child child m lower o e left l p =
         rw (← d, e, inner_is commands text options levels left, less commands text options (levels - 1) (dots_in text name), ← l) p
 
-    pub variant_refused : (refusal : Refusal) → did ≡ E.Refused refusal →
-        out (T.Refused refusal here) u ≡ variant_by text options levels (inner_of commands text options levels) number name contents here at place n t
+    pub variant_refused : (refusal : Refusal) (r : Outcome) → did ≡ Err refusal → r ≡ refused_at refusal here →
+        out r u ≡ variant_by text options levels (inner_of commands text options levels) number name contents here at place n t
     unfolding variant_by
-    variant_refused refusal e = rw (← d, e) refl
+    variant_refused refusal r e p = rw (← d, e, p) refl
 
 -- ---- at a child
 value_here : (commands text : List ℕ) (options levels here at place n : ℕ) (t : List ℕ) →
@@ -90,15 +83,15 @@ unfolding dots
 no_dots text = refl
 
 module _ (commands text : List ℕ) (options levels : ℕ) (step : Step) (here at place n : ℕ) (t u : List ℕ) (did : Ensured) (d : ensuring did u ≡ held text place step n t) where
-  pub part_child : (child m : ℕ) (o : Out) → did ≡ E.Child child m → Unnamed step → o ≡ value_at commands text options levels at child m u →
+  pub part_child : (child m : ℕ) (o : Out) → did ≡ Ok (found child m) → Unnamed step → o ≡ value_at commands text options levels at child m u →
       o ≡ part_read text (readers commands text options levels) step here at place n t
   unfolding part_read
   part_child child m o e k p =
       rw (← d, e, k.name, no_dots text) (p ∙ value_here commands text options levels here at child m u)
 
-  pub part_refused : (refusal : Refusal) → did ≡ E.Refused refusal → out (T.Refused refusal here) u ≡ part_read text (readers commands text options levels) step here at place n t
+  pub part_refused : (refusal : Refusal) (r : Outcome) → did ≡ Err refusal → r ≡ refused_at refusal here → out r u ≡ part_read text (readers commands text options levels) step here at place n t
   unfolding part_read
-  part_refused refusal e = rw (← d, e) refl
+  part_refused refusal r e p = rw (← d, e, p) refl
 
 -- ---- contents and values
 readers_are : (commands text : List ℕ) (options levels : ℕ) → readers commands text options levels 0 ≡ value_by commands text options levels (inner_of commands text options levels)
@@ -139,7 +132,7 @@ module _ (commands text : List ℕ) (options at place n : ℕ) (t : List ℕ) (h
   named_parted levels below name o l p = value_parted (levels - dots_in text name) o (rw l at p)
 
   -- a leaf asks for no level, so that the dots of a name need not be counted
-  module _ (leaf : Leaf) (l : leaf ≡ leaf_at options commands text here) (is_null : Bool) (kind behind : ℕ) (v : leaf ≡ Y.Value is_null kind behind) where
+  module _ (leaf : Option Leaf) (l : leaf ≡ leaf_at options commands text here) (is_null : Bool) (kind behind : ℕ) (v : leaf ≡ leaf_of is_null kind behind) where
     leaf_is : LeafThere options commands text here is_null kind behind
     leaf_is = leaf_there options commands text here leaf l is_null kind behind v
 
@@ -177,17 +170,17 @@ module _ (commands text : List ℕ) (options levels here place n : ℕ) (t : Lis
   parted_sequence is o s e p = rw (sequence_read commands text here (sym s ∙ e)) p
 
   module _ (read : Read) (r : read ≡ read_command commands text here D.Value) where
-    pub parted_refused : (x refusal : Refusal) (y offset : ℕ) → x ≡ refusal_of read → y ≡ place_of read → read ≡ R.Refused refusal offset →
-        out (T.Refused x y) t ≡ parted commands text options levels here place n t
+    pub parted_refused : (x : Refused) (o : Outcome) → read ≡ Err x → o ≡ Err x →
+        out o t ≡ parted commands text options levels here place n t
     unfolding parted
-    parted_refused x refusal y offset p q e = rw (← r, p, q, e) refl
+    parted_refused x o e p = rw (← r, e, p) refl
 
-    module _ (command : Command) (next : ℕ) (c : read ≡ R.Command command next) (shape : Shape) (s : shape ≡ shape_at options text command) where
+    module _ (command : Command) (next : ℕ) (c : read ≡ Ok (command, next)) (shape : Shape) (s : shape ≡ shape_at options text command) where
       shape_is : at_shape commands text options levels (inner_of commands text options levels) here next place n t shape ≡ parted commands text options levels here place n t
       unfolding parted
       shape_is = rw (← r, c, s) refl
 
-      pub parted_none : shape ≡ H.NoValue → out (T.Refused F.BadCommand here) t ≡ parted commands text options levels here place n t
+      pub parted_none : shape ≡ H.NoValue → out (refused_at F.BadCommand here) t ≡ parted commands text options levels here place n t
       parted_none e = rw e at shape_is
 
       module _ (o : Out) where

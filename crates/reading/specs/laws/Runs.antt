@@ -1,5 +1,5 @@
 -- Elements of a sequence that change nothing: the present sample holds one already, and they are of the type that it has.
-use Rattle.std.specs.Prelude.{◌≡◌, true, not, ◌&&◌}
+use Rattle.std.specs.Prelude.{◌≡◌, true, not, ◌&&◌, Ok}
 use Rattle.std.proofs.Math.Path.{refl, ap}
 use Rattle.std.proofs.Common.{◌∙◌, drop-cons}
 use mathlib.Core.List.{List, [], ◌∷◌}
@@ -23,13 +23,11 @@ use Rattle.shapes.specs.declared.Step.TheVariants as S
 use Rattle.shapes.specs.declared.Part.TheVariants as P
 use Rattle.shapes.specs.Steps.{code_of, no_name}
 use Rattle.shapes.specs.Shapes.{part_at}
-use Rattle.growth.specs.declared.Ensured.TheVariants as E
 use Rattle.places.specs.Layout.{kind_word, samples_word, first_word, step_word, name_word, mark_word}
-use Rattle.growth.specs.Growth.{confirmed, ensuring, ensured_by, ensured, touched}
+use Rattle.growth.specs.Growth.{found, confirmed, ensuring, ensured_by, ensured, touched}
 use Rattle.search.specs.Search.{is_at, find_turn, find_from, child_at}
-use Rattle.leaves.specs.declared.Traced.TheVariants as T
 use Rattle.reading.specs.Reading.{part_read, parts_from, readers}
-use Rattle.leaves.specs.Leaves.{Out, out, observed}
+use Rattle.leaves.specs.Leaves.{traced_to, Out, out, observed}
 use Rattle.reading.specs.laws.Readers.{part_child}
 use Rattle.opening.specs.laws.Opening.{held_child}
 use Rattle.reading.specs.laws.Loops.{element_unnamed, elements_more}
@@ -41,7 +39,7 @@ use Rattle.leaves.specs.laws.Leaves.{observed_again}
 use Rattle.runs.specs.Runs.{behind_run, is_held, past_held, past_same, run_of}
 
 own_observed : (options kind levels here behind place n : ℕ) (t : List ℕ) → is_own_byte kind ≡ true → word t place kind_word ≡ kind →
-    out (T.Next behind n) t ≡ observed options (eqb kind 0) (plain_kind kind) levels here behind place n t
+    out (traced_to behind n) t ≡ observed options (eqb kind 0) (plain_kind kind) levels here behind place n t
 unfolding plain_kind when◌then◌else◌
 own_observed options kind levels here behind place n t own e =
     let small : kind < char_byte = (own_known kind own).1 in
@@ -78,11 +76,11 @@ module _ (place : ℕ) (t : List ℕ) (held : is_held place (word t place first_
   unfolding find_from turns after
   held_found text = ap (after (λ s. turns (find_turn text (code_of S.Element) no_name t) (λ c. 0) place_limit s)) (held_turn text)
 
-  held_confirmed : (text : List ℕ) (n : ℕ) → confirmed text no_name child n t ≡ E.Child child n
+  held_confirmed : (text : List ℕ) (n : ℕ) → confirmed text no_name child n t ≡ Ok (found child n)
   unfolding confirmed eq_name when◌then◌else◌
   held_confirmed text n = rw held_known.2 refl
 
-  held_ensured : (text : List ℕ) (n : ℕ) → ensuring (E.Child (word t place first_word) n) t ≡ ensured text place S.Element n t
+  held_ensured : (text : List ℕ) (n : ℕ) → ensuring (Ok (found (word t place first_word) n)) t ≡ ensured text place S.Element n t
   unfolding ensured ensured_by child_at when◌then◌else◌ child
   held_ensured text n = rw (held_found text, ne_eqb child 0 held_known.0, held_confirmed text n) refl
 
@@ -96,23 +94,23 @@ module _ (commands text : List ℕ) (options levels place n : ℕ) (t : List ℕ
     small : kind < char_byte
     small = (own_known kind own).1
 
-    is_step : P.Step S.Element at ≡ part_at commands text sequence_kind 0 0 at
+    is_step : Ok (P.Step S.Element at) ≡ part_at commands text sequence_kind 0 0 at
     unfolding part_at when◌then◌else◌
     is_step = let h : kind < char_byte = small in rw (bare_read commands text at kind D.ValueOrEnd byte inside (before_text kind (omega arith)) refl, byte, ne_eqb kind end_byte (λ q. omega arith)) refl
 
-    element : out (T.Next (at + 1) n) t ≡ part_read text (readers commands text options levels) S.Element at at place n t
+    element : out (traced_to (at + 1) n) t ≡ part_read text (readers commands text options levels) S.Element at at place n t
     element =
-        part_child commands text options levels S.Element at at place n t t (E.Child (word t place first_word) n)
-        (held_child text t t n place S.Element (E.Child (word t place first_word) n) (held_ensured place t held text n) (word t place first_word) n t refl (held_touched place t held))
-        (word t place first_word) n (out (T.Next (at + 1) n) t) refl element_unnamed
+        part_child commands text options levels S.Element at at place n t t (Ok (found (word t place first_word) n))
+        (held_child text t t n place S.Element (Ok (found (word t place first_word) n)) (held_ensured place t held text n) (found (word t place first_word) n) t refl (held_touched place t held))
+        (word t place first_word) n (out (traced_to (at + 1) n) t) refl element_unnamed
         (let h : kind < char_byte = small in
-        value_plain commands text at kind options levels (word t place first_word) n t (out (T.Next (at + 1) n) t) byte inside (omega arith)
+        value_plain commands text at kind options levels (word t place first_word) n t (out (traced_to (at + 1) n) t) byte inside (omega arith)
         (own_observed options kind levels at (at + 1) (word t place first_word) n t own has))
 
     goes : rest (at + 1) ≡ rest at
     goes =
-        elements_more commands text options levels place at n t (rest at) refl (P.Step S.Element at) is_step S.Element at refl
-        (T.Next (at + 1) n) t element (at + 1) n refl
+        elements_more commands text options levels place at n t (rest at) refl (Ok (P.Step S.Element at)) is_step S.Element at refl
+        (traced_to (at + 1) n) t element (at + 1) n refl
 
   same_run : (xs : List ℕ) (at : ℕ) → drop at commands ≡ xs → rest (at + run_of kind xs) ≡ rest at
   unfolding run_of when◌then◌else◌

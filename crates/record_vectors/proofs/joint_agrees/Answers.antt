@@ -9,8 +9,8 @@ use lib.Dec.{eqb}
 use lib.ListN.{length, get_or}
 use Rattle.files.specs.Bytes.{two_bytes}
 use Rattle.datatype.specs.declared.DataType.{DataType}
-use Rattle.datatype.specs.declared.Decoded.{Decoded}
-use Rattle.datatype.specs.declared.Decoded.TheVariants as E
+use Rattle.datatype.specs.declared.UnknownCode.{UnknownCode}
+use Rattle.std.specs.Prelude.{Result, Ok, Err}
 use Rattle.datatype.specs.Codes.{code_of, decoded}
 use Rattle.coerce.specs.Joint.{joint}
 use Rattle.record_vectors.specs.Joints.{stored_as, is_joint, joint_agrees}
@@ -25,17 +25,17 @@ whole : (stored : List ℕ) (r : Bool) → length stored ≡ 5 →
 unfolding joint_agrees
 whole stored r h e = rw (eq-eqb (length stored) 5 h) e
 
-module _ (word a b code : ℕ) (x : Decoded) (dx : x ≡ decoded a) where
-  no_first : x ≡ E.Unknown → false ≡ is_joint word (decoded a) (decoded b) code
+module _ (word a b code : ℕ) (x : Result DataType UnknownCode) (dx : x ≡ decoded a) where
+  no_first : (u : UnknownCode) → x ≡ Err u → false ≡ is_joint word (decoded a) (decoded b) code
   unfolding is_joint
-  no_first e = rw (sym dx ∙ e)
+  no_first u e = rw (sym dx ∙ e)
 
-  module _ (y : Decoded) (dy : y ≡ decoded b) (first : DataType) (e : x ≡ E.Type first) where
-    no_second : y ≡ E.Unknown → false ≡ is_joint word (decoded a) (decoded b) code
+  module _ (y : Result DataType UnknownCode) (dy : y ≡ decoded b) (first : DataType) (e : x ≡ Ok first) where
+    no_second : (u : UnknownCode) → y ≡ Err u → false ≡ is_joint word (decoded a) (decoded b) code
     unfolding is_joint
-    no_second f = rw (sym dx ∙ e, sym dy ∙ f)
+    no_second u f = rw (sym dx ∙ e, sym dy ∙ f)
 
-    both : (second : DataType) (answer given two : ℕ) → y ≡ E.Type second → two ≡ word → given ≡ two →
+    both : (second : DataType) (answer given two : ℕ) → y ≡ Ok second → two ≡ word → given ≡ two →
         answer ≡ stored_as (joint given (code_of first) (code_of second)) → eqb answer code ≡ is_joint word (decoded a) (decoded b) code
     unfolding is_joint
     both second answer given two f t o g = rw (sym dx ∙ e, sym dy ∙ f, g, o, t)
@@ -46,8 +46,8 @@ returns-then-record-ne5 c = search (other, rules)
 pub returns-in_default : goal.returns-in_default
 returns-in_default c = whole _ _ (search rules) (search (no_first, rules))
 
-pub returns-in_default-from_code : goal.returns-in_default-from_code
-returns-in_default-from_code c = whole _ _ (search rules) (search (no_second, rules))
+pub returns-in_default-try_from : goal.returns-in_default-try_from
+returns-in_default-try_from c = whole _ _ (search rules) (search (no_second, rules))
 
 pub returns : goal.returns
 returns c = whole _ _ (search rules) (search (both, rules))

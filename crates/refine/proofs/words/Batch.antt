@@ -13,10 +13,10 @@ use Rattle.model.specs.Result.{Result, refused, ◌>>=◌}
 use Rattle.model.specs.Reading.{enough, records_from, values}
 use Rattle.model.specs.Tracing.{Counted, counted}
 use Rattle.shapes.specs.declared.Contents.TheVariants as N
-use Rattle.leaves.specs.declared.Traced.TheVariants as T
 use Rattle.reading.specs.Reading.{state, after_part}
 use Rattle.samples.specs.Samples.{level_limit, record_turn, record_stop, records_at, from_samples}
-use Rattle.leaves.specs.Leaves.{Out, out}
+use Rattle.commands.specs.Commands.{refused_at}
+use Rattle.leaves.specs.Leaves.{traced_to, Out, out}
 use Rattle.places.specs.Layout.{kind_word, root_word, block_word}
 use Rattle.refine.specs.laws.numbered.Tree.{Spot, no_spots, num, new_spot, walk_all}
 use Rattle.refine.specs.laws.words.Places.{no_block, Fits}
@@ -29,8 +29,8 @@ use Rattle.refine.proofs.words.Values.{readers_read}
 -- ---- the batch
 -- the whole run: refused alike, or the same count of places and a table that says the tree from place 0 on
 pub data Ends (text : List ℕ) : Result (Counted Spot) → Out → Type 0 where
-  ends : {behind n : ℕ} {t : List ℕ} {u : Spot} → num u ≡ 0 → Fits text t n u → Ends text (counted n u) (out (T.Next behind n) t)
-  turned_down_lem : {x : Refusal} {place : ℕ} {t : List ℕ} → Ends text (refused (number_of x) place) (out (T.Refused x place) t)
+  ends : {behind n : ℕ} {t : List ℕ} {u : Spot} → num u ≡ 0 → Fits text t n u → Ends text (counted n u) (out (traced_to behind n) t)
+  turned_down_lem : {x : Refusal} {place : ℕ} {t : List ℕ} → Ends text (refused (number_of x) place) (out (refused_at x place) t)
 
 batch_sim : (options : ℕ) (commands text : List ℕ) → Bytes commands → (f at n : ℕ) (t : List ℕ) (u : Spot) → at ≤ length commands → length commands ≤ at + f → num u ≡ 0 → Fits text t n u
     → Ends text (walk_all options (records_from f options commands text at) n u) (turns (record_turn commands text options) record_stop (suc f) (state 0 at n t))

@@ -1,5 +1,5 @@
 -- The places that a container makes at once, in the words of the table and in the numbered tree.
-use Rattle.std.specs.Prelude.{◌≡◌, Bool, true, ◌&&◌, ltb}
+use Rattle.std.specs.Prelude.{◌≡◌, Bool, true, ◌&&◌, ltb, Ok, Err}
 use Rattle.std.proofs.Math.Path.{refl, ap, subst}
 use Rattle.std.proofs.Common.{sym, ◌∙◌, le_refl}
 use mathlib.Core.List.{List, [], ◌∷◌}
@@ -24,7 +24,6 @@ use Rattle.model.specs.Tracing.{place_limit, has, made, positions_from, Counted,
 use Rattle.shapes.specs.declared.Step as Flat
 use Rattle.shapes.specs.declared.Step.TheVariants as S
 use Rattle.shapes.specs.Steps.{code_of, no_name, packed_name}
-use Rattle.growth.specs.declared.Made.TheVariants as L
 use Rattle.growth.specs.laws.Growth.{lengthened_aside}
 use Rattle.growth.specs.Growth.{positions_from as positionsOf, made as madeFlat, lengthened, described, appended, Ensuring, Making, making, of_ensuring, made_one, then_made, made_all, appended_from, positions_made}
 use Rattle.places.specs.Layout.{first_word, block_word, parent_word, step_word, name_word}
@@ -49,8 +48,8 @@ positions_stand text i zero = tt
 positions_stand text i (suc n) = (position_stands text i, positions_stand text (suc i) n)
 
 pub data EnsuresAll (text : List ℕ) (p : ℕ) (b : Bool) (k m : ℕ) (ks : Spots) (t : List ℕ) (n at : ℕ) : Result (Counted Spots) → Making → Type 0 where
-  all_there : {n' : ℕ} {ks' : Spots} {t' : List ℕ} → After text t n (spot p b k m ks) t' n' (spot p b k m ks') → EnsuresAll text p b k m ks t n at (counted n' ks') (making (L.Places n') t')
-  not_all : {x : Refusal} {t' : List ℕ} → EnsuresAll text p b k m ks t n at (refused (number_of x) at) (making (L.Refused x) t')
+  all_there : {n' : ℕ} {ks' : Spots} {t' : List ℕ} → After text t n (spot p b k m ks) t' n' (spot p b k m ks') → EnsuresAll text p b k m ks t n at (counted n' ks') (making (Ok n') t')
+  not_all : {x : Refusal} {t' : List ℕ} → EnsuresAll text p b k m ks t n at (refused (number_of x) at) (making (Err x) t')
 
 module _ (text : List ℕ) (p : ℕ) (b : Bool) (k m at : ℕ) where
   all_after : {t t₁ : List ℕ} {n n₁ : ℕ} {ks ks₁ : Spots} {x : Result (Counted Spots)} {y : Making} →
@@ -131,8 +130,8 @@ module _ (text : List ℕ) (p : ℕ) (b : Bool) (k m at c last : ℕ) where
   data Appends (i : ℕ) (t : List ℕ) (n : ℕ) (ks : Spots) : Result (Counted Spots) → Making → Type 0 where
     appends : {n' : ℕ} {ks' : Spots} {t' : List ℕ} →
         After text (with_word t p block_word i) n (spot p b k m ks) (with_word t' p block_word last) n' (spot p b k m ks') →
-        Appends i t n ks (counted n' ks') (making (L.Places n') t')
-    no_room : {t' : List ℕ} → Appends i t n ks (refused (number_of F.TooManyPlaces) at) (making (L.Refused F.TooManyPlaces) t')
+        Appends i t n ks (counted n' ks') (making (Ok n') t')
+    no_room : {t' : List ℕ} → Appends i t n ks (refused (number_of F.TooManyPlaces) at) (making (Err F.TooManyPlaces) t')
 
   appends_after : {i i₁ : ℕ} {t t₁ : List ℕ} {n n₁ : ℕ} {ks ks₁ : Spots} {x : Result (Counted Spots)} {y : Making} →
       After text (with_word t p block_word i) n (spot p b k m ks) (with_word t₁ p block_word i₁) n₁ (spot p b k m ks₁) → Appends i₁ t₁ n₁ ks₁ x y →
@@ -178,7 +177,7 @@ no_positions (suc v) β = absurd (false≢true (β 0 (omega arith)).0)
 
 module _ (text t : List ℕ) (n p : ℕ) (b : Bool) (k m at : ℕ) where
   block_all : (positions : ℕ) (ks : Spots) {x : Result (Counted Spots)} {y : Making} → with_word t p block_word 0 ≡ t → Appends text p b k m at n positions 0 t n ks x y
-      → EnsuresAll text p b k m ks t n at x (then_made y (λ j u. making (L.Places j) (with_word u p block_word positions)))
+      → EnsuresAll text p b k m ks t n at x (then_made y (λ j u. making (Ok j) (with_word u p block_word positions)))
   block_all positions ks e (appends {n' = n'} {ks' = ks'} {t' = t'} d) =
       all_there (subst (λ (x : List ℕ). After text x n (spot p b k m ks) (with_word t' p block_word positions) n' (spot p b k m ks')) e d)
   block_all positions ks e no_room = not_all

@@ -1,5 +1,5 @@
 -- A part: its child is ensured and touched, its value is read there, and the parent stands as it should.
-use Rattle.std.specs.Prelude.{◌≡◌, List, [], ◌∷◌, Bool, ◌||◌, ℕ, ◌+◌, ◌*◌, ◌%◌, ◌<◌, ◌≤◌, length, ltb}
+use Rattle.std.specs.Prelude.{◌≡◌, List, [], ◌∷◌, Bool, ◌||◌, ℕ, ◌+◌, ◌*◌, ◌%◌, ◌<◌, ◌≤◌, length, ltb, Ok, Err}
 use Rattle.std.proofs.Math.Path.{refl, ap, sym, subst}
 use Rattle.std.proofs.Common.{◌∙◌, true≢false, arith}
 use Rattle.std.proofs.Math.Bool.{true, false}
@@ -18,7 +18,6 @@ use Rattle.model.specs.Tracing.{one, has, clashes, place_limit, Counted, counted
 use Rattle.shapes.specs.declared.Step as Flat
 use Rattle.shapes.specs.declared.Step.TheVariants as S
 use Rattle.shapes.specs.Steps.{code_of, no_name, name_of}
-use Rattle.growth.specs.declared.Ensured.TheVariants as E
 use Rattle.growth.specs.Growth.{Ensuring, ensuring, confirmed, ensured_by, ensured, appended, position_in, tagged, onward, touched, entered}
 use Rattle.search.specs.Search.{find_in, in_block, child_at}
 use Rattle.places.specs.Layout.{kind_word, samples_word, first_word, root_word, block_word, left_word, next_word, step_word, held_word, mark_word, right_word}
@@ -34,8 +33,8 @@ use Rattle.refine.proofs.words.Entered.{make_after, numbered_sought}
 -- ---- a child for a step
 pub data Ensures (text : List ℕ) (s : Step) (p : ℕ) (b : Bool) (k m : ℕ) (ks : Spots) (t : List ℕ) (n at : ℕ) : Result (Counted Spots) → Ensuring → Type 0 where
   there : {n' : ℕ} {ks' : Spots} {t' : List ℕ} → has s (steps_s ks') ≡ true → After text t n (spot p b k m ks) t' n' (spot p b k m ks')
-      → Ensures text s p b k m ks t n at (counted n' ks') (ensuring (E.Child (num (spot_at s ks')) n') t')
-  no_place : {x : Refusal} {t' : List ℕ} → Ensures text s p b k m ks t n at (refused (number_of x) at) (ensuring (E.Refused x) t')
+      → Ensures text s p b k m ks t n at (counted n' ks') (ensuring (Ok (record { child = num (spot_at s ks'); count = n' })) t')
+  no_place : {x : Refusal} {t' : List ℕ} → Ensures text s p b k m ks t n at (refused (number_of x) at) (ensuring (Err x) t')
 
 ensure_by : (text t : List ℕ) (n p : ℕ) (x : Flat.Step) (s : Step) (at : ℕ) (b : Bool) (k m : ℕ) (ks : Spots) → Stands text x s → Fits text t n (spot p b k m ks)
     → (c : ℕ) → Sought text t s ks c → Ensures text s p b k m ks t n at (make_s at s n ks) (ensured_by text p (code_of x) (name_of x) n t c)
@@ -46,7 +45,7 @@ ensure_by text t n p x s at b k m ks st h c (absent z far) =
     (λ i. let l : n < place_limit = ltb-true n place_limit i in
     rw (i, lt-leb place_limit n l)
     (subst (λ (c : ℕ). Ensures text s p b k m ks t n at (counted (n + 1) (add_s s n ks))
-    (ensuring (E.Child c (n + 1)) (entered p (code_of x) n (tagged text (name_of x) (position_in p t) n (appended p (code_of x) (name_of x) n t)))))
+    (ensuring (Ok (record { child = c; count = n + 1 })) (entered p (code_of x) n (tagged text (name_of x) (position_in p t) n (appended p (code_of x) (name_of x) n t)))))
     (ap num (add_found s n ks (far_has s ks far)))
     (there (add_among s n ks) (make_after text t n p x s b k m ks st far h l))))
     (λ i. rw (i, le-leb place_limit n (ltb-false n place_limit i)) no_place))

@@ -18,13 +18,13 @@ use Rattle.equality.specs.laws.reading.Steps.{parts_ended, parts_next, parts_bad
 use Rattle.shapes.specs.declared.Step as Flat
 use Rattle.shapes.specs.declared.Contents.{Contents}
 use Rattle.shapes.specs.declared.Contents.TheVariants as N
-use Rattle.shapes.specs.declared.Part.{Part}
+use Rattle.shapes.specs.Shapes.{PartRead}
 use Rattle.shapes.specs.Steps.{name_of}
 use Rattle.growth.specs.Growth.{Ensuring}
-use Rattle.leaves.specs.declared.Traced.TheVariants as T
 use Rattle.reading.specs.Reading.{Reader, Readers, on_held, dots_in, part_read, State, state, after_part, on_part, part_turn, part_stop}
 use Rattle.opening.specs.Opening.{holding, held}
-use Rattle.leaves.specs.Leaves.{Out, out}
+use Rattle.commands.specs.Commands.{refused_at}
+use Rattle.leaves.specs.Leaves.{traced_to, Out, out}
 use Rattle.places.specs.Layout.{samples_word}
 use Rattle.refine.specs.laws.numbered.Tree.{Spot, spot, Spots, num, steps_s, spot_at, put_s, walk, walk_parts}
 use Rattle.refine.specs.laws.reading.Steps.{name_in, dots_of_lem, Stands}
@@ -35,8 +35,8 @@ use Rattle.commands.specs.Bytes.{Bytes}
 
 -- ---- two answers agree: both go on, with the same count of places and a table that says the tree, or both are refused alike
 pub data Agrees (text commands t : List ℕ) (n : ℕ) (u : Spot) (at : ℕ) : Result (Counted Spot) → Out → Option ℕ → Type 0 where
-  went : {a n' : ℕ} {t' : List ℕ} {u' : Spot} → at ≤ a → a ≤ length commands → After text t n u t' n' u' → Agrees text commands t n u at (counted n' u') (out (T.Next a n') t') (some a)
-  balked : {x : Refusal} {b : ℕ} {t' : List ℕ} {o : Option ℕ} → Agrees text commands t n u at (refused (number_of x) b) (out (T.Refused x b) t') o
+  went : {a n' : ℕ} {t' : List ℕ} {u' : Spot} → at ≤ a → a ≤ length commands → After text t n u t' n' u' → Agrees text commands t n u at (counted n' u') (out (traced_to a n') t') (some a)
+  balked : {x : Refusal} {b : ℕ} {t' : List ℕ} {o : Option ℕ} → Agrees text commands t n u at (refused (number_of x) b) (out (refused_at x b) t') o
 
 pub agrees_after : {text commands t t₁ : List ℕ} {n n₁ : ℕ} {u u₁ : Spot} {at at₁ : ℕ} {x : Result (Counted Spot)} {y : Out} {o : Option ℕ}
     → After text t n u t₁ n₁ u₁ → at ≤ at₁ → Agrees text commands t₁ n₁ u₁ at₁ x y o → Agrees text commands t n u at x y o
@@ -119,7 +119,7 @@ module _ (options : ℕ) (commands text : List ℕ) (bytes : Bytes commands) (de
         go (λ a₂ n₂ t₂ ks₂ lt le h₂. parts_sim g f (i + 1) a₂ n₂ t₂ ks₂ le (omega arith) (omega arith) h₂) (part_says commands text bytes at k r i) refl (next_inside commands text at k r i x)
       where
         go : Onwards (at + 1) (i + 1) (λ a₂. read_parts f options commands text k r (i + 1) a₂) (λ s. turns (part_turn commands text inner k r p) part_stop g s)
-            → {y : Part} {v : Next} → Says text y v → next_part commands text k r i at ≡ v → NextInside commands at v
+            → {y : PartRead} {v : Next} → Says text y v → next_part commands text k r i at ≡ v → NextInside commands at v
             → Agrees text commands t n (spot p b j m ks) at (wrap p b j m (walk_parts options depth m (read_parts (suc f) options commands text k r i at).0 n ks))
             (after (λ s. turns (part_turn commands text inner k r p) part_stop g s) (on_part text inner p i at n t y)) (read_parts (suc f) options commands text k r i at).1
         go ih (says_end {b = a}) d o = rw (parts_ended options commands text f k r i at a d) (went o.0 o.1 (stays text t n (spot p b j m ks) h))

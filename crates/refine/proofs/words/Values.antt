@@ -12,6 +12,7 @@ use Rattle.logic.specs.Test.{when◌then◌else◌}
 use Rattle.logic.specs.laws.Test.{cases}
 use Rattle.logic.specs.Turns.{turns, after}
 use Rattle.datatype.specs.Codes.{null}
+use Rattle.refusal.specs.declared.Refusal.{Refusal}
 use Rattle.text.specs.declared.Name.{Name}
 use Rattle.text.specs.Name.{bytes_of}
 use Rattle.words.specs.Word.{word, with_word}
@@ -28,15 +29,13 @@ use Rattle.shapes.specs.declared.Step.TheVariants as S
 use Rattle.shapes.specs.declared.Contents.{Contents}
 use Rattle.shapes.specs.declared.Contents.TheVariants as N
 use Rattle.shapes.specs.declared.Shape as FlatShape
-use Rattle.kinds.specs.declared.Met.{Met}
-use Rattle.kinds.specs.declared.Met.TheVariants as M
+use Rattle.std.specs.Prelude as M
 use Rattle.growth.specs.Growth.{made as madeFlat, Making, onward, sampled, ensured}
 use Rattle.kinds.specs.Meeting.{meeting}
-use Rattle.leaves.specs.declared.Traced.TheVariants as T
 use Rattle.leaves.specs.Marks.{marked as markedFlat, some_byte, newtype_byte, chain, past_turn, past_marks}
 use Rattle.reading.specs.Reading.{on_made, Readers, State, state, after_part, parts_from, parts_by, container_by, variant_by, at_shape, at_read, after_chain, value_by, none_left, readers, on_held, dots_in}
 use Rattle.opening.specs.Opening.{holding, held, made_where, container_made, held_where, variant_held}
-use Rattle.leaves.specs.Leaves.{Out, out, on_met, stored, observed}
+use Rattle.leaves.specs.Leaves.{traced_to, Out, out, on_met, stored, observed}
 use Rattle.places.specs.Layout.{kind_word, null_word, samples_word}
 use Rattle.refine.specs.laws.numbered.Tree.{Spot, spot, Spots, num, make_all_s, walk, walk_parts}
 use Rattle.refine.specs.laws.reading.Steps.{Stands}
@@ -64,12 +63,12 @@ rest_pure none = refl
 rest_pure (some a) = refl
 
 abbrev stopped : State → Out
-stopped (state i a n t) = out (T.Next a n) t
+stopped (state i a n t) = out (traced_to a n) t
 
 done_part : (i : ℕ) (y : Out) → after stopped (after_part i y) ≡ y
 unfolding after
-done_part i (out (T.Next a n) t) = refl
-done_part i (out (T.Refused x a) t) = refl
+done_part i (out (M.Ok to) t) = refl
+done_part i (out (M.Err r) t) = refl
 
 -- kind and samples are written
 sample : (text t : List ℕ) (n p : ℕ) (b : Bool) (j₀ m : ℕ) (ks : Spots) → Fits text t n (spot p b j₀ m ks) → (j : ℕ) → After text t n (spot p b j₀ m ks) (sampled p j t) n (spot p b j (onward m) ks)
@@ -98,16 +97,16 @@ module _ (options : ℕ) (commands text : List ℕ) (bytes : Bytes commands) (de
         i,
       ) (go null (meeting options levels j₀ k))
     where
-      go : (null : Bool) (x : Met) →
+      go : (null : Bool) (x : M.Result ℕ Refusal) →
           Agrees text commands t n (spot p b j₀ m ks) lo (of_met here x >>= λ j. counted n (spot p (b || null) j m ks))
-          (on_met here t (λ j. out (T.Next a n) (when null then with_word (with_word t p kind_word j) p null_word 1 else with_word t p kind_word j)) x)
+          (on_met here t (λ j. out (traced_to a n) (when null then with_word (with_word t p kind_word j) p null_word 1 else with_word t p kind_word j)) x)
           (some a)
-      go null (M.Refused x) = balked
-      go true (M.Kind j) =
+      go null (M.Err x) = balked
+      go true (M.Ok j) =
           let A = set_kind text t n p b j₀ m ks h j in
           rw (or-true b) (went y z (and_then text t (with_word t p kind_word j) (with_word (with_word t p kind_word j) p null_word 1) n n n
           (spot p b j₀ m ks) (spot p b j m ks) (spot p true j m ks) A (set_null text (with_word t p kind_word j) n p b j m ks A.fits)))
-      go false (M.Kind j) = rw (or-false b) (went y z (set_kind text t n p b j₀ m ks h j))
+      go false (M.Ok j) = rw (or-false b) (went y z (set_kind text t n p b j₀ m ks h j))
 
   contents_sim : (levels ≡ 0 → ⊥) → (k r f here at n p : ℕ) (b : Bool) (j m : ℕ) (t : List ℕ) (ks : Spots) → at ≤ length commands →
       4 * length commands + 2 ≤ 4 * at + f → {x : Result (Counted Spots)} {y : Making} → EnsuresAll text p b j m ks t n here x y
@@ -127,12 +126,12 @@ module _ (options : ℕ) (commands text : List ℕ) (bytes : Bytes commands) (de
       let w : word t p kind_word ≡ j₀ = h.rep.0 0 (omega arith) in
       rw (w, meets options depth levels here j₀ k level, c, or-false b) (go (meeting options levels j₀ k) refl)
     where
-      go : (x : Met) → meeting options levels j₀ k ≡ x → Agrees text commands t n (spot p b j₀ m ks) at
+      go : (x : M.Result ℕ Refusal) → meeting options levels j₀ k ≡ x → Agrees text commands t n (spot p b j₀ m ks) at
           (of_met here x >>= λ j. make_all_s here (made k r j₀) n ks >>= λ q. walk_parts options depth (onward m)
           (read_parts f options commands text k r 0 at).0 q.places q.what >>= λ q. counted q.places (spot p b j (onward m) q.what))
           (on_made here (parts_by commands text inner k r p at) (made_where t (λ j. madeFlat text p k r j₀ n (sampled p j t)) x)) (read_parts f options commands text k r 0 at).1
-      go (M.Refused x) e = balked
-      go (M.Kind j) e =
+      go (M.Err x) e = balked
+      go (M.Ok j) e =
           let A = sample text t n p b j₀ m ks h j in
           agrees_after A (le_refl at)
           (contents_sim (met_level options levels j₀ k j c e) k r f here at n p b j (onward m) (sampled p j t) ks y i (ensure_made text (sampled p j t) n p b j (onward m) here k r j₀ ks A.fits))
@@ -154,11 +153,11 @@ module _ (options : ℕ) (commands text : List ℕ) (bytes : Bytes commands) (de
       base (N.Positions n) = omega arith
       base N.Fields = omega arith
 
-      go : (z : Met) → meeting options levels j₀ union_kind ≡ z → Agrees text commands t n (spot p b j₀ m ks) at
+      go : (z : M.Result ℕ Refusal) → meeting options levels j₀ union_kind ≡ z → Agrees text commands t n (spot p b j₀ m ks) at
           (of_met here z >>= λ j. wrap p b j (onward m) (walk_parts options depth (onward m) (part here (variant k (bytes_of text name)) (read_in f options commands text c here at).0 no_parts) n ks))
           (on_held here (inner (dots_in text name) c here at) (held_where t (λ j. holding p (ensured text p (S.Variant k name) n (sampled p j t))) z)) (read_in f options commands text c here at).1
-      go (M.Refused x) e = balked
-      go (M.Kind j) e =
+      go (M.Err x) e = balked
+      go (M.Ok j) e =
           let t₂ : List ℕ = sampled p j t in
           let A = sample text t n p b j₀ m ks h j in
           let E = ensure_is text t₂ n p (S.Variant k name) (variant k (bytes_of text name)) here b j (onward m) ks st A.fits in

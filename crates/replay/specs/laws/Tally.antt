@@ -7,7 +7,7 @@ use Rattle.logic.specs.laws.Test.{if_passed, if_failed, cases}
 use Rattle.logic.specs.Turns.{again, done}
 use Rattle.logic.specs.laws.Turns.{Falls, goes_on, ends}
 use Rattle.files.specs.Bytes.{between}
-use Rattle.replay.specs.Records.{record_end}
+use Rattle.replay.specs.Records.{IsEnd}
 use Rattle.replay.specs.Tally.{Passed, tally_of, pass, tally_from}
 use Rattle.replay.specs.declared.Tally.{Tally}
 
@@ -52,23 +52,22 @@ module _ (size : ℕ) (end : ℕ → ℕ) (agrees : ℕ → Bool) (later : (at :
     unfolding tally_from
     tally_ends all h e = sym (ends (pass size end agrees) tally_of left falls (suc size) here (tally_of here) (omega arith) (at_end here h)) ∙ e
 
--- ---- records behind a byte that counts them
-record_later : (vectors : List ℕ) (at : ℕ) → at < length vectors → at < record_end vectors at
-record_later vectors at h = omega arith
-
-module _ (agrees : List ℕ → Bool) (vectors : List ℕ) (all : Tally) where
+-- ---- the records of a file
+module _ (head : ℕ) (end : List ℕ → ℕ → ℕ) (answer : List ℕ → Bool) (vectors : List ℕ) (all : Tally) where
   -- the rest of the file, with what is passed, gives that
   abbrev pub RestGives : ℕ → ℕ → ℕ → Type 0
   RestGives at records differ =
-      tally_from (length vectors) (record_end vectors) (λ at'. agrees (between (at' + 1) (record_end vectors at') vectors))
+      tally_from (length vectors) (end vectors) (λ at'. answer (between (at' + head) (end vectors at') vectors))
       (record { at = at; records = records; differ = differ })
       ≡ all
 
-  pub record_on : (at records differ behind : ℕ) (flag : Bool) (one : ℕ) → at < length vectors → behind ≡ record_end vectors at →
-      flag ≡ agrees (between (at + 1) behind vectors) → one ≡ (when flag then 0 else 1) → RestGives at records differ →
-      RestGives behind (records + 1) (differ + one)
-  record_on at records differ behind flag one h en ef eo e =
-      tally_on (length vectors) (record_end vectors) _ (record_later vectors) at records differ behind flag one all h en (ef ∙ rw en) eo e
+  module _ (ending : (at : ℕ) → at < length vectors → IsEnd vectors at head (end vectors at)) (at records differ : ℕ) where
+    pub replayed_on : (skipped behind : ℕ) (flag : Bool) (one : ℕ) → at < length vectors → skipped ≡ head → behind ≡ end vectors at →
+        flag ≡ answer (between (at + skipped) behind vectors) → one ≡ (when flag then 0 else 1) → RestGives at records differ →
+        RestGives behind (records + 1) (differ + one)
+    replayed_on skipped behind flag one h es en ef eo e =
+        tally_on (length vectors) (end vectors) _ (λ a below. (ending a below).0) at records differ behind flag one all h en (ef ∙ rw (en, es)) eo e
 
-  pub record_ends : (at records differ : ℕ) → length vectors ≤ at → RestGives at records differ → tally_of (record { at = at; records = records; differ = differ }) ≡ all
-  record_ends at records differ h e = tally_ends (length vectors) (record_end vectors) _ (record_later vectors) at records differ all h e
+    pub replayed_ends : length vectors ≤ at → RestGives at records differ →
+        tally_of (record { at = at; records = records; differ = differ }) ≡ all
+    replayed_ends h e = tally_ends (length vectors) (end vectors) _ (λ a below. (ending a below).0) at records differ all h e

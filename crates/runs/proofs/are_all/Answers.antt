@@ -3,13 +3,12 @@ use borrow.Author.Rules.{rules}
 use mathlib.Core.Path.{◌≡◌, refl}
 use mathlib.Core.Bool.{Bool, false, not, ◌||◌}
 use mathlib.Core.List.{List}
-use Prim.Native.Nat.{ℕ, ◌+◌, ◌≤◌}
+use Prim.Native.Nat.{ℕ, ◌+◌}
 use native.Mathlib.Numerals.{add-one}
-use native.Mathlib.Omega.{arith}
 use lib.Dec.{eqb}
 use lib.ListN.{get_or}
 use Rattle.logic.specs.laws.Test.{cases}
-use Rattle.runs.specs.Runs.{are_all, block_length}
+use Rattle.runs.specs.Runs.{are_all}
 use Rattle.runs.proofs.are_all.Goals as goal
 
 module _ (commands : List ℕ) (byte at : ℕ) where
@@ -22,16 +21,14 @@ module _ (commands : List ℕ) (byte at : ℕ) where
     unfolding are_all
     more b h = rw (add-one, e, h) (cases (are_all commands byte at i) (λ a. rw a) (λ a. rw a))
 
-    all : i ≤ block_length → block_length ≤ i → not other ≡ are_all commands byte at block_length
-    all a b =
-        let q : i ≡ block_length = omega arith in
-        rw (e, q) (cases (are_all commands byte at block_length) (λ a. rw a) (λ a. rw a))
+    all : not other ≡ are_all commands byte at i
+    all = rw e (cases (are_all commands byte at i) (λ a. rw a) (λ a. rw a))
 
 pub loop-i-init : goal.loop-i-init
-loop-i-init c = (search (none, rules), search rules)
+loop-i-init c = search (none, rules)
 
 pub loop-i-preserved : goal.loop-i-preserved
-loop-i-preserved c = (search (more, rules), search rules)
+loop-i-preserved c = search (more, rules)
 
 pub returns : goal.returns
 returns c = search (all, rules)

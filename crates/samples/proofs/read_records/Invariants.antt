@@ -6,8 +6,8 @@ use Rattle.places.specs.Layout.{Ready}
 use Rattle.samples.specs.Samples.{records_at, from_samples}
 use Rattle.samples.proofs.read_records.Given as goal
 
-abbrev pub invariant-loop-at : goal.invariant-loop-at
-invariant-loop-at l = (records_at l.commands l.text l.options.word l.at l.places l.table ≡ from_samples l.commands l.text l.options.word l.initial.table) × Ready l.text l.table l.places 0 × (length l.table ≡ length l.initial.table)
+abbrev pub invariant-loop-read : goal.invariant-loop-read
+invariant-loop-read l = (records_at l.commands l.text l.options.word l.read.next l.read.count l.table ≡ from_samples l.commands l.text l.options.word l.initial.table) × Ready l.text l.table l.read.count 0 × (length l.table ≡ length l.initial.table)
 
-abbrev pub decreases-loop-at : goal.decreases-loop-at
-decreases-loop-at l = length l.commands - l.at
+abbrev pub decreases-loop-read : goal.decreases-loop-read
+decreases-loop-read l = length l.commands - l.read.next

@@ -1,6 +1,5 @@
 -- The emission of a place, of its children and of a child, as one cycle: the levels fall. Over the children, those that are left give what all give.
 use borrow.Author.Rules.{rules}
-use mathlib.Core.Path.{refl}
 use Prim.Native.Nat.{◌≤◌}
 use native.Mathlib.Omega.{arith}
 use Rattle.schema.proofs.Emits.{spent, ended, next, in_child, some_level, leaf, opened}
@@ -21,16 +20,17 @@ emit-returns t c = (search (opened, rules), search rules)
 pub emit_child-returns : goal.emit_child-returns
 emit_child-returns t c = (search (in_child, rules), search rules)
 
-pub emit_children-loop-left-init : goal.emit_children-loop-left-init
-emit_children-loop-left-init t c = (refl, search rules, search rules, search rules, search rules, search rules, search rules, search rules)
-
 pub emit_children-returns-then-child-eq0 : goal.emit_children-returns-then-child-eq0
 emit_children-returns-then-child-eq0 t c = (search (ended, rules), search rules)
 
-pub emit_children-loop-left-preserved : goal.emit_children-loop-left-preserved
-emit_children-loop-left-preserved t c =
-    let l = c.loop-left in
-    (search (next, rules), search rules, l.invariant.2, l.invariant.3, search rules, search rules, search rules, search rules)
+pub emit_children-loop-preserved : goal.emit_children-loop-preserved
+emit_children-loop-preserved t c = record {
+  same_whole = search (next, rules);
+  child_row = search rules;
+  place_row = c.loop.invariant.place_row;
+  linked = c.loop.invariant.linked;
+  within = search rules;
+}
 
 pub emit_children-returns : goal.emit_children-returns
 emit_children-returns t c = (search (spent, rules), search rules)

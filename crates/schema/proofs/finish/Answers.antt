@@ -12,43 +12,44 @@ use Rattle.refusal.specs.declared.Refusal.TheVariants as F
 use Rattle.words.specs.Word.{word}
 use Rattle.model.specs.Emission.{emits_struct}
 use Rattle.places.specs.Layout.{kind_word, null_word, root_place}
-use Rattle.schema.specs.declared.Emitted.TheVariants as E
+use Rattle.std.specs.Prelude.{Ok, Err}
+use Rattle.walk.specs.Walk.{counts}
 use Rattle.putting.specs.Put.{writing}
 use Rattle.schema.specs.Emit.{answered, emitted_at, fields_below, level_limit, finished}
 use Rattle.schema.proofs.finish.Goals as goal
 
 module _ (options : ℕ) (text t fields names : List ℕ) (records bytes below kind seen : ℕ) (k : kind ≡ word t root_place kind_word) (u : seen ≡ word t root_place null_word) where
-  nullable_root_lem : seen ≡ 1 → answered (E.Refused F.NullableRoot) fields names ≡ finished options text t fields names records bytes below
+  nullable_root_lem : seen ≡ 1 → answered (Err F.NullableRoot) fields names ≡ finished options text t fields names records bytes below
   unfolding finished when◌then◌else◌
   nullable_root_lem e = rw (← u, eq-eqb seen 1 e)
 
   module _ (n : seen ≡ 1 → ⊥) where
-    null_root_lem : kind ≡ null → answered (E.Refused F.NullRoot) fields names ≡ finished options text t fields names records bytes below
+    null_root_lem : kind ≡ null → answered (Err F.NullRoot) fields names ≡ finished options text t fields names records bytes below
     unfolding finished when◌then◌else◌
     null_root_lem e = rw (← u, ne_eqb seen 1 n, ← k, eq-eqb kind null e)
 
     module _ (m : kind ≡ null → ⊥) (root : Bool) (r : root ≡ emits_struct kind) where
-      no_struct : not root ≡ true → answered (E.Refused F.RootNotStruct) fields names ≡ finished options text t fields names records bytes below
+      no_struct : not root ≡ true → answered (Err F.RootNotStruct) fields names ≡ finished options text t fields names records bytes below
       unfolding finished when◌then◌else◌
       no_struct p = rw (← u, ne_eqb seen 1 n, ← k, ne_eqb kind null m, sym r ∙ not-true root p)
 
       -- against the buffers
-      module _ (s : not root ≡ false) (needed : ℕ) (d : needed ≡ records) where
-        short_fields : length fields < needed * 8 → answered (E.Refused F.ShortBuffer) fields names ≡ finished options text t fields names records bytes below
+      module _ (s : not root ≡ false) where
+        short_fields : length fields < records * 8 → answered (Err F.ShortBuffer) fields names ≡ finished options text t fields names records bytes below
         unfolding finished when◌then◌else◌
-        short_fields h = rw (← u, ne_eqb seen 1 n, ← k, ne_eqb kind null m, sym r ∙ not-false root s, ← d, lt-ltb (length fields) (needed * 8) h)
+        short_fields h = rw (← u, ne_eqb seen 1 n, ← k, ne_eqb kind null m, sym r ∙ not-false root s, lt-ltb (length fields) (records * 8) h)
 
-        module _ (g : needed * 8 ≤ length fields) (many : ℕ) (b : many ≡ bytes) where
-          short_names : length names < many → answered (E.Refused F.ShortBuffer) fields names ≡ finished options text t fields names records bytes below
+        module _ (g : records * 8 ≤ length fields) where
+          short_names : length names < bytes → answered (Err F.ShortBuffer) fields names ≡ finished options text t fields names records bytes below
           unfolding finished when◌then◌else◌
           short_names h =
-              rw (← u, ne_eqb seen 1 n, ← k, ne_eqb kind null m, sym r ∙ not-false root s, ← d, le-ltb (length fields) (needed * 8) g, ← b, lt-ltb (length names) many h)
+              rw (← u, ne_eqb seen 1 n, ← k, ne_eqb kind null m, sym r ∙ not-false root s, le-ltb (length fields) (records * 8) g, lt-ltb (length names) bytes h)
 
-          emitted : (i j : ℕ) (out named : List ℕ) → many ≤ length names → writing i j out named ≡ fields_below t (emitted_at options text t level_limit) kind root_place (writing 0 0 fields names) →
-              answered (E.Schema records bytes below) out named ≡ finished options text t fields names records bytes below
+          emitted : (i j : ℕ) (out named : List ℕ) → bytes ≤ length names → writing i j out named ≡ fields_below t (emitted_at options text t level_limit) kind root_place (writing 0 0 fields names) →
+              answered (Ok (counts records bytes below)) out named ≡ finished options text t fields names records bytes below
           unfolding finished when◌then◌else◌
           emitted i j out named h e =
-              rw (← u, ne_eqb seen 1 n, ← k, ne_eqb kind null m, sym r ∙ not-false root s, ← d, le-ltb (length fields) (needed * 8) g, ← b, le-ltb (length names) many h, ← e)
+              rw (← u, ne_eqb seen 1 n, ← k, ne_eqb kind null m, sym r ∙ not-false root s, le-ltb (length fields) (records * 8) g, le-ltb (length names) bytes h, ← e)
 
 pub returns-then-get-eq1 : goal.returns-then-get-eq1
 returns-then-get-eq1 c = search (nullable_root_lem, rules)
@@ -59,13 +60,13 @@ returns-then-kind-eq-UNKNOWN c = search (null_root_lem, rules)
 pub returns-then-not-emits_struct : goal.returns-then-not-emits_struct
 returns-then-not-emits_struct c = search (no_struct, rules)
 
-pub returns-then-fields-wide : goal.returns-then-fields-wide
-returns-then-fields-wide c = search (short_fields, rules)
+pub returns-then-fields-counts : goal.returns-then-fields-counts
+returns-then-fields-counts c = search (short_fields, rules)
 
-pub returns-then-names-wide : goal.returns-then-names-wide
-returns-then-names-wide c = search (short_names, rules)
+pub returns-then-names-counts : goal.returns-then-names-counts
+returns-then-names-counts c = search (short_names, rules)
 
 pub returns : goal.returns
 returns c =
     emitted _ _ _ _ _ _ _ _ _ _ c.get-kind.ensures c.get.ensures c.if-get-eq1.false c.if-kind-eq-UNKNOWN.false _ c.emits_struct.ensures (rw c.if-not-emits_struct.false refl)
-    _ c.wide.ensures c.if-fields-wide.false _ c.wide-2.ensures _ _ _ _ c.if-names-wide.false c.emit_children.ensures.0
+    c.if-fields-counts.false _ _ _ _ c.if-names-counts.false c.emit_children.ensures.0

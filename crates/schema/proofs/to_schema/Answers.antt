@@ -1,30 +1,30 @@
 -- `to_schema` puts children in order, and goes by what the first walk answers.
-use borrow.Author.Rules.{rules}
-use mathlib.Core.Path.{◌≡◌, sym, ◌∙◌}
-use mathlib.Core.List.{List}
-use Prim.Native.Nat.{ℕ}
+use Rattle.std.proofs.Common.{◌≡◌, Ok, Err, ℕ, List, sym, ◌∙◌, rules}
+use Rattle.std.proofs.lemmas.Result.{err_from_is_err_and}
 use Rattle.refusal.specs.declared.Refusal.{Refusal}
 use Rattle.places.specs.Layout.{root_place}
-use Rattle.walk.specs.declared.Walked.{Walked}
-use Rattle.walk.specs.declared.Walked.TheVariants as W
-use Rattle.walk.specs.Walk.{walked}
-use Rattle.schema.specs.declared.Emitted.TheVariants as E
-use Rattle.schema.specs.Emit.{Answered, answered, level_limit, finished, to_schema_at}
+use Rattle.walk.specs.declared.Counts.{Counts}
+use Rattle.walk.specs.Walk.{Walked, walked}
+use Rattle.schema.specs.Emit.{Emitted, Answered, answered, level_limit, finished, to_schema_at}
 use Rattle.schema.proofs.to_schema.Goals as goal
 
 -- t is the table with the children in order
 module _ (options : ℕ) (text t ordered fields names : List ℕ) (o : t ≡ ordered) (answer : Walked) (a : answer ≡ walked options text t level_limit root_place) where
-  refused : (refusal : Refusal) → answer ≡ W.Refused refusal → answered (E.Refused refusal) fields names ≡ to_schema_at options text ordered fields names
+  refused : (refusal same : Refusal) (r : Emitted) → answer ≡ Err refusal → r ≡ Err same → same ≡ refusal →
+      answered r fields names ≡ to_schema_at options text ordered fields names
   unfolding to_schema_at
-  refused refusal e = rw (← o, sym a ∙ e)
+  refused refusal same r e p q = rw (← o, sym a ∙ e, p, q)
 
-  walked_through : (records bytes below : ℕ) (whole : Answered) → answer ≡ W.Below records bytes below →
-      whole ≡ finished options text t fields names records bytes below → whole ≡ to_schema_at options text ordered fields names
+  walked_through : (c : Counts) (whole : Answered) → answer ≡ Ok c →
+      whole ≡ finished options text t fields names c.records c.names c.columns → whole ≡ to_schema_at options text ordered fields names
   unfolding to_schema_at
-  walked_through records bytes below whole e f = rw (← o, sym a ∙ e) f
+  walked_through c whole e f = rw (← o, sym a ∙ e) f
 
-pub returns-in-Refused : goal.returns-in-Refused
-returns-in-Refused c = (search (refused, rules), search rules)
+pub returns-in_err-counts : goal.returns-in_err-counts
+returns-in_err-counts c =
+    let p = err_from_is_err_and c.from_residual.result c.from_residual.ensures.1 in
+    let o = c.sort_places.ensures in
+    (refused _ _ _ _ _ _ o.0 _ c.walk_place.ensures _ _ _ c.in_err-counts.was p.1 p.2, o.0)
 
-pub returns-in-Below : goal.returns-in-Below
-returns-in-Below c = (search (walked_through, rules), search rules)
+pub returns : goal.returns
+returns c = (search (walked_through, rules), search rules)

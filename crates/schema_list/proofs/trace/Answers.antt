@@ -1,5 +1,4 @@
 -- `trace` lends a table of zeros, and forgets what is left in it.
-use borrow.Author.Rules.{rules}
 use mathlib.Core.Path.{◌≡◌, refl, sym, ap, ◌∙◌}
 use mathlib.Core.List.{List}
 use Prim.Native.Nat.{ℕ}

@@ -15,7 +15,7 @@ pub returns-then-get-code : goal.returns-then-get-code
 returns-then-get-code c = search (seek_found, rules)
 
 pub follow-child-requires-in-loop-child : goal.follow-child-requires-in-loop-child
-follow-child-requires-in-loop-child c = let h : c.loop-child.child < c.args.count = search (leads_below, rules) in (search rules, search rules, search rules)
+follow-child-requires-in-loop-child c = let h : c.loop-child.child < c.args.count = search (leads_below, rules) in (search rules, search rules)
 
 pub loop-child-smaller : goal.loop-child-smaller
 loop-child-smaller c = search (ahead_falls, rules)

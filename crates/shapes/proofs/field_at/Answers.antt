@@ -1,4 +1,5 @@
 -- `field_at`: a law for each way.
+use Rattle.std.specs.Prelude.{Ok, Err, Some, None}
 use borrow.Author.Rules.{rules}
 use mathlib.Core.Path.{◌≡◌, refl, sym, ◌∙◌}
 use mathlib.Core.Bool.{Bool, true, false}
@@ -9,15 +10,12 @@ use lib.Dec.{eqb}
 use Rattle.logic.specs.Test.{when◌then◌else◌}
 use Rattle.logic.specs.laws.Flag.{if_either}
 use Rattle.text.specs.declared.Name.{Name}
-use Rattle.refusal.specs.declared.Refusal.{Refusal}
+use Rattle.refusal.specs.declared.Refused.{Refused}
 use Rattle.commands.specs.declared.Command.{Command}
 use Rattle.commands.specs.declared.Due.{Due}
 use Rattle.commands.specs.declared.Due.TheVariants as D
-use Rattle.commands.specs.declared.Read.{Read}
-use Rattle.commands.specs.declared.Read.TheVariants as R
-use Rattle.commands.specs.Commands.{name_at, end_byte, stands, bad_key, read_command, refusal_of}
+use Rattle.commands.specs.Commands.{name_at, end_byte, stands, bad_key, read_command, Read}
 use Rattle.model.specs.Kinds.{struct_kind}
-use Rattle.shapes.specs.declared.Field.TheVariants as O
 use Rattle.shapes.specs.Shapes.{begins_at, named_at}
 use Rattle.shapes.specs.laws.Bytes.{named_fits, end_read}
 use Rattle.shapes.specs.Field.{opener_of, due_of, end_or, field_at}
@@ -27,12 +25,12 @@ due_has : (P : Due → Type 0) (kind : ℕ) → P D.FieldOrEnd → P D.KeyOrEnd 
 due_has P kind p q = if_either P (eqb kind struct_kind) p q
 
 module _ (commands text : List ℕ) (kind at byte : ℕ) (flag : Bool) (b : byte ≡ opener_of kind) (f : flag ≡ named_at commands text byte at) where
-  a_name : (name : Name) → flag ≡ true → name ≡ name_at commands (at + 1) → O.Named name ≡ field_at commands text kind at
+  a_name : (name : Name) → flag ≡ true → name ≡ name_at commands (at + 1) → Ok (Some name) ≡ field_at commands text kind at
   unfolding field_at when◌then◌else◌
   a_name name is n = rw (← b, sym f ∙ is, n)
 
   -- the end stands where a field can
-  at_once : (last : Bool) → flag ≡ false → last ≡ begins_at commands end_byte at → last ≡ true → O.Ended ≡ field_at commands text kind at
+  at_once : (last : Bool) → flag ≡ false → last ≡ begins_at commands end_byte at → last ≡ true → Ok None ≡ field_at commands text kind at
   unfolding field_at when◌then◌else◌
   at_once last fails l is =
       rw (
@@ -47,11 +45,11 @@ module _ (commands text : List ℕ) (kind at byte : ℕ) (flag : Bool) (b : byte
     unfolding field_at when◌then◌else◌
     read_on = rw (← b, sym f ∙ fails, e, d)
 
-    an_end : (command : Command) (next : ℕ) → answer ≡ R.Command command next → O.Ended ≡ field_at commands text kind at
-    an_end command next h = rw h at read_on
+    an_end : (read : Command × ℕ) → answer ≡ Ok read → Ok None ≡ field_at commands text kind at
+    an_end read h = rw h at read_on
 
-    a_refusal : (which refusal : Refusal) (place : ℕ) → which ≡ refusal_of answer → answer ≡ R.Refused refusal place → O.Refused which ≡ field_at commands text kind at
-    a_refusal which refusal place w h = rw (w, h) (rw h at read_on)
+    a_refusal : (refused : Refused) → answer ≡ Err refused → Err refused.refusal ≡ field_at commands text kind at
+    a_refusal refused h = rw h at read_on
 
 pub overflow_add-at : goal.overflow_add-at
 overflow_add-at c = record { fits = omega (arith, named_fits _ _ _ _ _ c.is_named.ensures c.if-is_named.true) }
@@ -65,8 +63,8 @@ returns-then-is_named c = search (a_name, rules)
 pub returns-then-begins_at : goal.returns-then-begins_at
 returns-then-begins_at c = search (at_once, rules)
 
-pub returns-in_default : goal.returns-in_default
-returns-in_default c = search (a_refusal, rules)
-
 pub returns : goal.returns
-returns c = search (an_end, rules)
+returns c = search (a_refusal, rules)
+
+pub returns-in_default : goal.returns-in_default
+returns-in_default c = search (an_end, rules)

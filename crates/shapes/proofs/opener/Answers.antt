@@ -1,12 +1,13 @@
 -- `opener` goes by the kind.
-use borrow.Author.Tests.{eq-eqb, ne_eqb}
+use borrow.Author.Rules.{rules}
+use borrow.Author.Tests.{ne_eqb}
 use Rattle.logic.specs.Test.{when◌then◌else◌}
 use Rattle.shapes.proofs.opener.Goals as goal
 
-pub returns-then-kind-eq-STRUCT : goal.returns-then-kind-eq-STRUCT
+pub returns-in-24 : goal.returns-in-24
 unfolding when◌then◌else◌
-returns-then-kind-eq-STRUCT c = rw (eq-eqb _ _ c.if-kind-eq-STRUCT.true)
+returns-in-24 c = rw c.in-24.is
 
-pub returns-else-kind-eq-STRUCT : goal.returns-else-kind-eq-STRUCT
+pub returns-in_default : goal.returns-in_default
 unfolding when◌then◌else◌
-returns-else-kind-eq-STRUCT c = rw (ne_eqb _ _ c.if-kind-eq-STRUCT.false)
+returns-in_default c = rw (ne_eqb c.args.kind 24 (search rules))

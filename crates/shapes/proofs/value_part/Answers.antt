@@ -1,4 +1,5 @@
 -- `value_part` reads a command, and goes by its byte; where that is a value with no operands, at once.
+use Rattle.std.specs.Prelude.{Ok}
 use borrow.Author.Rules.{rules}
 use borrow.Author.Tests.{eq-eqb, ne_eqb, ltb-true}
 use mathlib.Core.Path.{◌≡◌, refl, sym, ◌∙◌}
@@ -20,7 +21,7 @@ use Rattle.shapes.specs.laws.Bytes.{bare_read, bare_no_end}
 use Rattle.shapes.proofs.value_part.Goals as goal
 
 value_at_once : (commands text : List ℕ) (at : ℕ) (due : Due) (step : Step) (flag : Bool) → takes_value due ≡ true → flag ≡ plain_at commands at → flag ≡ true →
-    P.Step step at ≡ value_part commands step at (read_command commands text at due)
+    Ok (P.Step step at) ≡ value_part commands step at (read_command commands text at due)
 unfolding plain_at when◌then◌else◌
 value_at_once commands text at due step flag t f e =
     let byte : ℕ = get_or commands at 0 in
@@ -30,19 +31,15 @@ value_at_once commands text at due step flag t f e =
 pub returns-then-is_plain : goal.returns-then-is_plain
 returns-then-is_plain c = search (value_at_once, rules)
 
-pub returns-in_default : goal.returns-in_default
-returns-in_default c = rw (c.place.ensures, c.refusal.ensures, ← c.read_command-read.ensures, c.in_default.is)
-
 pub read_byte-requires : goal.read_byte-requires
 read_byte-requires c =
-    let e = c.read_command-read.ensures in
-    let h = c.in-Command.is in
-    omega (arith, next_above _ _ _ _ _ _ _ e h, next_within _ _ _ _ _ _ _ e h)
+    let e = c.read_command.ensures in
+    omega (arith, next_above _ _ _ _ _ _ _ e c.in_ok-next.was, next_within _ _ _ _ _ _ _ e c.in_ok-next.was)
 
 pub returns-then-read_byte-eq-END : goal.returns-then-read_byte-eq-END
 unfolding when◌then◌else◌
-returns-then-read_byte-eq-END c = rw (← c.read_command-read.ensures, c.in-Command.is, ← c.read_byte.ensures, eq-eqb _ _ c.if-read_byte-eq-END.true)
+returns-then-read_byte-eq-END c = rw (← c.read_command.ensures, c.in_ok-next.was, ← c.read_byte.ensures, eq-eqb _ _ c.if-read_byte-eq-END.true)
 
 pub returns-else-read_byte-eq-END : goal.returns-else-read_byte-eq-END
 unfolding when◌then◌else◌
-returns-else-read_byte-eq-END c = rw (← c.read_command-read.ensures, c.in-Command.is, ← c.read_byte.ensures, ne_eqb _ _ c.if-read_byte-eq-END.false)
+returns-else-read_byte-eq-END c = rw (← c.read_command.ensures, c.in_ok-next.was, ← c.read_byte.ensures, ne_eqb _ _ c.if-read_byte-eq-END.false)

@@ -1,5 +1,5 @@
 -- What the first bytes at an offset tell of the command that is read there.
-use Rattle.std.specs.Prelude.{◌≡◌, Bool, true, false, not, List, ℕ, ◌+◌, ◌<◌, ◌≤◌, eqb, leb, ltb, get_or}
+use Rattle.std.specs.Prelude.{◌≡◌, Bool, true, false, not, List, ℕ, ◌+◌, ◌<◌, ◌≤◌, eqb, leb, ltb, get_or, Ok}
 use Rattle.std.proofs.Math.Path.{refl}
 use Rattle.std.proofs.Common.{sym, ◌∙◌, arith, eqb-true, ltb-true, leb-true, le-leb, eq-eqb, ne_eqb}
 use Rattle.std.proofs.lemmas.Bool.{false≢true}
@@ -16,8 +16,7 @@ use Rattle.commands.specs.declared.Command.{Command}
 use Rattle.commands.specs.declared.Command.TheVariants as C
 use Rattle.commands.specs.declared.Due.{Due}
 use Rattle.commands.specs.declared.Due.TheVariants as D
-use Rattle.commands.specs.declared.Read.TheVariants as R
-use Rattle.commands.specs.Commands.{Form, plain, counted, variant, counted_variant, text_byte, field_byte, name_at, named, forms, form_of, operands, width, made, name_in, stands, bad_name, bad_key, end_byte, read_command}
+use Rattle.commands.specs.Commands.{Form, plain, counted, variant, counted_variant, text_byte, field_byte, name_at, named, forms, form_of, operands, width, made, name_in, stands, bad_name, bad_key, end_byte, read_command, refused_at}
 use Rattle.commands.specs.laws.Commands.{name_of, Good, good, name_inside, read_made, read_misnamed}
 use Rattle.shapes.specs.declared.Step.TheVariants as S
 use Rattle.shapes.specs.declared.Part.TheVariants as P
@@ -62,7 +61,7 @@ value_stands D.KeyOrEnd byte t h = absurd (false≢true t)
 
 -- so it is read
 pub bare_read : (commands text : List ℕ) (at byte : ℕ) (due : Due) → get_or commands at 0 ≡ byte → at < length commands → plain_byte byte ≡ true → takes_value due ≡ true →
-    read_command commands text at due ≡ R.Command (made (form_of byte) commands (at + 1)) (at + 1)
+    read_command commands text at due ≡ Ok (made (form_of byte) commands (at + 1), at + 1)
 unfolding bad_name operands name_in
 bare_read commands text at byte due is there bare t =
     bare_byte byte bare λ small b.
@@ -87,14 +86,14 @@ begun commands byte at flag f e k =
     k (ltb-true at (length commands) l) (eqb-true (get_or commands at 0) byte b)
 
 module _ (commands text : List ℕ) (at : ℕ) where
-  begins_read : (byte : ℕ) → begins_at commands byte at ≡ true → plain_byte byte ≡ true → read_command commands text at D.Value ≡ R.Command (made (form_of byte) commands (at + 1)) (at + 1)
+  begins_read : (byte : ℕ) → begins_at commands byte at ≡ true → plain_byte byte ≡ true → read_command commands text at D.Value ≡ Ok (made (form_of byte) commands (at + 1), at + 1)
   begins_read byte e bare = begun commands byte at _ refl e λ there is. bare_read commands text at byte D.Value is there bare refl
 
-  pub sequence_read : sequence_at commands at ≡ true → read_command commands text at D.Value ≡ R.Command C.Sequence (at + 1)
+  pub sequence_read : sequence_at commands at ≡ true → read_command commands text at D.Value ≡ Ok (C.Sequence, at + 1)
   unfolding form_of made plain_byte
   sequence_read e = begins_read sequence_byte e refl
 
-  pub struct_read : struct_at commands at ≡ true → read_command commands text at D.Value ≡ R.Command C.Struct (at + 1)
+  pub struct_read : struct_at commands at ≡ true → read_command commands text at D.Value ≡ Ok (C.Struct, at + 1)
   unfolding form_of made plain_byte
   struct_read e = begins_read struct_byte e refl
 
@@ -102,13 +101,13 @@ pub begins_inside : (commands : List ℕ) (byte at : ℕ) (flag : Bool) → flag
 begins_inside commands byte at flag f e = begun commands byte at flag f e λ there is. there
 
 pub end_read : (commands text : List ℕ) (at : ℕ) (due : Due) (flag : Bool) → stands due end_byte ≡ true → bad_key due end_byte ≡ false →
-    flag ≡ begins_at commands end_byte at → flag ≡ true → read_command commands text at due ≡ R.Command C.End (at + 1)
+    flag ≡ begins_at commands end_byte at → flag ≡ true → read_command commands text at due ≡ Ok (C.End, at + 1)
 unfolding form_of operands made name_in bad_name
 end_read commands text at due flag s k f e = begun commands end_byte at flag f e λ there is. read_made commands text at due end_byte is (omega arith) (omega arith) s refl k
 
 -- the end of a sequence
 pub end_part : (commands text : List ℕ) (at : ℕ) (flag : Bool) → flag ≡ begins_at commands end_byte at → flag ≡ true →
-    P.Ended (at + 1) ≡ value_part commands S.Element at (read_command commands text at D.ValueOrEnd)
+    Ok (P.Ended (at + 1)) ≡ value_part commands S.Element at (read_command commands text at D.ValueOrEnd)
 unfolding when◌then◌else◌
 end_part commands text at flag f e =
     begun commands end_byte at flag f e λ there is. rw (end_read commands text at D.ValueOrEnd flag refl refl f e, is) refl
@@ -133,14 +132,14 @@ module _ (commands text : List ℕ) (byte at : ℕ) (flag : Bool) (f : flag ≡ 
 
   module _ (due : Due) (which : Name → Command) (form : form_of byte ≡ named which) (small : byte < length forms) (s : stands due byte ≡ true) where
     -- where it can stand it is read, or refused for a name that is not UTF-8
-    pub named_read : is_utf8 (bytes_of text (name_at commands (at + 1))) ≡ true → bad_key due byte ≡ false → read_command commands text at due ≡ R.Command (which (name_at commands (at + 1))) (at + 5)
+    pub named_read : is_utf8 (bytes_of text (name_at commands (at + 1))) ≡ true → bad_key due byte ≡ false → read_command commands text at due ≡ Ok (which (name_at commands (at + 1)), at + 5)
     unfolding bad_name operands made name_in
     named_read u k =
         stood λ l b i.
         let wide : at + width (form_of byte) ≤ length commands = rw form l in
         rw form at (read_made commands text at due byte b small wide s (rw (form, i, u)) k)
 
-    pub named_refused : is_utf8 (bytes_of text (name_at commands (at + 1))) ≡ false → read_command commands text at due ≡ R.Refused F.BadName at
+    pub named_refused : is_utf8 (bytes_of text (name_at commands (at + 1))) ≡ false → read_command commands text at due ≡ refused_at F.BadName at
     unfolding bad_name operands name_in
     named_refused u =
         stood λ l b i.
@@ -150,7 +149,7 @@ module _ (commands text : List ℕ) (byte at : ℕ) (flag : Bool) (f : flag ≡ 
 -- one that is read stands there
 pub read_named : (commands text : List ℕ) (byte at : ℕ) (due : Due) (which : Name → Command) → form_of byte ≡ named which →
     ((name : Name) → name_of (which name) ≡ some name) → get_or commands at 0 ≡ byte →
-    (command : Command) (next : ℕ) → read_command commands text at due ≡ R.Command command next → named_at commands text byte at ≡ true
+    (command : Command) (next : ℕ) → read_command commands text at due ≡ Ok (command, next) → named_at commands text byte at ≡ true
 unfolding named_at operands made
 read_named commands text byte at due which form has is command next e =
     let g : Good commands text at due command next = good commands text at due command next e in

@@ -1,5 +1,5 @@
 -- Laws of a primitive at an offset: what is known of one, and the values before text.
-use Rattle.std.specs.Prelude.{◌≡◌, Bool, true, false, not, List, eqb, ltb, length, get_or}
+use Rattle.std.specs.Prelude.{◌≡◌, Bool, true, false, not, List, eqb, ltb, length, get_or, Ok, Err, None, Option}
 use Rattle.std.proofs.Math.Path.{refl}
 use Rattle.std.proofs.Common.{sym, ap, ◌∙◌, arith}
 use Prim.{tt}
@@ -10,56 +10,59 @@ use Rattle.logic.specs.laws.Test.{cases, both}
 use Rattle.datatype.specs.Codes.{null}
 use Rattle.commands.specs.declared.Command.{Command}
 use Rattle.commands.specs.declared.Command.TheVariants as C
-use Rattle.commands.specs.declared.Read.{Read}
-use Rattle.commands.specs.declared.Read.TheVariants as R
 use Rattle.commands.specs.declared.Due.TheVariants as D
-use Rattle.commands.specs.Commands.{form_of, made, text_byte, read_command}
+use Rattle.commands.specs.Commands.{form_of, made, text_byte, read_command, Read}
 use Rattle.commands.specs.laws.Commands.{byte_of, good, next_above, next_within}
 use Rattle.model.specs.Kinds.{sequence_kind}
 use Rattle.shapes.specs.declared.Shape.{Shape}
 use Rattle.shapes.specs.declared.Shape.TheVariants as H
 use Rattle.shapes.specs.declared.Leaf.{Leaf}
-use Rattle.shapes.specs.declared.Leaf.TheVariants as O
 use Rattle.shapes.specs.Shapes.{shape_at}
 use Rattle.shapes.specs.laws.Shapes.{leaf_below, null_untyped}
 use Rattle.shapes.specs.laws.Bytes.{bare_read, before_text}
-use Rattle.shapes.specs.Leaf.{char_byte, is_own_byte, leaf_at, leaf_by, leaf_read, plain_kind}
+use Rattle.shapes.specs.Leaf.{char_byte, is_own_byte, leaf_at, leaf_by, leaf_read, plain_kind, leaf_of}
+
+-- equal leaves
+pub same_leaf : {P : Type 0} {m n : Bool} {k j b c : ℕ} → leaf_of m k b ≡ leaf_of n j c → (m ≡ n → k ≡ j → b ≡ c → P) → P
+same_leaf {m = m} {n = n} {k = k} {j = j} {b = b} {c = c} e f =
+    let p : ◌≡◌ {A = Leaf} (record { null = m; kind = k; next = b }) (record { null = n; kind = j; next = c }) = cc in
+    f (ap (λ (l : Leaf). l.null) p) (ap (λ (l : Leaf). l.kind) p) (ap (λ (l : Leaf). l.next) p)
 
 -- ---- what is known of a leaf
 pub record LeafThere (options : ℕ) (commands text : List ℕ) (at : ℕ) (is_null : Bool) (kind behind : ℕ) : Type 0 where
   pub command : Command
-  pub read : read_command commands text at D.Value ≡ R.Command command behind
+  pub read : read_command commands text at D.Value ≡ Ok (command, behind)
   pub shape : shape_at options text command ≡ H.Leaf is_null kind
   pub below : kind < sequence_kind
 
-other : (is_null : Bool) (kind behind : ℕ) → O.Other ≡ O.Value is_null kind behind → ⊥
+other : (is_null : Bool) (kind behind : ℕ) → None ≡ leaf_of is_null kind behind → ⊥
 other is_null kind behind e = let z : ◌≡◌ {A = ℕ} 0 1 = cc in omega arith
 
 module _ (options : ℕ) (commands text : List ℕ) (at : ℕ) (is_null : Bool) (kind behind : ℕ) where
-  by_shape : (command : Command) (next : ℕ) → read_command commands text at D.Value ≡ R.Command command next → (shape : Shape) →
-      shape_at options text command ≡ shape → leaf_by next shape ≡ O.Value is_null kind behind →
+  by_shape : (command : Command) (next : ℕ) → read_command commands text at D.Value ≡ Ok (command, next) → (shape : Shape) →
+      shape_at options text command ≡ shape → leaf_by next shape ≡ leaf_of is_null kind behind →
       LeafThere options commands text at is_null kind behind
   by_shape command next e (H.Leaf n k) s h =
-      let b : next ≡ behind = cc in
-      let read : read_command commands text at D.Value ≡ R.Command command behind = rw b at e in
-      let shape : shape_at options text command ≡ H.Leaf is_null kind = cc in
+      same_leaf h λ null_is kind_is b.
+      let read : read_command commands text at D.Value ≡ Ok (command, behind) = rw b at e in
+      let shape : shape_at options text command ≡ H.Leaf is_null kind = rw (null_is, kind_is) at s in
       record { command = command; read = read; shape = shape; below = leaf_below options text command _ refl is_null kind shape }
   by_shape command next e (H.Parts k n) s h = absurd (other is_null kind behind h)
   by_shape command next e (H.Variant number name contents) s h = absurd (other is_null kind behind h)
   by_shape command next e H.NoValue s h = absurd (other is_null kind behind h)
 
-  by_read : (answer : Read) → read_command commands text at D.Value ≡ answer → leaf_read options text answer ≡ O.Value is_null kind behind → LeafThere options commands text at is_null kind behind
-  by_read (R.Command command next) e h = by_shape command next e (shape_at options text command) refl h
-  by_read (R.Refused refusal place) e h = absurd (other is_null kind behind h)
+  by_read : (answer : Read) → read_command commands text at D.Value ≡ answer → leaf_read options text answer ≡ leaf_of is_null kind behind → LeafThere options commands text at is_null kind behind
+  by_read (Ok (command, next)) e h = by_shape command next e (shape_at options text command) refl h
+  by_read (Err r) e h = absurd (other is_null kind behind h)
 
-module _ (options : ℕ) (commands text : List ℕ) (at : ℕ) (leaf : Leaf) (e : leaf ≡ leaf_at options commands text at) (is_null : Bool) (kind behind : ℕ) (h : leaf ≡ O.Value is_null kind behind) where
+module _ (options : ℕ) (commands text : List ℕ) (at : ℕ) (leaf : Option Leaf) (e : leaf ≡ leaf_at options commands text at) (is_null : Bool) (kind behind : ℕ) (h : leaf ≡ leaf_of is_null kind behind) where
   pub leaf_there : LeafThere options commands text at is_null kind behind
   unfolding leaf_at
   leaf_there = by_read options commands text at is_null kind behind (read_command commands text at D.Value) refl (sym e ∙ h)
 
 -- ---- where a leaf stands
 -- a command past none (0F) begins no leaf
-pub past_none : (options : ℕ) (text : List ℕ) (command : Command) (behind : ℕ) → 15 < byte_of command → O.Other ≡ leaf_by behind (shape_at options text command)
+pub past_none : (options : ℕ) (text : List ℕ) (command : Command) (behind : ℕ) → 15 < byte_of command → None ≡ leaf_by behind (shape_at options text command)
 unfolding shape_at
 past_none options text C.Unit behind h = absurd (omega arith)
 past_none options text C.Bool behind h = absurd (omega arith)
@@ -130,7 +133,7 @@ module _ (text commands : List ℕ) (at : ℕ) where
     plain_shape byte h = leaf_among text_byte (refl, (refl, (refl, (refl, (refl, (refl, (refl, (refl, (refl, (refl, (refl, (refl, (refl, tt))))))))))))) byte h
 
 pub plain_leaf : (options : ℕ) (commands text : List ℕ) (at byte : ℕ) → at < length commands → byte ≡ get_or commands at 0 → (kind : ℕ) → byte < text_byte → kind ≡ plain_kind byte →
-    O.Value (eqb byte 0) kind (at + 1) ≡ leaf_at options commands text at
+    leaf_of (eqb byte 0) kind (at + 1) ≡ leaf_at options commands text at
 unfolding leaf_at
 plain_leaf options commands text at byte there is kind h k =
     rw (bare_read commands text at byte D.Value (sym is) there (before_text byte h) refl, plain_shape text commands (at + 1) options byte h, k)
@@ -141,7 +144,7 @@ unfolding is_own_byte
 own_known kind own = both (not (eqb kind null)) (ltb kind char_byte) own λ p q. (eqb-false kind null (not-true (eqb kind null) p), ltb-true kind char_byte q)
 
 pub own_leaf : (options : ℕ) (commands text : List ℕ) (at : ℕ) → at < length commands → is_own_byte (get_or commands at 0) ≡ true →
-    O.Value false (get_or commands at 0) (at + 1) ≡ leaf_at options commands text at
+    leaf_of false (get_or commands at 0) (at + 1) ≡ leaf_at options commands text at
 unfolding plain_kind when◌then◌else◌
 own_leaf options commands text at there own =
     let byte = get_or commands at 0 in

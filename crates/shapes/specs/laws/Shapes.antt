@@ -1,6 +1,6 @@
 -- What is known of a part and of a shape that was read.
 use Prim.{Unit, tt}
-use Rattle.std.specs.Prelude.{◌≡◌, Bool, true, false, ◌&&◌, List, ℕ, ◌+◌, ◌%◌, ◌<◌, ◌≤◌, ltb, length, get_or}
+use Rattle.std.specs.Prelude.{◌≡◌, Bool, true, false, ◌&&◌, List, ℕ, ◌+◌, ◌%◌, ◌<◌, ◌≤◌, ltb, length, get_or, Ok, Err}
 use Rattle.std.proofs.Math.Path.{refl}
 use Rattle.std.proofs.Common.{sym, ◌∙◌, le_refl, arith}
 use Rattle.std.proofs.lemmas.Bool.{false≢true}
@@ -14,11 +14,9 @@ use Rattle.text.specs.Utf8.{reads}
 use Rattle.chrono.specs.Text.{text_type, first_fit}
 use Rattle.commands.specs.declared.Command.{Command}
 use Rattle.commands.specs.declared.Command.TheVariants as C
-use Rattle.commands.specs.declared.Read.{Read}
-use Rattle.commands.specs.declared.Read.TheVariants as R
 use Rattle.commands.specs.declared.Due.{Due}
 use Rattle.commands.specs.declared.Due.TheVariants as D
-use Rattle.commands.specs.Commands.{read_command, name_at, end_byte}
+use Rattle.commands.specs.Commands.{read_command, name_at, end_byte, Read}
 use Rattle.commands.specs.laws.Commands as L
 use Rattle.model.specs.Kinds.{sequence_kind, struct_kind, map_kind, tuple_kind, map_mode_kind}
 use Rattle.shapes.specs.declared.Step.{Step}
@@ -26,10 +24,9 @@ use Rattle.shapes.specs.declared.Step.TheVariants as S
 use Rattle.shapes.specs.declared.Contents.{Contents}
 use Rattle.shapes.specs.declared.Shape.{Shape}
 use Rattle.shapes.specs.declared.Shape.TheVariants as H
-use Rattle.shapes.specs.declared.Part.{Part}
 use Rattle.shapes.specs.declared.Part.TheVariants as P
 use Rattle.shapes.specs.Steps.{no_name, name_of, Inside, Good}
-use Rattle.shapes.specs.Shapes.{shape_at, is_parted, value_part, field_part, part_at}
+use Rattle.shapes.specs.Shapes.{shape_at, is_parted, value_part, field_part, part_at, PartRead}
 
 -- a choice has what both its sides have
 if_has : {A : Type 0} (P : A → Type 0) (t : Bool) {a b : A} → (t ≡ true → P a) → (t ≡ false → P b) → P (when t then a else b)
@@ -45,39 +42,39 @@ no_name_good text = record { inside = omega arith; utf8 = refl }
 
 -- and so is the name of a command that was read
 pub name_good : (commands text : List ℕ) (at : ℕ) (due : Due) (answer : Read) (command : Command) (next : ℕ) →
-    answer ≡ read_command commands text at due → answer ≡ R.Command command next → (name : Name) → L.name_of command ≡ some name → Good text name
+    answer ≡ read_command commands text at due → answer ≡ Ok (command, next) → (name : Name) → L.name_of command ≡ some name → Good text name
 name_good commands text at due answer command next e h name n =
     record { inside = L.name_within commands text at due answer command next e h command name refl n; utf8 = L.name_utf8 commands text at due answer command next e h command name refl n }
 
 -- ---- a part
 -- what is known of it: the name of a step is inside the text and UTF-8, and its value inside the commands and no earlier than the part
-abbrev pub KnownPart : List ℕ → List ℕ → ℕ → Part → Type 0
-KnownPart commands text at (P.Ended behind) = (at ≤ behind) × (at ≤ length commands → behind ≤ length commands)
-KnownPart commands text at (P.Step step value) = Good text (name_of step) × (at ≤ value) × (value ≤ length commands)
-KnownPart commands text at (P.Refused refusal place) = Unit {0}
+abbrev pub KnownPart : List ℕ → List ℕ → ℕ → PartRead → Type 0
+KnownPart commands text at (Ok (P.Ended behind)) = (at ≤ behind) × (at ≤ length commands → behind ≤ length commands)
+KnownPart commands text at (Ok (P.Step step value)) = Good text (name_of step) × (at ≤ value) × (value ≤ length commands)
+KnownPart commands text at (Err r) = Unit {0}
 
 module _ (commands text : List ℕ) (at : ℕ) where
   value_known : (step : Step) (due : Due) → Good text (name_of step) → (answer : Read) → answer ≡ read_command commands text at due → KnownPart commands text at (value_part commands step at answer)
-  value_known step due good (R.Command command behind) e =
+  value_known step due good (Ok (command, behind)) e =
       let above : at < behind = L.next_above commands text at due _ command behind e refl in
       let within : behind ≤ length commands = L.next_within commands text at due _ command behind e refl in
       if_has (KnownPart commands text at) (eqb (get_or commands at 0) end_byte) (λ end. (omega arith, λ h. within)) (λ end. (good, le_refl at, omega arith))
-  value_known step due good (R.Refused refusal place) e = tt
+  value_known step due good (Err r) e = tt
 
   field_known : (due : Due) (named : Name → Command) → ((name : Name) → L.name_of (named name) ≡ some name) →
-      ((command : Command) (next : ℕ) → eqb (get_or commands at 0) end_byte ≡ false → read_command commands text at due ≡ R.Command command next → command ≡ named (name_at commands (at + 1))) →
+      ((command : Command) (next : ℕ) → eqb (get_or commands at 0) end_byte ≡ false → read_command commands text at due ≡ Ok (command, next) → command ≡ named (name_at commands (at + 1))) →
       (answer : Read) → answer ≡ read_command commands text at due → KnownPart commands text at (field_part commands at answer)
-  field_known due named has is (R.Command command behind) e =
+  field_known due named has is (Ok (command, behind)) e =
       let above : at < behind = L.next_above commands text at due _ command behind e refl in
       let within : behind ≤ length commands = L.next_within commands text at due _ command behind e refl in
       if_has (KnownPart commands text at) (eqb (get_or commands at 0) end_byte) (λ end. (omega arith, λ h. within))
       (λ end. (name_good commands text at due _ command behind e refl _ (rw (is command behind end (sym e)) (has _)), omega arith, within))
-  field_known due named has is (R.Refused refusal place) e = tt
+  field_known due named has is (Err r) e = tt
 
   pub part_known : (kind positions i : ℕ) → KnownPart commands text at (part_at commands text kind positions i at)
   unfolding part_at
   part_known kind positions i =
-      let P : Part → Type 0 = KnownPart commands text at in
+      let P : PartRead → Type 0 = KnownPart commands text at in
       if_has P (eqb kind sequence_kind) (λ e. value_known S.Element D.ValueOrEnd (no_name_good text) _ refl)
       (λ e. if_has P (eqb kind struct_kind) (λ e. field_known D.FieldOrEnd C.Field (λ n. refl) (λ c n end. L.field_due commands text at c n end) _ refl)
       (λ e. if_has P (eqb kind map_mode_kind) (λ e. field_known D.KeyOrEnd C.Text (λ n. refl) (λ c n end. L.key_due commands text at c n end) _ refl)
@@ -87,14 +84,14 @@ module _ (commands text : List ℕ) (at : ℕ) where
       (λ e. (le_refl at, λ h. h)))))))
 
 -- the same of an answer that reading gave
-module _ (commands text : List ℕ) (kind positions i at : ℕ) (part : Part) (e : part ≡ part_at commands text kind positions i at) where
+module _ (commands text : List ℕ) (kind positions i at : ℕ) (part : PartRead) (e : part ≡ part_at commands text kind positions i at) where
   known : KnownPart commands text at part
   known = rw e (part_known commands text at kind positions i)
 
-  pub step_above : (step : Step) (value : ℕ) → part ≡ P.Step step value → at ≤ value
+  pub step_above : (step : Step) (value : ℕ) → part ≡ Ok (P.Step step value) → at ≤ value
   step_above step value h = (rw h at known).1
 
-  pub step_within : (step : Step) (value : ℕ) → part ≡ P.Step step value → value ≤ length commands
+  pub step_within : (step : Step) (value : ℕ) → part ≡ Ok (P.Step step value) → value ≤ length commands
   step_within step value h = (rw h at known).2
 
 -- at one kind: for the loop over one container
@@ -103,7 +100,7 @@ module _ (commands text : List ℕ) (positions i at : ℕ) where
   unfolding part_at when◌then◌else◌
   sequence_part = refl
 
-  pub tuple_part : part_at commands text tuple_kind positions i at ≡ (when ltb i positions then value_part commands (S.Position i) at (read_command commands text at D.Value) else P.Ended at)
+  pub tuple_part : part_at commands text tuple_kind positions i at ≡ (when ltb i positions then value_part commands (S.Position i) at (read_command commands text at D.Value) else Ok (P.Ended at))
   unfolding part_at when◌then◌else◌
   tuple_part = refl
 
@@ -162,7 +159,7 @@ shape_known options text (C.TupleVariant k name n) = refl
 shape_known options text (C.StructVariant k name) = refl
 
 -- the same of an answer, for a command that was read
-module _ (commands text : List ℕ) (at : ℕ) (due : Due) (answer : Read) (command : Command) (next : ℕ) (e : answer ≡ read_command commands text at due) (h : answer ≡ R.Command command next) where
+module _ (commands text : List ℕ) (at : ℕ) (due : Due) (answer : Read) (command : Command) (next : ℕ) (e : answer ≡ read_command commands text at due) (h : answer ≡ Ok (command, next)) where
   -- what `shape_of` asks
   pub text_inside : (name : Name) → command ≡ C.Text name → Inside text name
   text_inside name t = L.name_within commands text at due answer command next e h _ name t refl

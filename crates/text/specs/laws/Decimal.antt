@@ -1,7 +1,9 @@
 -- Laws of decimal numerals: how they are made, and their length.
-use Rattle.std.specs.Prelude.{◌≡◌, refl, ℕ, zero, suc, ◌+◌, ◌*◌, ◌/◌, ◌%◌, ◌^◌, ◌≤◌, ◌<◌, List, [], ◌∷◌, ◌++◌, ltb, length}
+use Rattle.std.specs.Prelude.{◌≡◌, refl, ℕ, zero, suc, ◌+◌, ◌*◌, ◌/◌, ◌%◌, ◌^◌, ◌≤◌, ◌<◌, List, [], ◌∷◌, ◌++◌, ltb, length, max}
 use Rattle.std.proofs.Common.{sym, ap, ◌∙◌, le_refl, not-suc-le-zero, pow-suc, arith, length-append, ltb-true, ltb-false, lt-ltb, le-ltb}
 use Rattle.std.proofs.Math.Nat.{one-le-pow}
+use Rattle.std.proofs.lemmas.Fmt.{decimal_from_appends, length-decimal-le}
+use Rattle.std.specs.Fmt.{decimal as decimal_text}
 use Rattle.logic.specs.laws.Test.{cases}
 use Rattle.text.specs.Decimal.{zero_digit, numeral, decimal}
 
@@ -68,9 +70,29 @@ length_least (suc k) n h =
     let m : k < length (decimal (n / 10)) = length_least k (n / 10) (omega arith) in
     rw (length_step n (omega arith)) (omega arith)
 
+-- how many digits those are; zero has as many as one
+length_is : (k n : ℕ) → 10 ^ k ≤ n → n < 10 * 10 ^ k → k + 1 ≡ length (decimal n)
+length_is k n h g =
+    let next : 10 ^ suc k ≡ 10 ^ k * 10 = pow-suc 10 k in
+    let most : length (decimal n) ≤ suc k = length_most k n (omega arith) in
+    let least : k < length (decimal n) = length_least k n h in
+    omega arith
+
+pub length_logarithm : (k n : ℕ) → 10 ^ k ≤ max n 1 → max n 1 < 10 * 10 ^ k → k + 1 ≡ length (decimal n)
+length_logarithm k zero h g = length_is k 1 h g ∙ ap length (decimal_small 1 (omega arith)) ∙ sym (ap length (decimal_small 0 (omega arith)))
+length_logarithm k (suc n) h g = length_is k (suc n) (omega arith) (omega arith)
+
 -- a number of 16 bits has at most five digits
 pub length_u16 : (n : ℕ) → n < 2 ^ 16 → length (decimal n) ≤ 5
 length_u16 n h = length_most 4 n (omega arith)
+
+-- it is what the library writes
+pub decimal_written : (n : ℕ) → n < 2 ^ 16 → decimal_text n ≡ decimal n
+unfolding decimal
+decimal_written n h =
+    let short : length (decimal_text n) ≤ 5 = length-decimal-le 5 n (omega arith) (omega arith) (omega arith) in
+    sym (decimal_from_appends numeral (record { one = numeral_small; more = numeral_step }) (n + 6) n (omega arith) (omega (arith, short)))
+    ∙ numeral_enough (n + 6) (suc n) n (omega arith) (omega arith)
 
 -- No proof cites these: the numerals of the least and of the greatest position.
 zero_is : decimal 0 ≡ 0x30 ∷ []

@@ -127,7 +127,7 @@ pub reads_none : (b : ℕ) (bytes : List ℕ) → due_in table b ≡ none → is
 unfolding reads
 reads_none b bytes e = rw (e, reads)
 
-is_utf8_next : (k : ℕ) (row : List Range) (bytes more : List ℕ) → get_elem? table k ≡ some row → fits row bytes ≡ true → is_utf8 (bytes ++ more) ≡ is_utf8 more
+pub is_utf8_next : (k : ℕ) (row : List Range) (bytes more : List ℕ) → get_elem? table k ≡ some row → fits row bytes ≡ true → is_utf8 (bytes ++ more) ≡ is_utf8 more
 unfolding fits
 is_utf8_next k [] bytes more e f = reads_fits [] bytes more f
 is_utf8_next k (range ∷ due) [] more e f = absurd (false≢true f)

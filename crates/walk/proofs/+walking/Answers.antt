@@ -1,32 +1,32 @@
--- The walk of a place, of its children and over them, as one cycle: the levels fall. Over the children, those that are left give what all give.
+-- The walk of a place and of its children, as one cycle: the levels fall. Over the children, those that are left give what all give.
 use Rattle.std.proofs.Common.{rules}
-use Rattle.walk.proofs.Walks.{spent, ended, beyond, refused, next, of_map, of_other, unknown, null_field_lem, primitive, no_level, as_strings, dataless_union_lem, Opens, no_union, with_data, null_children, opened}
+use Rattle.std.proofs.lemmas.Result.{err_from_is_err_and}
+use Rattle.walk.proofs.Walks.{spent, ended, beyond, refused, next, unknown, null_field_lem, primitive, no_level, as_strings, dataless_union_lem, Opens, no_union, with_data, null_children, opened}
 use Rattle.walk.proofs.+walking.Goals.{walk_place-then-kind-eq-UNION+then-is_dataless+else-enums_without_data_as_strings+else-not-allow_null_fields, walk_place-else-kind-eq-UNION, walk_place-else-kind-eq-UNION-via-then-kind-eq-UNION+else-is_dataless, walk_place-else-kind-eq-UNION-via-else-kind-eq-UNION}
 use Rattle.walk.proofs.+walking.Goals as goal
 
-pub walk_children-returns-then-kind-eq-MAP : goal.walk_children-returns-then-kind-eq-MAP
-walk_children-returns-then-kind-eq-MAP t c = search (of_map, rules)
+pub walk_children-returns-then-child-eq0 : goal.walk_children-returns-then-child-eq0
+walk_children-returns-then-child-eq0 t c = search (ended, rules)
 
-pub walk_children-returns-else-kind-eq-MAP : goal.walk_children-returns-else-kind-eq-MAP
-walk_children-returns-else-kind-eq-MAP t c = search (of_other, rules)
+pub walk_children-returns-then-is_beyond : goal.walk_children-returns-then-is_beyond
+walk_children-returns-then-is_beyond t c = search (beyond, rules)
 
-pub walk_from-loop-left-init : goal.walk_from-loop-left-init
-walk_from-loop-left-init t c = (rw c.next_child-child.ensures.0, (search rules, (search rules, search rules)))
+pub walk_children-returns-in_err-below : goal.walk_children-returns-in_err-below
+walk_children-returns-in_err-below t c =
+    let p = err_from_is_err_and c.from_residual.result c.from_residual.ensures.1 in
+    refused _ _ _ _ _ _ _ _ _ _ _ c.loop.invariant.same_whole c.loop-test.true c.if-child-eq0.false _ c.is_beyond.ensures _ _ _ _
+    c.if-is_beyond.false c.walk_place.ensures c.in_err-below.was p.1 p.2
 
-pub walk_from-returns-then-child-eq0 : goal.walk_from-returns-then-child-eq0
-walk_from-returns-then-child-eq0 t c = search (ended, rules)
+pub walk_children-loop-preserved : goal.walk_children-loop-preserved
+walk_children-loop-preserved t c = record {
+  same_whole = search (next, rules);
+  child_row = search rules;
+  place_row = c.loop.invariant.place_row;
+  linked = c.loop.invariant.linked;
+}
 
-pub walk_from-returns-then-is_beyond : goal.walk_from-returns-then-is_beyond
-walk_from-returns-then-is_beyond t c = search (beyond, rules)
-
-pub walk_from-returns-in-Refused : goal.walk_from-returns-in-Refused
-walk_from-returns-in-Refused t c = search (refused, rules)
-
-pub walk_from-loop-left-preserved : goal.walk_from-loop-left-preserved
-walk_from-loop-left-preserved t c = (search (next, rules), (search rules, c.loop-left.invariant.1.1))
-
-pub walk_from-returns : goal.walk_from-returns
-walk_from-returns t c = search (spent, rules)
+pub walk_children-returns : goal.walk_children-returns
+walk_children-returns t c = search (spent, rules)
 
 pub walk_place-returns-then-allow_null_fields : goal.walk_place-returns-then-allow_null_fields
 walk_place-returns-then-allow_null_fields t c = search (unknown, rules)

@@ -1,7 +1,7 @@
--- `clear` zeroes the words from the first to the last.
-use borrow.Author.Rules.{rules}
-use Rattle.words.proofs.Zeroed.{in_all_lem}
+-- `clear` fills the table with zeros.
+use Rattle.std.proofs.Common.{rules}
+use Rattle.words.proofs.Zeroed.{all_filled}
 use Rattle.words.proofs.clear.Goals as goal
 
 pub returns : goal.returns
-returns c = search (in_all_lem, rules)
+returns c = all_filled _ _ (search rules) (c.fill.ensures.after (λ y h. h))

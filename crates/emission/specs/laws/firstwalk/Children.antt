@@ -1,5 +1,5 @@
 -- The first walk over a place's children, once each child is walked as the model says.
-use Rattle.std.specs.Prelude.{◌≡◌, Bool, true, ◌&&◌, ◌||◌, List, length}
+use Rattle.std.specs.Prelude.{Ok, Err, ◌≡◌, Bool, true, ◌&&◌, ◌||◌, List, length}
 use Rattle.std.proofs.Math.Path.{refl}
 use Rattle.std.proofs.Common.{sym, ap, ◌∙◌, zero-add, arith, length-append}
 use Rattle.std.proofs.Math.Bool.{false}
@@ -20,10 +20,8 @@ use Rattle.model.specs.Emission as Model
 use Rattle.places.specs.Layout.{kind_word}
 use Rattle.refine.specs.laws.numbered.Tree.{Spot, spot, Spots, no_spots, child, num, kind_s}
 use Rattle.refine.specs.laws.numbered.Erased.{erase, erase_in}
-use Rattle.walk.specs.declared.Walked.{Walked}
-use Rattle.walk.specs.declared.Walked.TheVariants as W
 use Rattle.places.specs.Reading.{variant_at, child_name, next_child}
-use Rattle.walk.specs.Walk.{onward, sum_of, gaps_at, slot_behind, is_beyond, records_with, names_with, columns_with, with_child, children_from}
+use Rattle.walk.specs.Walk.{Walked, counts, onward, sum_of, gaps_at, slot_behind, is_beyond, records_with, names_with, columns_with, with_child, children_from}
 use Rattle.walk.specs.Walk as Flat
 use Rattle.emission.specs.laws.Types.{Typed, field_type}
 use Rattle.emission.specs.laws.order.Arranged.{Enumerates}
@@ -37,9 +35,9 @@ fields_of_field (mk type nullable strategy number name fs) = fs
 -- A walk's outcome beside the model's refusal and fields: r, n and c were counted before; so many records and name bytes at most are new, with
 -- room for a and b more.
 pub data Says (o : Option ℕ) (r n c : ℕ) (fs : Fields) (a b size : ℕ) : Walked → Type 0 where
-  turned : {x : Refusal} → o ≡ some (number_of x) → Says o r n c fs a b size (W.Refused x)
+  turned : {x : Refusal} → o ≡ some (number_of x) → Says o r n c fs a b size (Err x)
   told : {r' n' c' : ℕ} → o ≡ none → r' ≡ r + count_in fs → n' ≡ n + length (names_in fs) → c' ≡ c + columns_in fs → count_in fs + a ≤ 130 * size → length (names_in fs) + b ≤ 70000 * size
-      → Says o r n c fs a b size (W.Below r' n' c')
+      → Says o r n c fs a b size (Ok (counts r' n' c'))
 
 -- ---- one field
 count_of_lem : (f : Field) → count_of f ≡ suc (count_in (fields_of_field f))
@@ -133,7 +131,7 @@ columns_fit : (c r g d x : ℕ) → c ≤ r → d ≤ suc x → c + g + d ≤ r 
 columns_fit c r g d x l₁ l₂ = omega arith
 
 module _ (options : ℕ) (text t : List ℕ) (inner : ℕ → Walked) (k p m : ℕ) where
-  beyond_step : (left r n c slot q : ℕ) → eqb q 0 ≡ false → is_beyond k t q ≡ true → children_from text t inner k p (suc left) r n c slot q ≡ W.Refused F.TooManySlots
+  beyond_step : (left r n c slot q : ℕ) → eqb q 0 ≡ false → is_beyond k t q ≡ true → children_from text t inner k p (suc left) r n c slot q ≡ Err F.TooManySlots
   unfolding children_from
   beyond_step left r n c slot q e d = rw (e, d, children_from)
 
@@ -143,7 +141,7 @@ module _ (options : ℕ) (text t : List ℕ) (inner : ℕ → Walked) (k p m : �
   unfolding children_from
   within_step left r n c slot q e d = rw (e, d, children_from)
 
-  ends : (left r n c slot : ℕ) → children_from text t inner k p left r n c slot 0 ≡ W.Below r n c
+  ends : (left r n c slot : ℕ) → children_from text t inner k p left r n c slot 0 ≡ Ok (counts r n c)
   unfolding children_from
   ends zero r n c slot = refl
   ends (suc left) r n c slot = refl

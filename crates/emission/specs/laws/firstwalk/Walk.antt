@@ -1,6 +1,6 @@
 -- The first walk over the words gives the model's refusal, or the model's counts.
 use Prim.{Unit, tt}
-use Rattle.std.specs.Prelude.{◌≡◌, Bool, true, ◌&&◌, ◌||◌, List, [], ◌++◌, length}
+use Rattle.std.specs.Prelude.{Ok, Err, ◌≡◌, Bool, true, ◌&&◌, ◌||◌, List, [], ◌++◌, length}
 use Rattle.std.proofs.Math.Path.{refl, sym, ap}
 use Rattle.std.proofs.Common.{◌∙◌, zero-add, arith, length-append}
 use Rattle.std.proofs.Math.Bool.{false}
@@ -24,11 +24,9 @@ use Rattle.refine.specs.laws.numbered.Tree.{Spot, spot, Spots, no_spots, child, 
 use Rattle.refine.specs.laws.numbered.Numbers.{Good, GoodIn}
 use Rattle.refine.specs.laws.words.Places.{Rep, RepIn}
 use Rattle.refine.specs.laws.numbered.Erased.{erase, erase_in}
-use Rattle.walk.specs.declared.Walked.{Walked}
-use Rattle.walk.specs.declared.Walked.TheVariants as W
 use Rattle.places.specs.Reading.{variant_at, is_ordered, next_ordered, next_child}
 use Rattle.walk.specs.Walk as Walk
-use Rattle.walk.specs.Walk.{onward, dataless_at, children_below, walked_by, walked}
+use Rattle.walk.specs.Walk.{Walked, counts, onward, dataless_at, children_below, walked_by, walked}
 use Rattle.emission.specs.laws.order.Arranged.{order_s, Enumerates, Orders, OrdersIn, FitS, FitIn}
 use Rattle.emission.specs.laws.firstwalk.Sums.{sorted_count, sorted_columns, sorted_names, columns_few}
 use Rattle.emission.specs.laws.firstwalk.Places.{size_s, size_in, many_s, many_few, places_few, AllS, number_places, number_all, number_size, variant_small, child_variant, child_name_lem, name_short}
@@ -45,8 +43,8 @@ abbrev mutual
 
 -- the walk's outcome is the model's refusal, or counts the model's fields
 abbrev pub WalkSays : Walked → Option ℕ → Fields → Type 0
-WalkSays (W.Refused x) o fs = o ≡ some (number_of x)
-WalkSays (W.Below r n c) o fs = (o ≡ none) × (r ≡ count_in fs) × (n ≡ length (names_in fs)) × (c ≡ columns_in fs)
+WalkSays (Err x) o fs = o ≡ some (number_of x)
+WalkSays (Ok c) o fs = (o ≡ none) × (c.records ≡ count_in fs) × (c.names ≡ length (names_in fs)) × (c.columns ≡ columns_in fs)
 
 -- ---- the children in order
 order_places : (k m : ℕ) (ks : Spots) → (when eqb k union_kind then by_number (places_of k m (erase_in ks)) else places_of k m (erase_in ks)) ≡ places_of k m (erase_in (order_s false k ks))
@@ -142,7 +140,7 @@ plain_say : (o : Option ℕ) (fs : Fields) (size : ℕ) {w : Walked} → Says o 
 plain_say o fs size (turned {x = x} e) = turned {x = x} e
 plain_say o fs size (told {r' = r'} {n' = n'} {c' = c'} e er en ec br bn) = told {r' = r'} {n' = n'} {c' = c'} e er en ec (omega arith) (omega arith)
 
-nothing_below : {o : Option ℕ} (size : ℕ) → o ≡ none → Says o 0 0 0 no_fields 129 69993 (suc size) (W.Below 0 0 0)
+nothing_below : {o : Option ℕ} (size : ℕ) → o ≡ none → Says o 0 0 0 no_fields 129 69993 (suc size) (Ok (counts 0 0 0))
 unfolding count_of names_of columns_of
 nothing_below size e = told {r' = 0} {n' = 0} {c' = 0} e (omega arith) (omega arith) (omega arith) (omega arith) (omega arith)
 

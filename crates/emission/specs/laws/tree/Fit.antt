@@ -1,6 +1,6 @@
 -- Kinds and steps in the tree that a batch leaves fit: a kind is of 8 bits, and the steps below a place are those of its kind, with numbers of
 -- 16 bits.
-use Rattle.std.specs.Prelude.{◌≡◌, refl, Bool, false, ◌&&◌, List, [], ◌∷◌, leb, ltb, length, get_or}
+use Rattle.std.specs.Prelude.{◌≡◌, refl, Bool, false, ◌&&◌, List, [], ◌∷◌, leb, ltb, length, get_or, Ok, Err}
 use Rattle.std.proofs.Common.{sym, ap, subst, ◌∙◌, true≢false}
 use Rattle.std.proofs.Math.Bool.{true}
 use Rattle.std.proofs.Math.Option.{Option, none, some}
@@ -18,9 +18,7 @@ use Rattle.coerce.specs.laws.Joined.{joint_below}
 use Rattle.commands.specs.declared.Command.{Command}
 use Rattle.commands.specs.declared.Command.TheVariants as C
 use Rattle.commands.specs.declared.Due.TheVariants as D
-use Rattle.commands.specs.declared.Read.{Read}
-use Rattle.commands.specs.declared.Read.TheVariants as R
-use Rattle.commands.specs.Commands.{operand_at, plain, forms, form_of, read_command, end_byte}
+use Rattle.commands.specs.Commands.{Read, operand_at, plain, forms, form_of, read_command, end_byte}
 use Rattle.commands.specs.Commands as M
 use Rattle.model.specs.Result.{Result, accepted, refused, ◌>>=◌, or_refused}
 use Rattle.model.specs.Kinds.{sequence_kind, struct_kind, map_kind, union_kind, tuple_kind, map_mode_kind, is_container, is_struct, Step, field, element, position, key, value, variant, same}
@@ -263,7 +261,7 @@ module _ (options : ℕ) (commands text : List ℕ) (bytes : Bytes commands) whe
       let z : 0 < 65536 = omega arith in
       (tt, (tt, (tt, (tt, (tt, (tt, (tt, (tt, (tt, (tt, (tt, (tt, (tt, (tt, (tt, (tt, (tt, (tt, (z, (k, (z, (z, (tt, (tt, ((k, tt), ((k, tt), ((k, n), ((k, z), tt))))))))))))))))))))))))))))
 
-  shape_short : (at : ℕ) (c : Command) (b : ℕ) → read_command commands text at D.Value ≡ R.Command c b → Short (shape_of options text c)
+  shape_short : (at : ℕ) (c : Command) (b : ℕ) → read_command commands text at D.Value ≡ Ok (c, b) → Short (shape_of options text c)
   unfolding form_of shape_of M.made
   shape_short at c b e =
       rw (good commands text at D.Value c b e).what
@@ -277,13 +275,13 @@ NextUnder kind (bad n p) = Unit {0}
 
 module _ (commands text : List ℕ) (kind at : ℕ) where
   value_under : (s : Step) (r : Read) → step_fits kind s ≡ true → NextUnder kind (value_next commands s at r)
-  value_under s (R.Command c b) f = choice (NextUnder kind) (eqb (get_or commands at 0) end_byte) (λ e. tt) (λ e. f)
-  value_under s (R.Refused n p) f = tt
+  value_under s (Ok (c, b)) f = choice (NextUnder kind) (eqb (get_or commands at 0) end_byte) (λ e. tt) (λ e. f)
+  value_under s (Err r) f = tt
 
   field_under : (r : Read) → eqb kind union_kind ≡ false → NextUnder kind (field_next commands text at r)
   unfolding when◌then◌else◌
-  field_under (R.Command c b) f = choice (NextUnder kind) (eqb (get_or commands at 0) end_byte) (λ e. tt) (λ e. rw f)
-  field_under (R.Refused n p) f = tt
+  field_under (Ok (c, b)) f = choice (NextUnder kind) (eqb (get_or commands at 0) end_byte) (λ e. tt) (λ e. rw f)
+  field_under (Err r) f = tt
 
   next_under : (n i : ℕ) → has_parts kind ≡ true → n < 65536 → NextUnder kind (next_part commands text kind n i at)
   unfolding next_part when◌then◌else◌

@@ -1,5 +1,5 @@
 -- Laws of readCommand: a command that is read ends behind its start and inside the commands, and what is read depends only on its own bytes.
-use Rattle.std.specs.Prelude.{◌≡◌, true, false, not, ◌||◌, List, ◌++◌, ℕ, ◌+◌, ◌≤◌, ◌<◌, eqb, leb, ltb, length, get_or}
+use Rattle.std.specs.Prelude.{◌≡◌, true, false, not, ◌||◌, List, ◌++◌, ℕ, ◌+◌, ◌≤◌, ◌<◌, eqb, leb, ltb, length, get_or, Ok, Err}
 use Rattle.std.proofs.Math.Path.{refl, ap}
 use Rattle.std.proofs.Common.{sym, ◌∙◌, true≢false, add_assoc, le_refl, arith, get_or-append-add, ltb-true, ltb-false, leb-true, leb-false, lt-ltb, le-ltb, le-leb, eqb-true}
 use Rattle.std.proofs.Math.Option.{some}
@@ -11,9 +11,8 @@ use Rattle.refusal.specs.declared.Refusal.{Refusal}
 use Rattle.commands.specs.declared.Command.{Command}
 use Rattle.commands.specs.declared.Due.{Due}
 use Rattle.commands.specs.declared.Due.TheVariants as D
-use Rattle.commands.specs.declared.Read.{Read}
-use Rattle.commands.specs.declared.Read.TheVariants as R
-use Rattle.commands.specs.Commands.{operand_at, name_at, Form, plain, counted, named, variant, counted_variant, forms, form_of, operands, width, made, name_in, stands, bad_command, bad_name, bad_key, read_command, text_byte, field_byte, end_byte}
+use Rattle.commands.specs.laws.Commands.{same_read}
+use Rattle.commands.specs.Commands.{operand_at, name_at, Form, plain, counted, named, variant, counted_variant, forms, form_of, operands, width, made, name_in, stands, bad_command, bad_name, bad_key, read_command, text_byte, field_byte, end_byte, Read, refused_at}
 use Rattle.equality.specs.laws.Base.{or_cases}
 
 -- ---- two places with the same bytes
@@ -61,18 +60,18 @@ pub record Good (commands text : List ℕ) (at : ℕ) (due : Due) (command : Com
   pub what : command ≡ made (form_of (get_or commands at 0)) commands (at + 1)
   pub ends : behind ≡ at + width (form_of (get_or commands at 0))
 
-no_answer : {P : Type 0} {f : Refusal} {p b : ℕ} {c : Command} → R.Refused f p ≡ R.Command c b → P
+no_answer : {P : Type 0} {f : Refusal} {p b : ℕ} {c : Command} → refused_at {A = Command × ℕ} f p ≡ Ok (c, b) → P
 no_answer e = absurd (let z : ◌≡◌ {A = ℕ} 0 1 = cc in omega arith)
 
-pub good : (commands text : List ℕ) (at : ℕ) (due : Due) (c : Command) (b : ℕ) → read_command commands text at due ≡ R.Command c b → Good commands text at due c b
+pub good : (commands text : List ℕ) (at : ℕ) (due : Due) (c : Command) (b : ℕ) → read_command commands text at due ≡ Ok (c, b) → Good commands text at due c b
 unfolding read_command when◌then◌else◌
 good commands text at due c b e =
     cases (bad_command commands at due) (λ p. no_answer (rw p at e))
     (λ p. cases (bad_name text (name_in (form_of (get_or commands at 0)) commands (at + 1))) (λ q. no_answer (rw (p, q) at e))
     (λ q. cases (bad_key due (get_or commands at 0)) (λ r. no_answer (rw (p, q, r) at e))
-    (λ r. let g = rw (p, q, r) at e in record { known = p; named = q; keyed = r; what = cc; ends = cc })))
+    (λ r. same_read (rw (p, q, r) at e) λ what ends. record { known = p; named = q; keyed = r; what = sym what; ends = sym ends })))
 
-pub good_read : (commands text : List ℕ) (at : ℕ) (due : Due) (c : Command) (b : ℕ) → Good commands text at due c b → read_command commands text at due ≡ R.Command c b
+pub good_read : (commands text : List ℕ) (at : ℕ) (due : Due) (c : Command) (b : ℕ) → Good commands text at due c b → read_command commands text at due ≡ Ok (c, b)
 unfolding read_command when◌then◌else◌
 good_read commands text at due c b g = rw (g.known, g.named, g.keyed, g.what, g.ends)
 
@@ -104,10 +103,10 @@ lies_known commands at due l =
     rw (lt-leb (length commands) at l.starts, lt-leb (length forms) (get_or commands at 0) l.known, le-ltb (length commands) (at + width (form_of (get_or commands at 0))) l.inside, l.stood)
 
 -- a command that is read ends behind its start, inside the commands
-pub reads_on : (commands text : List ℕ) (at : ℕ) (due : Due) (c : Command) (b : ℕ) → read_command commands text at due ≡ R.Command c b → at < b
+pub reads_on : (commands text : List ℕ) (at : ℕ) (due : Due) (c : Command) (b : ℕ) → read_command commands text at due ≡ Ok (c, b) → at < b
 reads_on commands text at due c b e = let g : b ≡ at + width (form_of (get_or commands at 0)) = (good commands text at due c b e).ends in omega arith
 
-pub reads_inside : (commands text : List ℕ) (at : ℕ) (due : Due) (c : Command) (b : ℕ) → read_command commands text at due ≡ R.Command c b → b ≤ length commands
+pub reads_inside : (commands text : List ℕ) (at : ℕ) (due : Due) (c : Command) (b : ℕ) → read_command commands text at due ≡ Ok (c, b) → b ≤ length commands
 reads_inside commands text at due c b e =
     let g = good commands text at due c b e in
     let h : b ≡ at + width (form_of (get_or commands at 0)) = g.ends in
@@ -128,7 +127,7 @@ module _ (xs ys : List ℕ) (limit : ℕ) (agree : Agree xs ys limit) (at : ℕ)
   pub name_kept : at + 5 ≤ limit → name_at ys (at + 1) ≡ name_at xs (at + 1)
   name_kept h = name_same ys xs at at 5 (kept 5 h) 1 (at + 1) (at + 1) refl refl (omega arith)
 
-  pub command_kept : (text : List ℕ) (due : Due) (c : Command) (b : ℕ) → read_command xs text at due ≡ R.Command c b → b ≤ limit → read_command ys text at due ≡ R.Command c b
+  pub command_kept : (text : List ℕ) (due : Due) (c : Command) (b : ℕ) → read_command xs text at due ≡ Ok (c, b) → b ≤ limit → read_command ys text at due ≡ Ok (c, b)
   command_kept text due c b e h =
       let g : Good xs text at due c b = good xs text at due c b e in
       let l : Lies xs at due = lies xs at due g.known in
@@ -154,18 +153,18 @@ agree_earlier r cs = record { inside = le_refl (length r); bytes = λ k h. sym (
 
 -- where a field or a key is due and no end stands, the operands are a name
 module _ (commands text : List ℕ) (at : ℕ) (c : Command) (b : ℕ) where
-  named_width : (due : Due) → read_command commands text at due ≡ R.Command c b → (byte : ℕ) → eqb (get_or commands at 0) byte ≡ true → width (form_of byte) ≡ 5 → at + 5 ≤ b
+  named_width : (due : Due) → read_command commands text at due ≡ Ok (c, b) → (byte : ℕ) → eqb (get_or commands at 0) byte ≡ true → width (form_of byte) ≡ 5 → at + 5 ≤ b
   named_width due e byte q w =
       let ends : b ≡ at + width (form_of byte) = rw (eqb-true (get_or commands at 0) byte q) at (good commands text at due c b e).ends in
       omega arith
 
-  pub field_width : read_command commands text at D.FieldOrEnd ≡ R.Command c b → eqb (get_or commands at 0) end_byte ≡ false → at + 5 ≤ b
+  pub field_width : read_command commands text at D.FieldOrEnd ≡ Ok (c, b) → eqb (get_or commands at 0) end_byte ≡ false → at + 5 ≤ b
   unfolding form_of operands
   field_width e n =
       or_cases (eqb (get_or commands at 0) field_byte) (eqb (get_or commands at 0) end_byte) (lies commands at D.FieldOrEnd (good commands text at D.FieldOrEnd c b e).known).stood
       (λ q. named_width D.FieldOrEnd e field_byte q refl) (λ q. absurd (true≢false (sym q ∙ n)))
 
-  pub key_width : read_command commands text at D.KeyOrEnd ≡ R.Command c b → eqb (get_or commands at 0) end_byte ≡ false → at + 5 ≤ b
+  pub key_width : read_command commands text at D.KeyOrEnd ≡ Ok (c, b) → eqb (get_or commands at 0) end_byte ≡ false → at + 5 ≤ b
   unfolding form_of operands
   key_width e n =
       cases (eqb (get_or commands at 0) text_byte) (λ q. named_width D.KeyOrEnd e text_byte q refl)
@@ -173,8 +172,8 @@ module _ (commands text : List ℕ) (at : ℕ) (c : Command) (b : ℕ) where
 
 -- a reading with every offset moved on
 abbrev pub move_read : ℕ → Read → Read
-move_read n (R.Command command behind) = R.Command command (n + behind)
-move_read n (R.Refused refusal place) = R.Refused refusal (n + place)
+move_read n (Ok (command, behind)) = Ok (command, n + behind)
+move_read n (Err e) = refused_at e.refusal (n + e.place)
 
 leb_add : (n a b : ℕ) → leb (n + a) (n + b) ≡ leb a b
 leb_add n a b =

@@ -1,6 +1,6 @@
 -- Reading is local: a value that is read whole is read the same under a larger bound and with further commands behind it, and commands
 -- before it only move its offsets on.
-use Rattle.std.specs.Prelude.{◌≡◌, refl, Bool, false, ◌&&◌, List, [], ◌∷◌, ◌++◌, ℕ, zero, suc, ◌+◌, ◌-◌, ◌*◌, ◌%◌, ◌≤◌, ◌<◌, ltb, length, get_or}
+use Rattle.std.specs.Prelude.{◌≡◌, refl, Bool, false, ◌&&◌, List, [], ◌∷◌, ◌++◌, ℕ, zero, suc, ◌+◌, ◌-◌, ◌*◌, ◌%◌, ◌≤◌, ◌<◌, ltb, length, get_or, Ok}
 use Rattle.std.proofs.Common.{sym, ap, ◌∙◌, le_of_suc-le-suc, not-suc-le-zero}
 use Rattle.std.proofs.Math.Option.{Option, none, some}
 use native.Mathlib.Omega.{arith}
@@ -12,7 +12,6 @@ use Rattle.text.specs.Name.{bytes_of}
 use Rattle.commands.specs.declared.Command.{Command}
 use Rattle.commands.specs.declared.Due.{Due}
 use Rattle.commands.specs.declared.Due.TheVariants as D
-use Rattle.commands.specs.declared.Read.TheVariants as R
 use Rattle.commands.specs.Commands.{read_command, end_byte, form_of, width}
 use Rattle.model.specs.Kinds.{sequence_kind, struct_kind, map_kind, map_mode_kind, Step, field, element, position, key, value}
 use Rattle.model.specs.Reading.{Value, val, cut, Parts, no_parts, cut_off, part, Shape, leaf, follows, parts, chosen, no_value, shape_of, Next, ended, next, bad, value_next, field_next, next_part, Got, marked, rest, and_then, read_value, read_shape, read_parts}
@@ -49,7 +48,7 @@ module _ (xs ys text : List ℕ) (limit : ℕ) (agree : Agree xs ys limit) (at :
       (λ n. rw (e, n) (λ h. let l : b ≤ limit = omega arith in rw (command_kept xs ys limit agree at text due c b e l, first_kept b on l, n))))
       (λ n p e. rw e tt)
 
-  field_next_kept : (due : Due) → ((c : Command) (b : ℕ) → read_command xs text at due ≡ R.Command c b → eqb (get_or xs at 0) end_byte ≡ false → at + 5 ≤ b) →
+  field_next_kept : (due : Due) → ((c : Command) (b : ℕ) → read_command xs text at due ≡ Ok (c, b) → eqb (get_or xs at 0) end_byte ≡ false → at + 5 ≤ b) →
       NextKept xs limit (field_next xs text at (read_command xs text at due)) (field_next ys text at (read_command ys text at due))
   unfolding when◌then◌else◌
   field_next_kept due w =

@@ -1,5 +1,5 @@
 -- What is read whole is proper; a value that was cut may lack positions.
-use Rattle.std.specs.Prelude.{◌≡◌, refl, Bool, false, not, ◌&&◌, ◌||◌, List, ℕ, zero, suc, ◌+◌, ◌%◌, ◌≤◌, ◌<◌, leb, ltb, get_or}
+use Rattle.std.specs.Prelude.{◌≡◌, refl, Bool, false, not, ◌&&◌, ◌||◌, List, ℕ, zero, suc, ◌+◌, ◌%◌, ◌≤◌, ◌<◌, leb, ltb, get_or, Ok}
 use Rattle.std.proofs.Common.{sym, subst, ◌∙◌, true≢false, zero-le, add-one, arith}
 use Rattle.std.proofs.Math.Bool.{true}
 use Rattle.std.proofs.lemmas.Bool.{false≢true}
@@ -18,7 +18,6 @@ use Rattle.commands.specs.declared.Command.{Command}
 use Rattle.commands.specs.declared.Command.TheVariants as C
 use Rattle.commands.specs.declared.Due.{Due}
 use Rattle.commands.specs.declared.Due.TheVariants as D
-use Rattle.commands.specs.declared.Read.TheVariants as R
 use Rattle.commands.specs.Commands.{read_command, end_byte, field_byte}
 use Rattle.model.specs.Kinds.{sequence_kind, struct_kind, map_kind, tuple_kind, union_kind, map_mode_kind, is_struct, Step, element, position, key, value, variant}
 use Rattle.model.specs.Reading.{Value, val, cut, Parts, no_parts, part, Shape, leaf, follows, parts, chosen, no_value, shape_of, Next, ended, next, bad, value_next, field_next, next_part, Got, marked, rest, read_value, read_shape, read_parts, is_whole, are_whole}
@@ -109,7 +108,7 @@ pub few_layers : (options : ℕ) (text : List ℕ) (c : Command) → layers (sha
 few_layers options text c = leb-true (layers (shape_of options text c)) 3 (and_right (shape_fits options (shape_of options text c)) (leb (layers (shape_of options text c)) 3) (shape_good options text c))
 
 -- where a value is due no end stands
-no_end : (commands text : List ℕ) (at : ℕ) (c : Command) (b : ℕ) → read_command commands text at D.Value ≡ R.Command c b → eqb (get_or commands at 0) end_byte ≡ false
+no_end : (commands text : List ℕ) (at : ℕ) (c : Command) (b : ℕ) → read_command commands text at D.Value ≡ Ok (c, b) → eqb (get_or commands at 0) end_byte ≡ false
 no_end commands text at c b e =
     let byte : ℕ = get_or commands at 0 in
     not_is_true (eqb byte end_byte) (and_right (not (eqb byte field_byte)) (not (eqb byte end_byte)) (lies commands at D.Value (good commands text at D.Value c b e).known).stood)

@@ -1,20 +1,18 @@
 -- Reading by cases, and one step of the readers.
-use Rattle.std.specs.Prelude.{◌≡◌, refl, List, ℕ, suc, ◌+◌}
+use Rattle.std.specs.Prelude.{◌≡◌, refl, List, ℕ, suc, ◌+◌, Ok, Err}
 use Rattle.std.proofs.Math.Option.{Option, none, some}
 use Rattle.refusal.specs.declared.Refusal.{Refusal}
 use Rattle.refusal.specs.Number.{number_of}
 use Rattle.commands.specs.declared.Command.{Command}
 use Rattle.commands.specs.declared.Due.TheVariants as D
-use Rattle.commands.specs.declared.Read.{Read}
-use Rattle.commands.specs.declared.Read.TheVariants as R
-use Rattle.commands.specs.Commands.{read_command}
+use Rattle.commands.specs.Commands.{read_command, Read, refused_at}
 use Rattle.model.specs.Kinds.{Step}
 use Rattle.model.specs.Reading.{no_parts, cut_off, shape_of, Next, ended, next, bad, next_part, cut_at, and_then, read_value, read_shape, read_parts}
 
 -- ---- by cases
-pub read_cases : {P : Type 0} (r : Read) → ((c : Command) (b : ℕ) → r ≡ R.Command c b → P) → ((f : Refusal) (p : ℕ) → r ≡ R.Refused f p → P) → P
-read_cases (R.Command c b) k l = k c b refl
-read_cases (R.Refused f p) k l = l f p refl
+pub read_cases : {P : Type 0} (r : Read) → ((c : Command) (b : ℕ) → r ≡ Ok (c, b) → P) → ((f : Refusal) (p : ℕ) → r ≡ refused_at f p → P) → P
+read_cases (Ok (c, b)) k l = k c b refl
+read_cases (Err e) k l = l e.refusal e.place refl
 
 pub next_cases : {P : Type 0} (n : Next) → ((b : ℕ) → n ≡ ended b → P) → ((s : Step) (a : ℕ) → n ≡ next s a → P) → ((f p : ℕ) → n ≡ bad f p → P) → P
 next_cases (ended b) k l m = k b refl
@@ -27,12 +25,12 @@ option_cases (some b) k l = l b refl
 
 -- ---- one step of the readers
 module _ (options : ℕ) (commands text : List ℕ) where
-  pub value_command : (f at : ℕ) (c : Command) (b : ℕ) → read_command commands text at D.Value ≡ R.Command c b →
+  pub value_command : (f at : ℕ) (c : Command) (b : ℕ) → read_command commands text at D.Value ≡ Ok (c, b) →
       read_value (suc f) options commands text at ≡ read_shape f options commands text at b (shape_of options text c)
   unfolding read_value
   value_command f at c b e = rw (e, read_value)
 
-  pub value_refused : (f at : ℕ) (n : Refusal) (p : ℕ) → read_command commands text at D.Value ≡ R.Refused n p →
+  pub value_refused : (f at : ℕ) (n : Refusal) (p : ℕ) → read_command commands text at D.Value ≡ refused_at n p →
       read_value (suc f) options commands text at ≡ cut_at (number_of n) p
   unfolding read_value
   value_refused f at n p e = rw (e, read_value)

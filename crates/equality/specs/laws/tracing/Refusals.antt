@@ -1,16 +1,14 @@
 -- Which refusals there are, and where: reading gives 4 to 6, tracing 4 to 11, emission 12 to 17, and no place is past the commands' end.
-use Rattle.std.specs.Prelude.{◌≡◌, refl, Bool, false, length}
+use Rattle.std.specs.Prelude.{◌≡◌, refl, Bool, false, length, Ok, Err}
 use mathlib.Core.List.{List, [], ◌∷◌}
 use Rattle.std.proofs.Math.Option.{Option, none, some}
 use Prim.Native.Nat.{ℕ, zero, suc, ◌+◌, ◌≤◌, zero-le}
 use native.Mathlib.Omega.{arith}
 use Rattle.refusal.specs.Number.{number_of, no_joint}
 use Rattle.coerce.specs.Joint.{joint}
-use Rattle.commands.specs.declared.Read.{Read}
-use Rattle.commands.specs.declared.Read.TheVariants as R
 use Rattle.commands.specs.declared.Due.{Due}
 use Rattle.commands.specs.declared.Due.TheVariants as D
-use Rattle.commands.specs.Commands.{read_command}
+use Rattle.commands.specs.Commands.{read_command, Read}
 use Rattle.model.specs.Result.{Result, accepted, refused, ◌>>=◌, or_refused}
 use Rattle.model.specs.Kinds.{Step, element, position, key, value}
 use Rattle.model.specs.Reading.{Value, val, cut, Parts, no_parts, cut_off, part, Shape, leaf, follows, parts, chosen, no_value, shape_of, Next, ended, next, bad, value_next, field_next, next_part, Got, marked, rest, read_value, read_shape, read_parts, records_from, values, enough}
@@ -53,8 +51,8 @@ AllFit end [] = Unit {0}
 AllFit end (v ∷ vs) = ValueFits end v × AllFit end vs
 
 abbrev ReadFits : (end : ℕ) → Read → Type 0
-ReadFits end (R.Command command behind) = Unit {0}
-ReadFits end (R.Refused r place) = CutFits end (number_of r) place
+ReadFits end (Ok (command, behind)) = Unit {0}
+ReadFits end (Err e) = CutFits end (number_of e.refusal) e.place
 
 abbrev NextFits : (end : ℕ) → Next → Type 0
 NextFits end (ended behind) = Unit {0}
@@ -70,12 +68,12 @@ module _ (end : ℕ) (commands text : List ℕ) (at : ℕ) (inside : at ≤ end)
       choice (ReadFits end) _ (λ _. omega arith) λ _. tt
 
   value_next_lem : (s : Step) (r : Read) → ReadFits end r → NextFits end (value_next commands s at r)
-  value_next_lem s (R.Command c behind) h = choice (NextFits end) _ (λ _. tt) (λ _. tt)
-  value_next_lem s (R.Refused r place) h = h
+  value_next_lem s (Ok (c, behind)) h = choice (NextFits end) _ (λ _. tt) (λ _. tt)
+  value_next_lem s (Err e) h = h
 
   field_next_lem : (r : Read) → ReadFits end r → NextFits end (field_next commands text at r)
-  field_next_lem (R.Command c behind) h = choice (NextFits end) _ (λ _. tt) (λ _. tt)
-  field_next_lem (R.Refused r place) h = h
+  field_next_lem (Ok (c, behind)) h = choice (NextFits end) _ (λ _. tt) (λ _. tt)
+  field_next_lem (Err e) h = h
 
   next_fits : (kind n i : ℕ) → NextFits end (next_part commands text kind n i at)
   unfolding next_part

@@ -1,5 +1,5 @@
 -- The flat reading and the model's read the same commands: shapes, parts and the marks 10 and 11, with names by their operands and by their bytes.
-use Rattle.std.specs.Prelude.{◌≡◌, Bool, true, false, ◌&&◌, List, [], ◌∷◌, ℕ, zero, suc, ◌+◌, ◌%◌, ◌<◌, ltb, length, get_or}
+use Rattle.std.specs.Prelude.{◌≡◌, Bool, true, false, ◌&&◌, List, [], ◌∷◌, ℕ, zero, suc, ◌+◌, ◌%◌, ◌<◌, ltb, length, get_or, Ok}
 use Rattle.std.proofs.Math.Path.{refl, sym}
 use Rattle.std.proofs.Common.{subst, ◌∙◌, true≢false, arith}
 use Rattle.std.proofs.Math.Option.{Option, none, some}
@@ -22,9 +22,8 @@ use Rattle.commands.specs.declared.Command.{Command}
 use Rattle.commands.specs.declared.Command.TheVariants as C
 use Rattle.commands.specs.declared.Due.{Due}
 use Rattle.commands.specs.declared.Due.TheVariants as D
-use Rattle.commands.specs.declared.Read.TheVariants as R
 use Rattle.commands.specs.laws.Commands as Laws
-use Rattle.commands.specs.Commands.{operand_at, name_at, Form, plain, counted, named, variant, counted_variant, forms, form_of, operands, made, name_in, bad_name, read_command, text_byte, field_byte, end_byte}
+use Rattle.commands.specs.Commands.{operand_at, name_at, Form, plain, counted, named, variant, counted_variant, forms, form_of, operands, made, name_in, bad_name, refused_at, read_command, text_byte, field_byte, end_byte}
 use Rattle.commands.specs.laws.Commands.{byte_of, name_of}
 use Rattle.model.specs.Kinds as K
 use Rattle.model.specs.Kinds.{Step, sequence_kind, struct_kind, map_kind, tuple_kind, map_mode_kind, is_container}
@@ -38,10 +37,9 @@ use Rattle.shapes.specs.declared.Contents.{Contents}
 use Rattle.shapes.specs.declared.Contents.TheVariants as N
 use Rattle.shapes.specs.declared.Shape as FlatShape
 use Rattle.shapes.specs.declared.Shape.TheVariants as H
-use Rattle.shapes.specs.declared.Part.{Part}
 use Rattle.shapes.specs.declared.Part.TheVariants as P
 use Rattle.shapes.specs.Steps.{Inside}
-use Rattle.shapes.specs.Shapes.{shape_at, value_part, field_part, part_at}
+use Rattle.shapes.specs.Shapes.{PartRead, shape_at, value_part, field_part, part_at}
 use Rattle.leaves.specs.Marks.{some_byte, newtype_byte}
 use Rattle.refine.specs.laws.reading.Steps.{Stands}
 use Rattle.commands.specs.Bytes.{Bytes}
@@ -86,35 +84,35 @@ module _ (commands text : List ℕ) (bytes : Bytes commands) where
       sym (get_or-map (λ (form : Form). name_of (made form commands at)) forms byte (plain C.Unit)) ∙ get_or-map (λ (form : Form). name_in form commands at) forms byte (plain C.Unit)
 
   -- the name of a command that was read
-  pub command_name : (at : ℕ) (due : Due) (c : Command) (b : ℕ) → read_command commands text at due ≡ R.Command c b → NameGood text (name_of c)
+  pub command_name : (at : ℕ) (due : Due) (c : Command) (b : ℕ) → read_command commands text at due ≡ Ok (c, b) → NameGood text (name_of c)
   command_name at due c b e =
       let g : Good commands text at due c b = good commands text at due c b e in
       rw (g.what, made_name (get_or commands at 0) (at + 1)) (names_good (form_of (get_or commands at 0)) (at + 1) g.named)
 
   -- where a field or a key is due and no end stands, a name follows
-  named_by : (at : ℕ) (due : Due) (c : Command) (b byte : ℕ) → read_command commands text at due ≡ R.Command c b → eqb (get_or commands at 0) byte ≡ true
+  named_by : (at : ℕ) (due : Due) (c : Command) (b byte : ℕ) → read_command commands text at due ≡ Ok (c, b) → eqb (get_or commands at 0) byte ≡ true
       → name_in (form_of byte) commands (at + 1) ≡ some (name_at commands (at + 1)) → NameGood text (some (name_at commands (at + 1)))
   named_by at due c b byte e q n =
       let g : Good commands text at due c b = good commands text at due c b e in
       subst (NameGood text) n (names_good (form_of byte) (at + 1) (rw (eqb-true (get_or commands at 0) byte q) at g.named))
 
-  field_name : (at : ℕ) (c : Command) (b : ℕ) → read_command commands text at D.FieldOrEnd ≡ R.Command c b → eqb (get_or commands at 0) end_byte ≡ false → NameGood text (some (name_at commands (at + 1)))
+  field_name : (at : ℕ) (c : Command) (b : ℕ) → read_command commands text at D.FieldOrEnd ≡ Ok (c, b) → eqb (get_or commands at 0) end_byte ≡ false → NameGood text (some (name_at commands (at + 1)))
   unfolding form_of name_in
   field_name at c b e n =
       or_cases (eqb (get_or commands at 0) field_byte) (eqb (get_or commands at 0) end_byte) (lies commands at D.FieldOrEnd (good commands text at D.FieldOrEnd c b e).known).stood
       (λ q. named_by at D.FieldOrEnd c b field_byte e q refl) (λ q. absurd (true≢false (sym q ∙ n)))
 
-  key_name_lem : (at : ℕ) (c : Command) (b : ℕ) → read_command commands text at D.KeyOrEnd ≡ R.Command c b → eqb (get_or commands at 0) end_byte ≡ false → NameGood text (some (name_at commands (at + 1)))
+  key_name_lem : (at : ℕ) (c : Command) (b : ℕ) → read_command commands text at D.KeyOrEnd ≡ Ok (c, b) → eqb (get_or commands at 0) end_byte ≡ false → NameGood text (some (name_at commands (at + 1)))
   unfolding form_of name_in
   key_name_lem at c b e n =
       cases (eqb (get_or commands at 0) text_byte) (λ q. named_by at D.KeyOrEnd c b text_byte e q refl)
       (λ q. absurd (true≢false (rw (q, n) at (good commands text at D.KeyOrEnd c b e).keyed)))
 
 -- ---- what stands before a part
-pub data Says (text : List ℕ) : Part → Next → Type 0 where
-  says_end : {b : ℕ} → Says text (P.Ended b) (ended b)
-  says_step : {f : Flat.Step} {s : Step} {a : ℕ} → Stands text f s → Says text (P.Step f a) (next s a)
-  says_bad : {x : Refusal} {p : ℕ} → Says text (P.Refused x p) (bad (number_of x) p)
+pub data Says (text : List ℕ) : PartRead → Next → Type 0 where
+  says_end : {b : ℕ} → Says text (Ok (P.Ended b)) (ended b)
+  says_step : {f : Flat.Step} {s : Step} {a : ℕ} → Stands text f s → Says text (Ok (P.Step f a)) (next s a)
+  says_bad : {x : Refusal} {p : ℕ} → Says text (refused_at x p) (bad (number_of x) p)
 
 pub element_stands : (text : List ℕ) → Stands text S.Element K.element
 element_stands text = record { code = refl; inside = omega arith; bytes = refl; short = omega arith }
@@ -142,7 +140,7 @@ module _ (commands text : List ℕ) (bytes : Bytes commands) (at : ℕ) where
       (λ c b e. rw e (choices (Says text) (eqb (get_or commands at 0) end_byte) says_end (says_step st)))
       (λ x p e. rw e says_bad)
 
-  name_says : (due : Due) → ((c : Command) (b : ℕ) → read_command commands text at due ≡ R.Command c b → eqb (get_or commands at 0) end_byte ≡ false → NameGood text (some (name_at commands (at + 1))))
+  name_says : (due : Due) → ((c : Command) (b : ℕ) → read_command commands text at due ≡ Ok (c, b) → eqb (get_or commands at 0) end_byte ≡ false → NameGood text (some (name_at commands (at + 1))))
       → Says text (field_part commands at (read_command commands text at due)) (field_next commands text at (read_command commands text at due))
   unfolding when◌then◌else◌
   name_says due k =
@@ -227,15 +225,15 @@ shape_says options text (C.TupleVariant k name n) g x y = chooses {c = N.Positio
 shape_says options text (C.StructVariant k name) g x y = chooses {c = N.Fields} (variant_stands text k name g)
 
 -- ---- the byte of a command that was read
-pub byte_is : (commands text : List ℕ) (at : ℕ) (due : Due) (c : Command) (b : ℕ) → read_command commands text at due ≡ R.Command c b → byte_of c ≡ get_or commands at 0
+pub byte_is : (commands text : List ℕ) (at : ℕ) (due : Due) (c : Command) (b : ℕ) → read_command commands text at due ≡ Ok (c, b) → byte_of c ≡ get_or commands at 0
 byte_is commands text at due c b e = (Laws.good commands text at due c b e).byte
 
-pub starts : (commands text : List ℕ) (at : ℕ) (due : Due) (c : Command) (b : ℕ) → read_command commands text at due ≡ R.Command c b → at < length commands
+pub starts : (commands text : List ℕ) (at : ℕ) (due : Due) (c : Command) (b : ℕ) → read_command commands text at due ≡ Ok (c, b) → at < length commands
 starts commands text at due c b e = (lies commands at due (good commands text at due c b e).known).starts
 
 -- ---- the marks 10 and 11 are read
 module _ (commands text : List ℕ) (at : ℕ) (h : at < length commands) where
-  pub some_read : get_or commands at 0 ≡ some_byte → read_command commands text at D.Value ≡ R.Command C.Some (at + 1)
+  pub some_read : get_or commands at 0 ≡ some_byte → read_command commands text at D.Value ≡ Ok (C.Some, at + 1)
   unfolding made form_of name_in bad_name operands
   some_read e =
       good_read commands text at D.Value C.Some (at + 1) (record {
@@ -246,7 +244,7 @@ module _ (commands text : List ℕ) (at : ℕ) (h : at < length commands) where
         ends = rw e refl;
       })
 
-  pub newtype_read : get_or commands at 0 ≡ newtype_byte → read_command commands text at D.Value ≡ R.Command C.NewtypeStruct (at + 1)
+  pub newtype_read : get_or commands at 0 ≡ newtype_byte → read_command commands text at D.Value ≡ Ok (C.NewtypeStruct, at + 1)
   unfolding made form_of name_in bad_name operands
   newtype_read e =
       good_read commands text at D.Value C.NewtypeStruct (at + 1) (record {

@@ -1,8 +1,6 @@
--- `utf8::is_ascii` looks at all bytes as one block.
-use borrow.Author.Rules.{rules}
-use Rattle.text.specs.Block.{is_ascii}
+-- `utf8::is_ascii` asks the library, which looks at each byte.
+use Rattle.text.proofs.Library.{ascii_bytes}
 use Rattle.text.proofs.utf8.is_ascii.Goals as goal
 
 pub returns : goal.returns
-unfolding is_ascii
-returns c = search rules
+returns c = ascii_bytes c.args.bytes.now c.is_ascii.result c.is_ascii.ensures.cases
