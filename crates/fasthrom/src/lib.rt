@@ -6,7 +6,7 @@
 ghost use Rattle.call.specs.Call.{handed_in, lent_in, left_in};
 ghost use Rattle.fasthrom.specs.Called.{Called};
 
-// What the call answers, by number: on success refusal and place are 0, on a refusal every count is.
+// What the call answers, by number, for C has no Result: on success refusal and place are 0, on a refusal every count is.
 #[repr(C)]
 #[derive(Clone, Copy)]
 pub struct Answer {

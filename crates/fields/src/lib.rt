@@ -5,18 +5,17 @@
 ghost use Rattle.std.specs.Prelude.{◌≡◌, ◌&&◌, ◌||◌, ◌%◌, eqb};
 ghost use Rattle.datatype.specs.Codes.{utf8, large_utf8, strategy_code};
 ghost use Rattle.options.specs.Word.{string_dictionary_encoding};
-ghost use Rattle.words.specs.Word.{word, IsRow};
+ghost use Rattle.words.specs.Word.{word};
 ghost use Rattle.model.specs.Emission.{type_of, strategy_of};
 ghost use Rattle.places.specs.Layout.{null_word};
 ghost use Rattle.fields.specs.Fields.{count_with, count_below, field_count, lacking_at, is_dictionary, is_leaf};
 
 use datatype::{DataType, Strategy};
 use options::TracingOptions;
-use words::Table;
+use words::{Place, Table, Whole};
 
 // The count of fields after a child: the slots of a union up to its own.
-fn count_with(kind: u32, table: &Table, child: usize, count: u32) -> u32
-    requires { IsRow child }
+fn count_with(kind: u32, table: &Table, child: Place, count: u32) -> u32
     ensures { result ≡ count_with kind table.now child count }
 {
     if kind == shapes::UNION {
@@ -27,14 +26,13 @@ fn count_with(kind: u32, table: &Table, child: usize, count: u32) -> u32
 }
 
 // How many fields stand below a place.
-fn count_children(table: &Table, kind: u32, place: usize) -> u32
-    requires { IsRow place }
+fn count_children(table: &Table, kind: u32, place: Place) -> u32
     ensures { result ≡ count_below table.now kind place }
 {
     let mut count: u32 = 0;
-    let mut child = places::next_child(table, false, kind, place, 0);
+    let mut child = places::next_child(table, false, kind, place, Place::ROOT);
     for _ in 0..places::CHILDREN {
-        if child == 0 {
+        if child.is_root() {
             return count;
         }
         count = count_with(kind, table, child, count);
@@ -45,8 +43,7 @@ fn count_children(table: &Table, kind: u32, place: usize) -> u32
 
 // How many fields a place's field has: the entries of a map, the slots of a union up to the highest seen, else its
 // children.
-pub fn field_count(table: &Table, kind: u32, place: usize) -> u32
-    requires { IsRow place }
+pub fn field_count(table: &Table, kind: u32, place: Place) -> u32
     ensures { result ≡ field_count table.now kind place }
 {
     if kind == shapes::MAP {
@@ -99,39 +96,34 @@ pub fn strategy_of(kind: u32) -> Strategy
 }
 
 // Whether null is admitted: it was seen, or a sample lacks the field.
-pub fn is_nullable(table: &Table, place: usize, lacking: bool) -> bool
-    requires { IsRow place }
+pub fn is_nullable(table: &Table, place: Place, lacking: bool) -> bool
     ensures { result ≡ (lacking || eqb (word table.now place null_word) 1) }
 {
-    lacking || words::get(table, place, places::NULL) == 1
+    lacking || words::get(table, place, Whole::Null) == 1
 }
 
 // A struct field that some sample lacks.
-pub fn is_lacking(table: &Table, kind: u32, place: usize, child: usize) -> bool
-    requires place_row { IsRow place }
-    requires child_row { IsRow child }
+pub fn is_lacking(table: &Table, kind: u32, place: Place, child: Place) -> bool
     ensures { result ≡ lacking_at table.now kind place child }
 {
     kinds::is_struct(kind)
-        && words::get(table, child, places::HELD) < words::get(table, place, places::SAMPLES)
+        && words::get(table, child, Whole::Held) < words::get(table, place, Whole::Samples)
 }
 
 // A union that is emitted as a dictionary.
-pub fn is_dictionary(options: TracingOptions, table: &Table, place: usize) -> bool
-    requires { IsRow place }
+pub fn is_dictionary(options: TracingOptions, table: &Table, place: Place) -> bool
     ensures { result ≡ is_dictionary options.word table.now place }
 {
-    words::get(table, place, places::KIND) == shapes::UNION
+    words::get(table, place, Whole::Kind) == shapes::UNION
         && options.enums_without_data_as_strings()
         && walk::is_dataless(table, place)
 }
 
 // Whether nothing is emitted below a place.
-pub fn is_leaf(options: TracingOptions, levels: usize, table: &Table, place: usize) -> bool
-    requires { IsRow place }
+pub fn is_leaf(options: TracingOptions, levels: usize, table: &Table, place: Place) -> bool
     ensures { result ≡ is_leaf options.word table.now (eqb levels 0) place }
 {
-    words::get(table, place, places::KIND) < shapes::SEQUENCE
+    words::get(table, place, Whole::Kind) < shapes::SEQUENCE
         || levels == 0
         || is_dictionary(options, table, place)
 }

@@ -6,7 +6,6 @@ ghost use Rattle.std.specs.Prelude.{◌≡◌, ◌<◌, ◌&&◌, [], ◌∷◌,
 ghost use Rattle.words.specs.Word.{word, IsRow};
 ghost use Rattle.shapes.specs.Steps.{field_code, code_of, name_of, Good};
 ghost use Rattle.places.specs.Layout.{Ready, last_word};
-ghost use Rattle.search.specs.Tree.{seek};
 ghost use Rattle.search.specs.Search.{Comparable};
 ghost use Rattle.growth.specs.Growth.{linked, described, appended, confirmed, ensured_by, ensured, EnsuredAs, touched, sampled, made_one, made_all, positions_from, positions_made, made, MadeAs, position_in, entered};
 ghost use Rattle.model.specs.Kinds.{tuple_kind};
@@ -16,74 +15,76 @@ ghost use Rattle.shapes.specs.declared.Step.TheVariants.{Key, Value};
 use refusal::Refusal;
 use shapes::Step;
 use text::Name;
-use words::Table;
+use words::{Half, Place, Table, Whole};
 
 // Enters a new child into the search tree, if it is numbered.
-fn enter(place: usize, code: u32, child: usize, table: &mut Table)
-    requires { (place < child) × IsRow child }
+#[tactic(auto, using(logic::specs::laws::Test::chosen, logic::specs::laws::Test::other), unfolding(crate::specs::Growth::entered))]
+fn enter(place: Place, code: u32, child: Place, table: &mut Table)
+    requires { place < child }
     ensures { table.new ≡ entered place code child table.old }
 {
     if !search::is_numbered(code) {
         return;
     }
-    let slot = search::seek(place, code, child, table);
+    let slot = search::seek(place, code, child.number(), table);
     words::set_link(table, slot.place, slot.field, child);
 }
 
 // The link to a new last child: from the place where it is the first, else from the last before it.
-fn link(place: usize, child: usize, table: &mut Table)
-    requires { IsRow place × IsRow child × IsRow (word table.old place last_word) }
+#[tactic(auto, using(logic::specs::laws::Test::chosen, logic::specs::laws::Test::other), unfolding(crate::specs::Growth::linked))]
+fn link(place: Place, child: Place, table: &mut Table)
+    requires { IsRow (word table.old place last_word) }
     ensures { table.new ≡ linked place child table.old }
 {
-    if words::link(table, place, places::FIRST) == 0 {
-        words::set_link(table, place, places::FIRST, child);
+    if words::link(table, place, Half::First) == 0 {
+        words::set_link(table, place, Half::First, child);
     } else {
-        let last = words::link(table, place, places::LAST);
-        words::set_link(table, last, places::NEXT, child);
+        let last = Place::new(words::link(table, place, Half::Last));
+        words::set_link(table, last, Half::Next, child);
     }
 }
 
 // The words of a child that tell where it stands.
-fn describe(place: usize, code: u32, name: Name, child: usize, table: &mut Table)
-    requires { IsRow place × IsRow child }
+#[tactic(auto, unfolding(crate::specs::Growth::described))]
+fn describe(place: Place, code: u32, name: Name, child: Place, table: &mut Table)
     ensures { table.new ≡ described place code name child table.old }
 {
-    words::set_link(table, child, places::PARENT, place);
-    words::set(table, child, places::STEP, code);
-    words::set(table, child, places::NAME, shapes::packed(name));
+    words::set_link(table, child, Half::Parent, place);
+    words::set(table, child, Whole::Step, code);
+    words::set(table, child, Whole::Name, shapes::packed(name));
 }
 
 // A new place as the last child. It is described first: behind these stores the compiler loads the place's links again, and need
 // not keep them while the search for a field runs.
-fn append(place: usize, code: u32, name: Name, child: usize, table: &mut Table)
-    requires { IsRow place × IsRow child × IsRow (word table.old place last_word) }
+fn append(place: Place, code: u32, name: Name, child: Place, table: &mut Table)
+    requires { IsRow (word table.old place last_word) }
     ensures { table.new ≡ appended place code name child table.old }
 {
     describe(place, code, name, child, table);
     link(place, child, table);
-    words::set_link(table, place, places::LAST, child);
+    words::set_link(table, place, Half::Last, child);
 }
 
 // The child that was found or made, and how many places there are.
 #[derive(Clone, Copy)]
 pub struct Found {
-    pub child: usize,
+    pub child: Place,
     pub count: usize,
 }
 
-// The child that was found, whose name must be the one given (a variant's number has one name), and may be long; else
-// refusal 9.
+// The child that was found, whose name must be the one given (a variant's number has one name); else refusal 9.
+#[tactic(auto, using(logic::specs::laws::Test::chosen, logic::specs::laws::Test::other), unfolding(crate::specs::Growth::confirmed))]
 fn confirm(
     text: &[u8],
     name: Name,
-    child: usize,
+    child: Place,
     count: usize,
     table: &Table,
 ) -> Result<Found, Refusal>
     requires { Comparable text.now table.now name child }
     ensures { result ≡ confirmed text.now name child count table.now }
 {
-    if shapes::unpacked(words::get(table, child, places::NAME)).equals_long(name, text) {
+    if places::given_name(table, child).equals(name, text) {
         Ok(Found { child, count })
     } else {
         Err(Refusal::TwoNames)
@@ -91,21 +92,22 @@ fn confirm(
 }
 
 // The position that a new child gets among its siblings: one behind the last's.
-fn next_position(place: usize, table: &Table) -> u32
-    requires { IsRow place × IsRow (word table.now place last_word) }
+#[tactic(auto, using(logic::specs::laws::Test::chosen, logic::specs::laws::Test::other), unfolding(crate::specs::Growth::position_in))]
+fn next_position(place: Place, table: &Table) -> u32
+    requires { IsRow (word table.now place last_word) }
     ensures { result ≡ position_in place table.now }
 {
-    if words::link(table, place, places::FIRST) == 0 {
+    if words::link(table, place, Half::First) == 0 {
         return 0;
     }
-    let last = words::link(table, place, places::LAST);
-    words::get(table, last, places::POSITION).wrapping_add(1)
+    let last = Place::new(words::link(table, place, Half::Last));
+    words::get(table, last, Whole::Position).wrapping_add(1)
 }
 
 // A new last child, at a step where the place has none, if there is room; else refusal 11.
 pub fn add(
     text: &[u8],
-    place: usize,
+    place: Place,
     code: u32,
     name: Name,
     count: usize,
@@ -117,13 +119,14 @@ pub fn add(
     if places::PLACES <= count {
         return Err(Refusal::TooManyPlaces);
     }
+    let child = Place::new(count);
     let position = next_position(place, table);
-    append(place, code, name, count, table);
-    words::set(table, count, places::TAG, name.tag(text));
-    words::set(table, count, places::POSITION, position);
-    enter(place, code, count, table);
+    append(place, code, name, child, table);
+    words::set(table, child, Whole::Tag, name.tag(text));
+    words::set(table, child, Whole::Position, position);
+    enter(place, code, child, table);
     Ok(Found {
-        child: count,
+        child,
         count: count + 1,
     })
 }
@@ -131,7 +134,7 @@ pub fn add(
 // The child of a place at a step that is no field: found, or made where there is room.
 pub fn ensure(
     text: &[u8],
-    place: usize,
+    place: Place,
     step: Step,
     count: usize,
     table: &mut Table,
@@ -141,41 +144,40 @@ pub fn ensure(
 {
     let code = step.code();
     let name = step.name();
-    let child = search::child_at(text, place, step, count, table);
-    if child == 0 {
-        return add(text, place, code, name, count, table);
+    match search::child_at(text, place, step, count, table) {
+        Some(child) => confirm(text, name, child, count, table),
+        None => add(text, place, code, name, count, table),
     }
-    confirm(text, name, child, count, table)
 }
 
 // Counts the child once among those that the place's present sample holds.
-pub fn touch(place: usize, child: usize, table: &mut Table)
-    requires { IsRow place × IsRow child }
+#[tactic(auto, using(logic::specs::laws::Test::chosen, logic::specs::laws::Test::other), unfolding(crate::specs::Growth::touched))]
+pub fn touch(place: Place, child: Place, table: &mut Table)
     ensures { table.new ≡ touched place child table.old }
 {
-    let sample = words::get(table, place, places::SAMPLES);
-    if words::get(table, child, places::MARK) == sample {
+    let sample = words::get(table, place, Whole::Samples);
+    if words::get(table, child, Whole::Mark) == sample {
         return;
     }
-    let held = words::get(table, child, places::HELD);
-    words::set(table, child, places::HELD, held.wrapping_add(1));
-    words::set(table, child, places::MARK, sample);
+    let held = words::get(table, child, Whole::Held);
+    words::set(table, child, Whole::Held, held.wrapping_add(1));
+    words::set(table, child, Whole::Mark, sample);
 }
 
 // The place has that kind, and one more sample.
-pub fn sample(place: usize, kind: u32, table: &mut Table)
-    requires { IsRow place }
+#[tactic(auto, unfolding(crate::specs::Growth::sampled))]
+pub fn sample(place: Place, kind: u32, table: &mut Table)
     ensures { table.new ≡ sampled place kind table.old }
 {
-    let samples = words::get(table, place, places::SAMPLES);
-    words::set(table, place, places::KIND, kind);
-    words::set(table, place, places::SAMPLES, samples.wrapping_add(1));
+    let samples = words::get(table, place, Whole::Samples);
+    words::set(table, place, Whole::Kind, kind);
+    words::set(table, place, Whole::Samples, samples.wrapping_add(1));
 }
 
 // One child that must be there: how many places there are, as below.
 fn make_one(
     text: &[u8],
-    place: usize,
+    place: Place,
     step: Step,
     count: usize,
     table: &mut Table,
@@ -188,7 +190,7 @@ fn make_one(
 }
 
 // A map's key and value.
-fn make_pair(text: &[u8], place: usize, count: usize, table: &mut Table) -> Result<usize, Refusal>
+fn make_pair(text: &[u8], place: Place, count: usize, table: &mut Table) -> Result<usize, Refusal>
     requires { Ready text.now table.old count place }
     ensures { MadeAs text table result (made_all text.now place (Key ∷ Value ∷ []) count table.old) }
 {
@@ -199,7 +201,7 @@ fn make_pair(text: &[u8], place: usize, count: usize, table: &mut Table) -> Resu
 // All positions of a tuple at a place that has children.
 fn seek_positions(
     text: &[u8],
-    place: usize,
+    place: Place,
     positions: u16,
     count: usize,
     table: &mut Table,
@@ -217,7 +219,7 @@ fn seek_positions(
 // All positions of a tuple: a block where they are the place's first children.
 fn make_positions(
     text: &[u8],
-    place: usize,
+    place: Place,
     positions: u16,
     count: usize,
     table: &mut Table,
@@ -225,7 +227,7 @@ fn make_positions(
     requires { Ready text.now table.old count place }
     ensures { MadeAs text table result (positions_made text.now place positions count table.old) }
 {
-    if words::link(table, place, places::FIRST) != 0 {
+    if words::link(table, place, Half::First) != 0 {
         return seek_positions(text, place, positions, count, table);
     }
     let mut places = count;
@@ -234,10 +236,10 @@ fn make_positions(
             return Err(Refusal::TooManyPlaces);
         }
         let step = Step::Position(i);
-        append(place, step.code(), step.name(), places, table);
+        append(place, step.code(), step.name(), Place::new(places), table);
         places += 1;
     }
-    words::set_link(table, place, places::BLOCK, positions as usize);
+    words::set_block(table, place, positions);
     Ok(places)
 }
 
@@ -251,7 +253,7 @@ fn is_first_tuple(kind: u32, before: u32) -> bool
 // The children that a container makes at its own command. A tuple makes its positions where the place was unknown.
 pub fn make(
     text: &[u8],
-    place: usize,
+    place: Place,
     kind: u32,
     positions: u16,
     before: u32,

@@ -49,8 +49,11 @@ SoundTraced text t n (Err refused) = Unit {0}
 
 -- what is promised of a function that traces: its answer and the table then are what the definition gives of the table before, the table
 -- is sound, and no place is lost of those that there were
+abbrev pub TracedIn : List ℕ → MutSlice → ℕ → Outcome → Out → Type 0
+TracedIn text table n r wanted = (out r (at_exit table) ≡ wanted) × SoundTraced text (at_exit table) n r
+
 abbrev pub TracedAs : Slice → MutSlice → ℕ → Outcome → Out → Type 0
-TracedAs text table n r wanted = (out r (at_exit table) ≡ wanted) × SoundTraced (now_of text) (at_exit table) n r
+TracedAs text table n r wanted = TracedIn (now_of text) table n r wanted
 
 -- a value that is no null, of the type that is there
 unfoldable pub is_known : Bool → ℕ → ℕ → Bool

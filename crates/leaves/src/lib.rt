@@ -2,8 +2,9 @@
 
 #![tactic(auto)]
 
-ghost use Rattle.std.specs.Prelude.{◌≡◌, ◌<◌};
-ghost use Rattle.words.specs.Word.{word, IsRow};
+ghost use Rattle.std.specs.Prelude.{◌≡◌, ◌<◌, IfSome};
+ghost use Rattle.std.specs.Option.{unwrap_or};
+ghost use Rattle.words.specs.Word.{word};
 ghost use Rattle.shapes.specs.Leaf.{Told};
 ghost use Rattle.leaves.specs.Leaves.{Out, stored, observed_at, is_known};
 ghost use Rattle.leaves.specs.Marks.{Chain, is_mark, marked, past_marks};
@@ -12,12 +13,21 @@ ghost use Rattle.leaves.specs.Quick.{same_at, quick_at};
 use commands::byte;
 use options::TracingOptions;
 use refusal::Refused;
-use words::Table;
+use words::{Place, Table, Whole};
+
+// A batch as it is read: its commands, the texts that they speak of, and the options, which may know that the texts are ASCII.
+#[derive(Clone, Copy)]
+pub struct Batch<'a> {
+    pub commands: &'a [u8],
+    pub text: &'a [u8],
+    pub options: TracingOptions,
+    ghost told: { Told options text.now },
+}
 
 // Where in the table a value is traced: its place, how many places there are, and how many levels are left for containers.
 #[derive(Clone, Copy)]
 pub struct Site {
-    pub place: usize,
+    pub place: Place,
     pub count: usize,
     pub levels: usize,
 }
@@ -37,18 +47,16 @@ fn is_mark(byte: u8) -> bool
 }
 
 // The place is nullable where the mark is `some`.
-fn mark(byte: u8, place: usize, table: &mut Table)
-    requires { IsRow place }
+fn mark(byte: u8, place: Place, table: &mut Table)
     ensures { table.new ≡ marked byte place table.old }
 {
     if byte == byte::SOME {
-        words::set(table, place, places::NULL, 1);
+        words::set(table, place, Whole::Null, 1);
     }
 }
 
 // Marks the place nullable for each `some`, and gives the offset of the first command that is neither 10 nor 11.
-pub fn past_marks(commands: &[u8], at: usize, place: usize, table: &mut Table) -> usize
-    requires { IsRow place }
+pub fn past_marks(commands: &[u8], at: usize, place: Place, table: &mut Table) -> usize
     ensures { Chain.chain result table.new ≡ past_marks commands.now at place table.old }
 {
     for here in at..commands.len() {
@@ -62,13 +70,12 @@ pub fn past_marks(commands: &[u8], at: usize, place: usize, table: &mut Table) -
 }
 
 // The place has that kind, and null was seen there if so.
-fn store(null: bool, kind: u32, place: usize, table: &mut Table)
-    requires { IsRow place }
+fn store(null: bool, kind: u32, place: Place, table: &mut Table)
     ensures { table.new ≡ stored null kind place table.old }
 {
-    words::set(table, place, places::KIND, kind);
+    words::set(table, place, Whole::Kind, kind);
     if null {
-        words::set(table, place, places::NULL, 1);
+        words::set(table, place, Whole::Null, 1);
     }
 }
 
@@ -90,10 +97,9 @@ pub fn observe(
     site: Site,
     table: &mut Table,
 ) -> Result<Traced, Refused>
-    requires { IsRow site.place }
     ensures { Out.out result table.new ≡ observed_at options.word null kind here next site table.old }
 {
-    let before = words::get(table, site.place, places::KIND);
+    let before = words::get(table, site.place, Whole::Kind);
     let traced = Traced {
         next,
         count: site.count,
@@ -109,43 +115,40 @@ pub fn observe(
 
 // Whether a value of one byte stands at an offset, of the type that is at a place.
 #[tactic(auto, unfolding(crate::specs::Quick::same_at))]
-fn is_same(commands: &[u8], at: usize, place: usize, table: &Table) -> bool
-    requires { IsRow place }
+fn is_same(commands: &[u8], at: usize, place: Place, table: &Table) -> bool
     ensures { result ≡ same_at commands.now at place table.now }
 {
     if commands.len() <= at {
         return false;
     }
-    let kind = words::get(table, place, places::KIND);
+    let kind = words::get(table, place, Whole::Kind);
     commands::read_byte(commands, at) as u32 == kind && shapes::is_own_byte(kind)
 }
 
-// The offset behind a primitive that is null or of the type that is there, or 0. Most values are: what stands before them and how
+// The offset behind a primitive that is null or of the type that is there. Most values are: what stands before them and how
 // kinds meet need not be asked, and types of one byte are told without asking what command it is.
 pub fn past_quick(
     commands: &[u8],
     text: &[u8],
     options: TracingOptions,
     at: usize,
-    place: usize,
+    place: Place,
     table: &mut Table,
-) -> usize
-    requires { IsRow place × Told options text.now }
-    ensures { Chain.chain result table.new ≡
-        quick_at options.word commands.now text.now at place table.old }
+) -> Option<usize>
+    requires { Told options text.now }
+    ensures value { Chain.chain (unwrap_or result 0) table.new ≡ quick_at options.word commands.now text.now at place table.old }
+    ensures onward { IfSome result (λ next. at < next) }
 {
     if is_same(commands, at, place, table) {
-        return at + 1;
+        return Some(at + 1);
     }
-    let Some(leaf) = shapes::leaf_at(commands, text, options, at) else {
-        return 0;
-    };
+    let leaf = shapes::leaf_at(commands, text, options, at)?;
     if leaf.null {
-        words::set(table, place, places::NULL, 1);
-        return leaf.next;
+        words::set(table, place, Whole::Null, 1);
+        return Some(leaf.next);
     }
-    if words::get(table, place, places::KIND) == leaf.kind {
-        return leaf.next;
+    if words::get(table, place, Whole::Kind) == leaf.kind {
+        return Some(leaf.next);
     }
-    0
+    None
 }

@@ -14,12 +14,12 @@ use options::TracingOptions;
 use refusal::Refusal;
 use shapes::Step;
 use text::Name;
-use words::Table;
+use words::{Place, Table, Whole};
 
 // The child at a step that is no field, which the present sample holds.
 pub fn hold(
     text: &[u8],
-    place: usize,
+    place: Place,
     step: Step,
     count: usize,
     table: &mut Table,
@@ -32,15 +32,15 @@ pub fn hold(
     Ok(found)
 }
 
-// A container meets what the place is, is one more sample there, and makes its children. Levels, place and count come as
-// numbers: as one struct they change what is inlined, and deep containers take 7 % more instructions.
+// A container meets what the place is, is one more sample there, and makes its children. Levels, place and count come one by
+// one: as one struct they change what is inlined, and deep containers take 7 % more instructions.
 pub fn open_container(
     text: &[u8],
     options: TracingOptions,
     kind: u32,
     positions: u16,
     levels: usize,
-    place: usize,
+    place: Place,
     count: usize,
     table: &mut Table,
 ) -> Result<usize, Refusal>
@@ -48,7 +48,7 @@ pub fn open_container(
     ensures { MadeAs text table result
         (container_made text.now options.word levels kind positions place count table.old) }
 {
-    let before = words::get(table, place, places::KIND);
+    let before = words::get(table, place, Whole::Kind);
     let joint = kinds::meet(options, levels, before, kind)?;
     growth::sample(place, joint, table);
     growth::make(text, place, kind, positions, before, count, table)
@@ -61,7 +61,7 @@ pub fn open_variant(
     number: u16,
     name: Name,
     levels: usize,
-    place: usize,
+    place: Place,
     count: usize,
     table: &mut Table,
 ) -> Result<Found, Refusal>
@@ -70,7 +70,7 @@ pub fn open_variant(
     ensures { EnsuredAs text table result
         (variant_held text.now options.word levels number name place count table.old) }
 {
-    let before = words::get(table, place, places::KIND);
+    let before = words::get(table, place, Whole::Kind);
     let joint = kinds::meet(options, levels, before, shapes::UNION)?;
     growth::sample(place, joint, table);
     hold(text, place, Step::Variant(number, name), count, table)
@@ -79,7 +79,7 @@ pub fn open_variant(
 // A field that was not seen before, whose name must be UTF-8.
 fn new_field(
     text: &[u8],
-    place: usize,
+    place: Place,
     name: Name,
     count: usize,
     table: &mut Table,
@@ -99,7 +99,7 @@ fn new_field(
 // A field by its name, which the present sample holds. The names of fields that were seen are known to be UTF-8.
 fn hold_field(
     text: &[u8],
-    place: usize,
+    place: Place,
     name: Name,
     count: usize,
     table: &mut Table,
@@ -107,10 +107,9 @@ fn hold_field(
     requires { Ready text.now table.old count place × Inside text.now name }
     ensures { OpenedAs text table count result (field_held text.now place name count table.old) }
 {
-    let child = search::find_field(text, place, name, count, table);
-    if child == 0 {
+    let Some(child) = search::find_field(text, place, name, count, table) else {
         return new_field(text, place, name, count, table);
-    }
+    };
     growth::touch(place, child, table);
     Ok(Some(Found { child, count }))
 }
@@ -121,7 +120,7 @@ pub fn open_field(
     text: &[u8],
     kind: u32,
     at: usize,
-    place: usize,
+    place: Place,
     count: usize,
     table: &mut Table,
 ) -> Result<Option<Found>, Refusal>

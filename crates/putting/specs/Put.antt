@@ -3,12 +3,12 @@ use Rattle.std.specs.Prelude.{◌≡◌, Bool, true, false, List, [], ◌∷◌,
 use Rattle.logic.specs.Test.{when◌then◌else◌}
 use Rattle.logic.specs.Slices.{MutSlice, at_entry, at_exit}
 use Rattle.logic.specs.Buffer.{written}
-use Rattle.datatype.specs.Codes.{null, struct, no_strategy, unknown_variant}
+use Rattle.datatype.specs.Codes.{null, struct, no_strategy, unknown_variant, strategy_code}
 use Rattle.model.specs.Kinds.{map_kind}
 use Rattle.model.specs.Tracing.{one}
 use Rattle.model.specs.Emission.{entries_name}
 use Rattle.walk.specs.Walk.{sum_of}
-use Rattle.putting.specs.declared.Ends.{Ends}
+use Rattle.putting.specs.declared.Record.{Record}
 
 -- a buffer and where the next byte goes
 pub data Put : Type 0 where
@@ -28,15 +28,14 @@ abbrev pub record_of : ℕ → Bool → ℕ → ℕ → ℕ → ℕ → List ℕ
 record_of type nullable strategy number length children =
     type ∷ one nullable ∷ strategy ∷ number ∷ length % 256 ∷ length / 256 % 256 ∷ children % 256 ∷ children / 256 % 256 ∷ []
 
+abbrev pub record_bytes : Record → List ℕ
+record_bytes r = record_of r.kind r.nullable (strategy_code r.strategy) r.number r.name_length r.children
+
 -- so many union slots never seen, from a slot on
 unfoldable pub put_gaps : ℕ → ℕ → ℕ → Put → Put
 put_gaps slot i zero (put at buffer) = put at buffer
 put_gaps slot i (suc count) (put at buffer) =
     put_gaps slot (suc i) count (put_bytes (record_of null true unknown_variant (sum_of slot i % 256) 0 0) buffer at)
-
-abbrev pub PutsGaps : ℕ → ℕ → MutSlice → ℕ → ℕ → Type 0
-PutsGaps slot count fields at r =
-    (put r (at_exit fields) ≡ put_gaps slot 0 count (put at (at_entry fields))) × (r ≤ length (at_exit fields))
 
 -- ---- both buffers
 -- where the next record and the next name go, and both buffers
@@ -45,6 +44,13 @@ pub data Writing : Type 0 where
 
 abbrev pub as_writing : Put → Put → Writing
 as_writing (put i fields) (put j names) = writing i j fields names
+
+-- a record, or a name
+unfoldable pub with_record : List ℕ → Writing → Writing
+with_record bytes (writing i j fields names) = as_writing (put_bytes bytes fields i) (put j names)
+
+unfoldable pub with_name : List ℕ → Writing → Writing
+with_name name (writing i j fields names) = as_writing (put i fields) (put_bytes name names j)
 
 -- a record and a name
 unfoldable pub both : List ℕ → List ℕ → Writing → Writing
@@ -58,14 +64,3 @@ unfoldable pub entries_in : ℕ → Writing → Writing
 entries_in kind w =
     when eqb kind map_kind then both (record_of struct false no_strategy 0 (length entries_name) 2) entries_name w
     else w
-
--- the ends stand inside the buffers
-abbrev pub Within : Ends → List ℕ → List ℕ → Type 0
-Within ends fields names = (ends.records ≤ length fields) × (ends.names ≤ length names)
-
--- what a part of the second walk answers for: it writes so from these ends on, and answers the ends behind
-abbrev pub Writes : (Writing → Writing) → Ends → MutSlice → MutSlice → Ends → Type 0
-Writes write ends fields names r =
-    (writing r.records r.names (at_exit fields) (at_exit names)
-    ≡ write (writing ends.records ends.names (at_entry fields) (at_entry names)))
-    × Within r (at_exit fields) (at_exit names)

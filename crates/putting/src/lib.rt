@@ -4,132 +4,157 @@
 
 ghost use Rattle.std.specs.Prelude.{◌≡◌, ◌≤◌, length};
 ghost use Rattle.text.specs.Decimal.{decimal};
-ghost use Rattle.words.specs.Word.{IsRow};
 ghost use Rattle.places.specs.Layout.{Settled};
 ghost use Rattle.places.specs.Reading.{child_name};
-ghost use Rattle.putting.specs.Put.{record_of, Puts, PutsGaps, entries_in, Within, Writes};
+ghost use Rattle.putting.specs.Put.{record_bytes, Puts, writing, with_record, with_name, gaps_in, entries_in};
 
 use datatype::{DataType, Strategy};
 use shapes::Step;
-use words::Table;
+use words::{Place, Table};
 
 // The fields of a map's entries.
 const ENTRIES_FIELDS: u32 = 2;
 
-// Where the next record and the next name go.
+// What a field record says: among it the code of its type, the length of its name in bytes, and how many fields stand below it.
 #[derive(Clone, Copy)]
-pub struct Ends {
-    pub records: usize,
-    pub names: usize,
+pub struct Record {
+    pub kind: u8,
+    pub nullable: bool,
+    pub strategy: Strategy,
+    pub number: u8,
+    pub name_length: u32,
+    pub children: u32,
+}
+
+// The output buffers, which whoever calls lends (the C interface), and where the next record and the next name go.
+#[derive(Drop)]
+pub struct Output<'f, 'n> {
+    fields: &'f mut [u8],
+    names: &'n mut [u8],
+    next_record: usize,
+    next_name: usize,
+    ghost in_fields: { next_record ≤ length fields.now },
+    ghost in_names: { next_name ≤ length names.now },
 }
 
 // Bytes, where there is room for them; the first walk has seen that there is.
-fn put_bytes(bytes: &[u8], names: &mut [u8], at: usize) -> usize
-    requires { at ≤ length names.old }
-    ensures { Puts bytes.now names at result }
+fn put_bytes(bytes: &[u8], buffer: &mut [u8], at: usize) -> usize
+    requires { at ≤ length buffer.old }
+    ensures { Puts bytes.now buffer at result }
 {
-    if names.len() - at < bytes.len() {
+    if buffer.len() - at < bytes.len() {
         return at;
     }
     let end = at + bytes.len();
-    names[at..end].copy_from_slice(bytes);
+    buffer[at..end].copy_from_slice(bytes);
     end
 }
 
-// One field record.
-pub fn put_record(
-    fields: &mut [u8],
-    at: usize,
-    kind: u8,
-    nullable: bool,
-    strategy: u8,
-    number: u8,
-    name_length: u32,
-    children: u32,
-) -> usize
-    requires { at ≤ length fields.old }
-    ensures { Puts (record_of kind nullable strategy number name_length children) fields at result }
-{
-    let record = [
-        kind,
-        u8::from(nullable),
-        strategy,
-        number,
-        (name_length % 256) as u8,
-        (name_length / 256 % 256) as u8,
-        (children % 256) as u8,
-        (children / 256 % 256) as u8,
-    ];
-    put_bytes(&record, fields, at)
-}
-
-// A position in decimal.
-fn put_position(i: u16, names: &mut [u8], at: usize) -> usize
-    requires { at ≤ length names.old }
-    ensures { Puts (decimal i) names at result }
-{
-    if names.len() - at < text::decimal_length(i) {
-        return at;
-    }
-    text::put_decimal(names, at, i)
-}
-
-// The name of a child.
-pub fn put_name(text: &[u8], table: &Table, child: usize, names: &mut [u8], at: usize) -> usize
-    requires settled { Settled text.now table.now }
-    requires row { IsRow child }
-    requires within { at ≤ length names.old }
-    ensures { Puts (child_name text.now table.now child) names at result }
-{
-    match places::step_at(table, child) {
-        Step::Element => put_bytes(&places::ELEMENT_NAME, names, at),
-        Step::Key => put_bytes(&places::KEY_NAME, names, at),
-        Step::Value => put_bytes(&places::VALUE_NAME, names, at),
-        Step::Field(name) => put_bytes(name.bytes(text), names, at),
-        Step::Position(i) => put_position(i, names, at),
-        Step::Variant(_, name) => put_bytes(name.bytes(text), names, at),
+impl Record {
+    // The eight bytes.
+    fn bytes(self) -> [u8; 8]
+        ensures { result ≡ record_bytes self }
+    {
+        [
+            self.kind,
+            u8::from(self.nullable),
+            self.strategy.code(),
+            self.number,
+            (self.name_length % 256) as u8,
+            (self.name_length / 256 % 256) as u8,
+            (self.children % 256) as u8,
+            (self.children / 256 % 256) as u8,
+        ]
     }
 }
 
-// Union slots never seen.
-pub fn put_gaps(fields: &mut [u8], at: usize, slot: u32, count: u32) -> usize
-    requires { at ≤ length fields.old }
-    ensures { PutsGaps slot count fields at result }
-{
-    let mut next = at;
-    for i in 0..count {
-        next = put_record(
+impl<'f, 'n> Output<'f, 'n> {
+    ghost use Rattle.putting.specs.Output.{written_by, Writes};
+
+    // Nothing is written yet.
+    pub fn new(fields: &'f mut [u8], names: &'n mut [u8]) -> Output<'f, 'n>
+        ensures nothing { written_by result ≡ writing 0 0 fields.old names.old }
+        ensures same_fields { result.fields.ghost_name ≡ fields.entry.ghost_name }
+        ensures same_names { result.names.ghost_name ≡ names.entry.ghost_name }
+    {
+        Output {
             fields,
-            next,
-            DataType::Null.code(),
-            true,
-            Strategy::UnknownVariant.code(),
-            (slot.wrapping_add(i) % 256) as u8,
-            0,
-            0,
-        );
+            names,
+            next_record: 0,
+            next_name: 0,
+        }
     }
-    next
-}
 
-// The entries of a map.
-pub fn put_entries(kind: u32, ends: Ends, fields: &mut [u8], names: &mut [u8]) -> Ends
-    requires { Within ends fields.old names.old }
-    ensures { Writes (entries_in kind) ends fields names result }
-{
-    if kind != shapes::MAP {
-        return ends;
+    // One field record.
+    pub fn put_record(&mut self, field: Record)
+        ensures { Writes (with_record (record_bytes field)) self.old self.new }
+    {
+        self.next_record = put_bytes(&field.bytes(), self.fields, self.next_record);
     }
-    let records = put_record(
-        fields,
-        ends.records,
-        DataType::Struct.code(),
-        false,
-        Strategy::None.code(),
-        0,
-        places::ENTRIES_NAME.len() as u32,
-        ENTRIES_FIELDS,
-    );
-    let names = put_bytes(&places::ENTRIES_NAME, names, ends.names);
-    Ends { records, names }
+
+    // A name.
+    fn put_text(&mut self, name: &[u8])
+        ensures { Writes (with_name name.now) self.old self.new }
+    {
+        self.next_name = put_bytes(name, self.names, self.next_name);
+    }
+
+    // A position in decimal, which is its name.
+    fn put_position(&mut self, i: u16)
+        ensures { Writes (with_name (decimal i)) self.old self.new }
+    {
+        if self.names.len() - self.next_name < text::decimal_length(i) {
+            return;
+        }
+        self.next_name = text::put_decimal(self.names, self.next_name, i);
+    }
+
+    // The name of a child.
+    pub fn put_name(&mut self, text: &[u8], table: &Table, child: Place)
+        requires settled { Settled text.now table.now }
+        ensures { Writes (with_name (child_name text.now table.now child)) self.old self.new }
+    {
+        match places::step_at(table, child) {
+            Step::Element => self.put_text(&places::ELEMENT_NAME),
+            Step::Key => self.put_text(&places::KEY_NAME),
+            Step::Value => self.put_text(&places::VALUE_NAME),
+            Step::Field(name) => self.put_text(name.bytes(text)),
+            Step::Position(i) => self.put_position(i),
+            Step::Variant(_, name) => self.put_text(name.bytes(text)),
+        }
+    }
+
+    // Union slots never seen.
+    pub fn put_gaps(&mut self, slot: u32, count: u32)
+        ensures { Writes (gaps_in slot count) self.old self.new }
+    {
+        for i in 0..count {
+            self.put_record(Record {
+                kind: DataType::Null.code(),
+                nullable: true,
+                strategy: Strategy::UnknownVariant,
+                number: (slot.wrapping_add(i) % 256) as u8,
+                name_length: 0,
+                children: 0,
+            });
+        }
+    }
+
+    // The entries of a map.
+    pub fn put_entries(&mut self, kind: u32)
+        ensures { Writes (entries_in kind) self.old self.new }
+    {
+        if kind != shapes::MAP {
+            return;
+        }
+        self.put_record(Record {
+            kind: DataType::Struct.code(),
+            nullable: false,
+            strategy: Strategy::None,
+            number: 0,
+            name_length: places::ENTRIES_NAME.len() as u32,
+            children: ENTRIES_FIELDS,
+        });
+        self.put_text(&places::ENTRIES_NAME);
+    }
 }

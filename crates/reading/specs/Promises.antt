@@ -1,12 +1,12 @@
 -- What each of the readers promises: its answer, and the table then, are what one of these readings gives.
 use Rattle.std.specs.Prelude.{List, ℕ, ◌-◌}
-use Rattle.logic.specs.Slices.{Slice, MutSlice, now_of, at_entry}
-use Rattle.options.specs.declared.TracingOptions.{TracingOptions}
+use Rattle.logic.specs.Slices.{MutSlice, at_entry}
 use Rattle.text.specs.declared.Name.{Name}
 use Rattle.shapes.specs.declared.Step.{Step}
 use Rattle.shapes.specs.declared.Contents.{Contents}
+use Rattle.leaves.specs.declared.Batch.{Batch}
 use Rattle.leaves.specs.declared.Site.{Site}
-use Rattle.leaves.specs.Leaves.{Outcome, TracedAs}
+use Rattle.leaves.specs.Leaves.{Outcome, TracedIn}
 use Rattle.reading.specs.Reading.{Reader, dots_in, part_read, parts_by, container_by, variant_by, readers, inner_of, value_at}
 
 -- a reading is a reader, given the commands, the texts, the options and the levels left
@@ -38,7 +38,7 @@ abbrev pub part : Step → ℕ → Reading
 part step here commands text options levels = part_read text (readers commands text options levels) step here
 
 -- what is promised of a function that reads from an offset on, at a site: that it traces as the reading says
-abbrev pub Reads : Slice → Slice → TracingOptions → ℕ → Site → MutSlice → Reading → Outcome → Type 0
-Reads commands text options at site table reading r =
-    TracedAs text table site.count r
-    (reading (now_of commands) (now_of text) options.word site.levels at site.place site.count (at_entry table))
+abbrev pub Reads : Batch → ℕ → Site → MutSlice → Reading → Outcome → Type 0
+Reads batch at site table reading r =
+    TracedIn batch.text.now table site.count r
+    (reading batch.commands.now batch.text.now batch.options.word site.levels at site.place site.count (at_entry table))

@@ -7,14 +7,12 @@ ghost use Rattle.std.specs.Prelude.{◌≡◌, true, ◌-◌};
 ghost use Rattle.model.specs.Kinds.{sequence_kind, map_kind, tuple_kind, is_struct};
 ghost use Rattle.shapes.specs.Steps.{Unnamed, Inside, Good};
 ghost use Rattle.shapes.specs.Shapes.{is_parted};
-ghost use Rattle.shapes.specs.Leaf.{Told};
 ghost use Rattle.places.specs.Layout.{Ready};
 ghost use Rattle.reading.specs.Reading.{dots_in, value_at, parted};
 ghost use Rattle.reading.specs.Promises.{named, container, variant, inside, parts, part, Reads};
 
 use commands::{Due, byte};
-use leaves::{Site, Traced};
-use options::TracingOptions;
+use leaves::{Batch, Site, Traced};
 use refusal::{Refusal, Refused};
 use shapes::{Contents, Part, Shape, Step};
 use text::Name;
@@ -32,22 +30,28 @@ fn lower(levels: usize, name: Name, text: &[u8]) -> usize
 // One value at a place, with so many levels left for containers.
 #[cycle(readers)]
 pub fn read_value(
-    commands: &[u8],
-    text: &[u8],
-    options: TracingOptions,
+    batch: &Batch<'_>,
     at: usize,
     site: Site,
     table: &mut Table,
 ) -> Result<Traced, Refused>
-    requires { Ready text.now table.old site.count site.place × Told options text.now }
-    ensures { Reads commands text options at site table value_at result }
+    requires { Ready batch.now.text.now table.old site.count site.place }
+    ensures { Reads batch.entry.now at site table value_at result }
 {
-    let here = leaves::past_marks(commands, at, site.place, table);
-    match shapes::leaf_at(commands, text, options, here) {
+    let here = leaves::past_marks(batch.commands, at, site.place, table);
+    match shapes::leaf_at(batch.commands, batch.text, batch.options, here) {
         Some(leaf) => {
-            leaves::observe(options, leaf.null, leaf.kind, here, leaf.next, site, table)
+            leaves::observe(
+                batch.options,
+                leaf.null,
+                leaf.kind,
+                here,
+                leaf.next,
+                site,
+                table,
+            )
         }
-        None => read_parted(commands, text, options, here, site, table),
+        None => read_parted(batch, here, site, table),
     }
 }
 
@@ -55,27 +59,33 @@ pub fn read_value(
 // them, and stands apart because there it is read in the loop over the fields, with no call for a primitive.
 #[cycle(readers)]
 fn read_named(
-    commands: &[u8],
-    text: &[u8],
-    options: TracingOptions,
+    batch: &Batch<'_>,
     name: Name,
     at: usize,
     site: Site,
     table: &mut Table,
 ) -> Result<Traced, Refused>
-    requires ready { Ready text.now table.old site.count site.place × Told options text.now }
-    requires inside { Inside text.now name }
-    ensures { Reads commands text options at site table (named name) result }
+    requires ready { Ready batch.now.text.now table.old site.count site.place }
+    requires inside { Inside batch.now.text.now name }
+    ensures { Reads batch.entry.now at site table (named name) result }
 {
-    let here = leaves::past_marks(commands, at, site.place, table);
-    match shapes::leaf_at(commands, text, options, here) {
+    let here = leaves::past_marks(batch.commands, at, site.place, table);
+    match shapes::leaf_at(batch.commands, batch.text, batch.options, here) {
         Some(leaf) => {
-            leaves::observe(options, leaf.null, leaf.kind, here, leaf.next, site, table)
+            leaves::observe(
+                batch.options,
+                leaf.null,
+                leaf.kind,
+                here,
+                leaf.next,
+                site,
+                table,
+            )
         }
         None => {
-            let levels = lower(site.levels, name, text);
+            let levels = lower(site.levels, name, batch.text);
             let below = Site { levels, ..site };
-            read_parted(commands, text, options, here, below, table)
+            read_parted(batch, here, below, table)
         }
     }
 }
@@ -84,45 +94,49 @@ fn read_named(
 // primitive, but the contract does not ask it.
 #[cycle(readers)]
 fn read_parted(
-    commands: &[u8],
-    text: &[u8],
-    options: TracingOptions,
+    batch: &Batch<'_>,
     here: usize,
     site: Site,
     table: &mut Table,
 ) -> Result<Traced, Refused>
-    requires { Ready text.now table.old site.count site.place × Told options text.now }
-    ensures { Reads commands text options here site table parted result }
+    requires { Ready batch.now.text.now table.old site.count site.place }
+    ensures { Reads batch.entry.now here site table parted result }
 {
-    if shapes::begins_at(commands, byte::STRUCT, here) {
+    if shapes::begins_at(batch.commands, byte::STRUCT, here) {
         let kind = shapes::STRUCT;
         let at = here + 1;
-        return read_container(commands, text, options, kind, 0, here, at, site, table);
+        return read_container(batch, kind, 0, here, at, site, table);
     }
-    if shapes::begins_at(commands, byte::SEQUENCE, here) {
+    if shapes::begins_at(batch.commands, byte::SEQUENCE, here) {
         let kind = shapes::SEQUENCE;
         let at = here + 1;
-        return read_container(commands, text, options, kind, 0, here, at, site, table);
+        return read_container(batch, kind, 0, here, at, site, table);
     }
-    let (command, next) = commands::read_command(commands, text, here, Due::Value)?;
-    match shapes::shape_of(command, text, options) {
-        Shape::Leaf(null, kind) => leaves::observe(options, null, kind, here, next, site, table),
-        Shape::Parts(kind, n) => {
-            read_container(commands, text, options, kind, n, here, next, site, table)
-        }
+    let (command, next) = commands::read_command(batch.commands, batch.text, here, Due::Value)?;
+    match shapes::shape_of(command, batch.text, batch.options) {
+        Shape::Leaf(null, kind) => leaves::observe(
+            batch.options,
+            null,
+            kind,
+            here,
+            next,
+            site,
+            table,
+        ),
+        Shape::Parts(kind, n) => { read_container(batch, kind, n, here, next, site, table) }
         Shape::Variant(number, name, contents) => read_variant(
-            commands, text, options, number, name, contents, here, next, site, table,
+            batch, number, name, contents, here, next, site, table,
         ),
         Shape::NoValue => Err(Refusal::BadCommand.at(here)),
     }
 }
 
-// A container whose command stands at `here` and whose parts start at `at`.
+// A container whose command stands at `here` and whose parts start at `at`. Inlined, it is opened where its kind is known: else deep
+// ones take 7 % more instructions.
 #[cycle(readers)]
+#[inline(always)]
 fn read_container(
-    commands: &[u8],
-    text: &[u8],
-    options: TracingOptions,
+    batch: &Batch<'_>,
     kind: u32,
     positions: u16,
     here: usize,
@@ -130,13 +144,13 @@ fn read_container(
     site: Site,
     table: &mut Table,
 ) -> Result<Traced, Refused>
-    requires ready { Ready text.now table.old site.count site.place × Told options text.now }
+    requires ready { Ready batch.now.text.now table.old site.count site.place }
     requires kind_value { is_parted kind ≡ true }
-    ensures { Reads commands text options at site table (container kind positions here) result }
+    ensures { Reads batch.entry.now at site table (container kind positions here) result }
 {
     let made = opening::open_container(
-        text,
-        options,
+        batch.text,
+        batch.options,
         kind,
         positions,
         site.levels,
@@ -151,114 +165,121 @@ fn read_container(
         count,
         levels,
     };
-    read_parts(commands, text, options, kind, positions, at, below, table)
+    read_parts(batch, kind, positions, at, below, table)
 }
 
-// The parts of a container by its kind. The levels are those left below it.
+// The parts of a container by its kind. The levels are those left below it. The loops stand apart: with those inlined where a
+// container is opened, maps as structs take 4 % more instructions.
 #[cycle(readers)]
+#[inline(never)]
 fn read_parts(
-    commands: &[u8],
-    text: &[u8],
-    options: TracingOptions,
+    batch: &Batch<'_>,
     kind: u32,
     positions: u16,
     start: usize,
     site: Site,
     table: &mut Table,
 ) -> Result<Traced, Refused>
-    requires ready { Ready text.now table.old site.count site.place × Told options text.now }
+    requires ready { Ready batch.now.text.now table.old site.count site.place }
     requires kind_value { is_parted kind ≡ true }
-    ensures { Reads commands text options start site table (parts kind positions) result }
+    ensures { Reads batch.entry.now start site table (parts kind positions) result }
 {
     if kinds::is_struct(kind) {
-        return read_fields(commands, text, options, kind, start, site, table);
+        return read_fields(batch, kind, start, site, table);
     }
     if kind == shapes::SEQUENCE {
-        return read_elements(commands, text, options, start, site, table);
+        return read_elements(batch, start, site, table);
     }
     if kind == shapes::MAP {
-        return read_entries(commands, text, options, start, site, table);
+        return read_entries(batch, start, site, table);
     }
-    read_positions(commands, text, options, positions, start, site, table)
+    read_positions(batch, positions, start, site, table)
 }
 
 // The fields of a struct, or of a map in map mode, up to the end. The site grows by the places that they add, here and in
-// the loops below.
+// the loops below. What the loop reads of the batch is taken out before: else wide structs take 4 % more instructions.
 #[cycle(readers)]
 fn read_fields(
-    commands: &[u8],
-    text: &[u8],
-    options: TracingOptions,
+    batch: &Batch<'_>,
     kind: u32,
     start: usize,
     site: Site,
     table: &mut Table,
 ) -> Result<Traced, Refused>
-    requires ready { Ready text.now table.old site.count site.place × Told options text.now }
+    requires ready { Ready batch.now.text.now table.old site.count site.place }
     requires kind_value { is_struct kind ≡ true }
-    ensures { Reads commands text options start site table (parts kind 0) result }
+    ensures { Reads batch.entry.now start site table (parts kind 0) result }
 {
-    let mut at = start;
-    let mut grown = site;
-    while let Some(field) = opening::open_field(
+    let Batch {
         commands,
         text,
-        kind,
-        at,
-        grown.place,
-        grown.count,
-        table,
+        options,
+    } = *batch;
+    let mut at = start;
+    let place = site.place;
+    let levels = site.levels;
+    let mut count = site.count;
+    while let Some(field) = opening::open_field(
+        commands, text, kind, at, place, count, table,
     ).map_err(|refusal| refusal.at(at))?
     {
-        let quick = leaves::past_quick(commands, text, options, at + 5, field.child, table);
-        if quick != 0 {
-            at = quick;
-            grown.count = field.count;
+        if let Some(next) = leaves::past_quick(
+            commands,
+            text,
+            options,
+            at + 5,
+            field.child,
+            table,
+        ) {
+            at = next;
+            count = field.count;
         } else {
             let name = commands::read_name(commands, at + 1);
             let below = Site {
                 place: field.child,
                 count: field.count,
-                levels: grown.levels,
+                levels,
             };
-            let traced = read_named(commands, text, options, name, at + 5, below, table)?;
+            let traced = read_named(batch, name, at + 5, below, table)?;
             at = traced.next;
-            grown.count = traced.count;
+            count = traced.count;
         }
     }
     Ok(Traced {
         next: at + 1,
-        count: grown.count,
+        count,
     })
 }
 
 // The elements of a sequence, up to the end.
 #[cycle(readers)]
 fn read_elements(
-    commands: &[u8],
-    text: &[u8],
-    options: TracingOptions,
+    batch: &Batch<'_>,
     start: usize,
     site: Site,
     table: &mut Table,
 ) -> Result<Traced, Refused>
-    requires { Ready text.now table.old site.count site.place × Told options text.now }
-    ensures { Reads commands text options start site table (parts sequence_kind 0) result }
+    requires { Ready batch.now.text.now table.old site.count site.place }
+    ensures { Reads batch.entry.now start site table (parts sequence_kind 0) result }
 {
     let mut at = start;
-    let mut grown = site;
+    let place = site.place;
+    let levels = site.levels;
+    let mut count = site.count;
     loop {
-        match shapes::element_part(commands, text, at)? {
+        match shapes::element_part(batch.commands, batch.text, at)? {
             Part::Ended(next) => {
-                return Ok(Traced {
-                    next,
-                    count: grown.count,
-                });
+                return Ok(Traced { next, count });
             }
             Part::Step(step, value) => {
-                let traced = read_part(commands, text, options, step, at, value, grown, table)?;
-                at = runs::past_same(commands, traced.next, grown.place, table);
-                grown.count = traced.count;
+                let grown = Site {
+                    place,
+                    count,
+                    levels,
+                };
+                let traced = read_part(batch, step, at, value, grown, table)?;
+                at = runs::past_same(batch.commands, traced.next, place, table);
+                count = traced.count;
             }
         }
     }
@@ -267,31 +288,33 @@ fn read_elements(
 // The keys and values of a map, by turns, up to the end. A `for` would end by a count, too, which the end comes before.
 #[cycle(readers)]
 fn read_entries(
-    commands: &[u8],
-    text: &[u8],
-    options: TracingOptions,
+    batch: &Batch<'_>,
     start: usize,
     site: Site,
     table: &mut Table,
 ) -> Result<Traced, Refused>
-    requires { Ready text.now table.old site.count site.place × Told options text.now }
-    ensures { Reads commands text options start site table (parts map_kind 0) result }
+    requires { Ready batch.now.text.now table.old site.count site.place }
+    ensures { Reads batch.entry.now start site table (parts map_kind 0) result }
 {
     let mut i: usize = 0;
     let mut at = start;
-    let mut grown = site;
+    let place = site.place;
+    let levels = site.levels;
+    let mut count = site.count;
     loop {
-        match shapes::entry_part(commands, text, i, at)? {
+        match shapes::entry_part(batch.commands, batch.text, i, at)? {
             Part::Ended(next) => {
-                return Ok(Traced {
-                    next,
-                    count: grown.count,
-                });
+                return Ok(Traced { next, count });
             }
             Part::Step(step, value) => {
-                let traced = read_part(commands, text, options, step, at, value, grown, table)?;
+                let grown = Site {
+                    place,
+                    count,
+                    levels,
+                };
+                let traced = read_part(batch, step, at, value, grown, table)?;
                 at = traced.next;
-                grown.count = traced.count;
+                count = traced.count;
             }
         }
         i += 1;
@@ -301,72 +324,73 @@ fn read_entries(
 // The values of a tuple, so many.
 #[cycle(readers)]
 fn read_positions(
-    commands: &[u8],
-    text: &[u8],
-    options: TracingOptions,
+    batch: &Batch<'_>,
     positions: u16,
     start: usize,
     site: Site,
     table: &mut Table,
 ) -> Result<Traced, Refused>
-    requires { Ready text.now table.old site.count site.place × Told options text.now }
-    ensures { Reads commands text options start site table (parts tuple_kind positions) result }
+    requires { Ready batch.now.text.now table.old site.count site.place }
+    ensures { Reads batch.entry.now start site table (parts tuple_kind positions) result }
 {
     let mut at = start;
-    let mut grown = site;
+    let place = site.place;
+    let levels = site.levels;
+    let mut count = site.count;
     for i in 0..positions {
-        match shapes::value_part(commands, text, Step::Position(i), Due::Value, at)? {
+        match shapes::value_part(
+            batch.commands,
+            batch.text,
+            Step::Position(i),
+            Due::Value,
+            at,
+        )? {
             Part::Ended(next) => {
-                return Ok(Traced {
-                    next,
-                    count: grown.count,
-                });
+                return Ok(Traced { next, count });
             }
             Part::Step(step, value) => {
-                let traced = read_part(commands, text, options, step, at, value, grown, table)?;
+                let grown = Site {
+                    place,
+                    count,
+                    levels,
+                };
+                let traced = read_part(batch, step, at, value, grown, table)?;
                 at = traced.next;
-                grown.count = traced.count;
+                count = traced.count;
             }
         }
     }
-    Ok(Traced {
-        next: at,
-        count: grown.count,
-    })
+    Ok(Traced { next: at, count })
 }
 
 // The value of a part that is no field, at the child that its step leads to.
 #[cycle(readers)]
 fn read_part(
-    commands: &[u8],
-    text: &[u8],
-    options: TracingOptions,
+    batch: &Batch<'_>,
     step: Step,
     here: usize,
     at: usize,
     site: Site,
     table: &mut Table,
 ) -> Result<Traced, Refused>
-    requires ready { Ready text.now table.old site.count site.place × Told options text.now }
+    requires ready { Ready batch.now.text.now table.old site.count site.place }
     requires unnamed { Unnamed step }
-    ensures { Reads commands text options at site table (part step here) result }
+    ensures { Reads batch.entry.now at site table (part step here) result }
 {
-    let held = opening::hold(text, site.place, step, site.count, table);
+    let held = opening::hold(batch.text, site.place, step, site.count, table);
     let part = held.map_err(|refusal| refusal.at(here))?;
     let below = Site {
         place: part.child,
         count: part.count,
         levels: site.levels,
     };
-    read_value(commands, text, options, at, below, table)
+    read_value(batch, at, below, table)
 }
 
 // A variant, whose command stands at `here` and whose contents start at `at`.
 #[cycle(readers)]
 fn read_variant(
-    commands: &[u8],
-    text: &[u8],
-    options: TracingOptions,
+    batch: &Batch<'_>,
     number: u16,
     name: Name,
     contents: Contents,
@@ -375,13 +399,13 @@ fn read_variant(
     site: Site,
     table: &mut Table,
 ) -> Result<Traced, Refused>
-    requires ready { Ready text.now table.old site.count site.place × Told options text.now }
-    requires good { Good text.now name }
-    ensures { Reads commands text options at site table (variant number name contents here) result }
+    requires ready { Ready batch.now.text.now table.old site.count site.place }
+    requires good { Good batch.now.text.now name }
+    ensures { Reads batch.entry.now at site table (variant number name contents here) result }
 {
     let held = opening::open_variant(
-        text,
-        options,
+        batch.text,
+        batch.options,
         number,
         name,
         site.levels,
@@ -390,40 +414,46 @@ fn read_variant(
         table,
     );
     let variant = held.map_err(|refusal| refusal.at(here))?;
-    let levels = lower(site.levels - 1, name, text);
+    let levels = lower(site.levels - 1, name, batch.text);
     let below = Site {
         place: variant.child,
         count: variant.count,
         levels,
     };
-    read_contents(commands, text, options, contents, here, at, below, table)
+    read_contents(batch, contents, here, at, below, table)
 }
 
 // A variant's contents are as for the plain form, their command being the variant's.
 #[cycle(readers)]
 fn read_contents(
-    commands: &[u8],
-    text: &[u8],
-    options: TracingOptions,
+    batch: &Batch<'_>,
     contents: Contents,
     here: usize,
     at: usize,
     site: Site,
     table: &mut Table,
 ) -> Result<Traced, Refused>
-    requires { Ready text.now table.old site.count site.place × Told options text.now }
-    ensures { Reads commands text options at site table (inside contents here) result }
+    requires { Ready batch.now.text.now table.old site.count site.place }
+    ensures { Reads batch.entry.now at site table (inside contents here) result }
 {
     match contents {
-        Contents::Unit => leaves::observe(options, true, shapes::UNKNOWN, here, at, site, table),
-        Contents::Value => read_value(commands, text, options, at, site, table),
+        Contents::Unit => leaves::observe(
+            batch.options,
+            true,
+            shapes::UNKNOWN,
+            here,
+            at,
+            site,
+            table,
+        ),
+        Contents::Value => read_value(batch, at, site, table),
         Contents::Positions(n) => {
             let kind = shapes::TUPLE;
-            read_container(commands, text, options, kind, n, here, at, site, table)
+            read_container(batch, kind, n, here, at, site, table)
         }
         Contents::Fields => {
             let kind = shapes::STRUCT;
-            read_container(commands, text, options, kind, 0, here, at, site, table)
+            read_container(batch, kind, 0, here, at, site, table)
         }
     }
 }

@@ -7,18 +7,17 @@ ghost use Rattle.words.specs.Word.{word, IsRow};
 ghost use Rattle.places.specs.Layout.{first_word};
 ghost use Rattle.runs.specs.Runs.{block_length, is_held, are_all, behind_run, past_held, past_same};
 
-use words::Table;
+use words::{Half, Place, Table, Whole};
 
 // Whether the child is an element that the place's present sample holds.
 #[tactic(auto, unfolding(crate::specs::Runs::is_held))]
-fn is_held(place: usize, child: usize, table: &Table) -> bool
-    requires { IsRow place × IsRow child }
+fn is_held(place: Place, child: Place, table: &Table) -> bool
     ensures { result ≡ is_held place child table.now }
 {
-    child != 0
-        && words::get(table, child, places::STEP) == 0
-        && words::get(table, child, places::NAME) == 0
-        && words::get(table, child, places::MARK) == words::get(table, place, places::SAMPLES)
+    !child.is_root()
+        && words::get(table, child, Whole::Step) == 0
+        && words::get(table, child, Whole::Name) == 0
+        && words::get(table, child, Whole::Mark) == words::get(table, place, Whole::Samples)
 }
 
 // So many commands of a run are looked at together.
@@ -73,13 +72,13 @@ fn past_held(commands: &[u8], kind: u32, at: usize) -> usize
 }
 
 // The offset behind elements that change nothing: the present sample holds one already, of their type.
-pub fn past_same(commands: &[u8], at: usize, place: usize, table: &Table) -> usize
-    requires { IsRow place × IsRow (word table.now place first_word) }
+pub fn past_same(commands: &[u8], at: usize, place: Place, table: &Table) -> usize
+    requires { IsRow (word table.now place first_word) }
     ensures { result ≡ past_same commands.now at place table.now }
 {
-    let child = words::link(table, place, places::FIRST);
+    let child = Place::new(words::link(table, place, Half::First));
     if !is_held(place, child, table) {
         return at;
     }
-    past_held(commands, words::get(table, child, places::KIND), at)
+    past_held(commands, words::get(table, child, Whole::Kind), at)
 }

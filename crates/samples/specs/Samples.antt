@@ -12,7 +12,8 @@ level_limit = 20
 
 unfoldable pub record_turn : List ℕ → List ℕ → ℕ → State → Turn State Out
 record_turn commands text options (state i at n t) =
-    when ltb at (length commands) then after_part i (value_at commands text options level_limit at root_place n t) else done (out (traced_to at n) t)
+    when ltb at (length commands) then after_part i (value_at commands text options level_limit at root_place n t)
+    else done (out (traced_to at n) t)
 
 abbrev pub record_stop : State → Out
 record_stop (state i at n t) = out (traced_to at n) t

@@ -3,38 +3,33 @@
 #![tactic(auto)]
 
 ghost use Rattle.std.specs.Prelude.{◌≡◌};
-ghost use Rattle.shapes.specs.Leaf.{Told};
 ghost use Rattle.places.specs.Layout.{Sound};
-ghost use Rattle.leaves.specs.Leaves.{TracedAs};
+ghost use Rattle.leaves.specs.Leaves.{TracedAs, TracedIn};
 ghost use Rattle.samples.specs.Samples.{from_samples};
 
-use leaves::{Site, Traced};
+use leaves::{Batch, Site, Traced};
 use options::TracingOptions;
 use refusal::Refused;
-use words::Table;
+use words::{Place, Table};
 
 // Containers stand at most so deep.
 const LEVELS: usize = 20;
 
 // All records of a batch at the root, which is the one place that there is at first.
-fn read_records(
-    commands: &[u8],
-    text: &[u8],
-    options: TracingOptions,
-    table: &mut Table,
-) -> Result<Traced, Refused>
-    requires { Sound text.now table.old 1 × Told options text.now }
-    ensures { TracedAs text table 1 result
-        (from_samples commands.now text.now options.word table.old) }
+fn read_records(batch: &Batch<'_>, table: &mut Table) -> Result<Traced, Refused>
+    requires { Sound batch.now.text.now table.old 1 }
+    ensures { TracedIn batch.entry.now.text.now table 1 result
+        (from_samples batch.entry.now.commands.now batch.entry.now.text.now batch.entry.now.options.word table.old) }
 {
+    let end = batch.commands.len();
     let mut read = Traced { next: 0, count: 1 };
-    while read.next < commands.len() {
+    while read.next < end {
         let root = Site {
-            place: places::ROOT_PLACE,
+            place: Place::ROOT,
             count: read.count,
             levels: LEVELS,
         };
-        read = reading::read_value(commands, text, options, read.next, root, table)?;
+        read = reading::read_value(batch, read.next, root, table)?;
     }
     Ok(read)
 }
@@ -50,5 +45,10 @@ pub fn from_samples(
     ensures { TracedAs text table 1 result
         (from_samples commands.now text.now options.word table.old) }
 {
-    read_records(commands, text, options.over(text::is_ascii(text)), table)
+    let batch = Batch {
+        commands,
+        text,
+        options: options.over(text::is_ascii(text)),
+    };
+    read_records(&batch, table)
 }

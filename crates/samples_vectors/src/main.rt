@@ -3,64 +3,57 @@
 
 #![tactic(auto)]
 
-ghost use Rattle.std.specs.Prelude.{◌≡◌, true, false, ◌<◌, ◌≤◌, length};
+ghost use Rattle.std.specs.Prelude.{◌≡◌, ◌≤◌, length};
 ghost use Rattle.std.specs.Iterator.{at_most};
-ghost use Rattle.words.specs.Word.{place_words, IsRow, is_link};
 ghost use Rattle.model.specs.Tracing.{place_limit};
 ghost use Rattle.samples_vectors.specs.Made.{made_in};
 
 use options::TracingOptions;
 use std::fmt;
 use std::fmt::Display;
-use words::Table;
+use words::{Half, Place, Table, Whole};
 
 // Bytes of the file that are read at most.
 const MOST: usize = 65536;
 
-// A place of a table.
+// A place of a table, with its words.
 #[derive(Drop)]
-struct Place<'a> {
+struct Row<'a> {
     table: &'a Table,
-    number: usize,
-    ghost is_row: { IsRow number },
+    place: Place,
 }
 
-impl Place<'_> {
+impl Row<'_> {
     // A whole word.
-    fn word(&self, field: usize) -> u32
-        requires within { field < place_words }
-        requires whole { is_link field ≡ false }
-    {
-        words::get(self.table, self.number, field)
+    fn word(&self, field: Whole) -> u32 {
+        words::get(self.table, self.place, field)
     }
 
-    fn link(&self, field: usize) -> usize
-        requires { is_link field ≡ true }
-    {
-        words::link(self.table, self.number, field)
+    fn link(&self, field: Half) -> usize {
+        words::link(self.table, self.place, field)
     }
 }
 
-impl Display for Place<'_> {
+impl Display for Row<'_> {
     // What is known of it, and its children; then what it is as a child, with the name as the part of the text that it is.
     fn fmt<W: fmt::Write>(&self, f: &mut fmt::Formatter<W>) -> fmt::Result {
         let (kind, null, samples) = (
-            self.word(places::KIND),
-            self.word(places::NULL),
-            self.word(places::SAMPLES),
+            self.word(Whole::Kind),
+            self.word(Whole::Null),
+            self.word(Whole::Samples),
         );
-        let (first, last) = (self.link(places::FIRST), self.link(places::LAST));
-        let (root, block) = (self.link(places::ROOT), self.link(places::BLOCK));
+        let (first, last) = (self.link(Half::First), self.link(Half::Last));
+        let (root, block) = (self.link(Half::Root), self.link(Half::Block));
         write!(f, "{kind} {null} {samples} {first}/{last} {root}/{block} ")?;
-        let (left, right) = (self.link(places::LEFT), self.link(places::RIGHT));
-        let (next, parent) = (self.link(places::NEXT), self.link(places::PARENT));
+        let (left, right) = (self.link(Half::Left), self.link(Half::Right));
+        let (next, parent) = (self.link(Half::Next), self.link(Half::Parent));
         let (step, held, mark) = (
-            self.word(places::STEP),
-            self.word(places::HELD),
-            self.word(places::MARK),
+            self.word(Whole::Step),
+            self.word(Whole::Held),
+            self.word(Whole::Mark),
         );
-        let (tag, position) = (self.word(places::TAG), self.word(places::POSITION));
-        let name = places::given_name(self.table, self.number);
+        let (tag, position) = (self.word(Whole::Tag), self.word(Whole::Position));
+        let name = places::given_name(self.table, self.place);
         write!(
             f,
             "{left}/{right} {next}/{parent} {step} {}+{} {held} {mark} {tag} {position}",
@@ -74,8 +67,11 @@ fn print_places(rt: &impl Print, table: &Table, count: usize)
 {
     let _ = println!(rt; "places {count}");
     for number in 0..count {
-        let place = Place { table, number };
-        let _ = println!(rt; "{place}");
+        let row = Row {
+            table,
+            place: Place::new(number),
+        };
+        let _ = println!(rt; "{row}");
     }
 }
 
@@ -85,8 +81,8 @@ fn made(table: &Table) -> usize
     ensures { (result ≡ made_in table.now) × (result ≤ place_limit) }
 {
     let mut newest = 0;
-    for place in 0..places::PLACES {
-        newest = newest.max(places::link(table, place, places::LAST));
+    for number in 0..places::PLACES {
+        newest = newest.max(places::link(table, Place::new(number), Half::Last).number());
     }
     newest + 1
 }

@@ -13,7 +13,7 @@ use Rattle.model.specs.Kinds.{is_container}
 use Rattle.places.specs.Layout.{kind_word, null_word}
 use Rattle.places.specs.Reading.{variant_at, next_child}
 use Rattle.walk.specs.Walk.{gaps_at, slot_behind}
-use Rattle.putting.specs.Put.{put, put_gaps, Writing, writing, gaps_in}
+use Rattle.putting.specs.Put.{Writing, gaps_in}
 use Rattle.fields.specs.Fields.{is_dictionary, is_leaf, lacking_at}
 use Rattle.schema.specs.Emit.{Writer, field_at, child_in, fields_from, fields_below, emitted_by, emitted_at}
 
@@ -35,11 +35,11 @@ module _ (t : List ℕ) (inner : Writer) (kind place most i slot child : ℕ) (w
       rw (a, f, g) (rw (l, fields_from, ne_eqb child 0 n) at e)
 
 -- ---- a child, after the slots before it
-pub in_child : (t : List ℕ) (inner : Writer) (kind place slot child i j after count number : ℕ) (lacking : Bool) (fields names records : List ℕ) (w : Writing) →
-    count ≡ gaps_at kind t slot child → put after records ≡ put_gaps slot 0 count (put i fields) → number ≡ variant_at t child → lacking ≡ lacking_at t kind place child →
-    w ≡ inner child lacking (number % 256) (writing after j records names) → w ≡ child_in t inner kind place slot child (writing i j fields names)
-unfolding child_in gaps_in
-in_child t inner kind place slot child i j after count number lacking fields names records w c p n l e = rw (← c, ← n, ← l, ← p) e
+pub in_child : (t : List ℕ) (inner : Writer) (kind place slot child count number : ℕ) (lacking : Bool) (before behind w : Writing) →
+    count ≡ gaps_at kind t slot child → behind ≡ gaps_in slot count before → number ≡ variant_at t child → lacking ≡ lacking_at t kind place child →
+    w ≡ inner child lacking (number % 256) behind → w ≡ child_in t inner kind place slot child before
+unfolding child_in
+in_child t inner kind place slot child count number lacking before behind w c p n l e = rw (← c, ← n, ← l, ← p) e
 
 some : (m : ℕ) → eqb (suc m) 0 ≡ false
 some m = ne_eqb (suc m) 0 (λ z. omega arith)

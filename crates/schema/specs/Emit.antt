@@ -13,6 +13,7 @@ use Rattle.places.specs.Layout.{kind_word, null_word, root_place}
 use Rattle.places.specs.Reading.{variant_at, child_name, child_limit, next_child}
 use Rattle.order.specs.Sort.{sorted_places}
 use Rattle.walk.specs.declared.Counts.{Counts}
+use Rattle.walk.specs.declared.Source.{Source}
 use Rattle.walk.specs.Walk.{counts, Walked, sum_of, gaps_at, walked}
 use Rattle.putting.specs.Put.{record_of, Writing, writing, both, gaps_in, entries_in}
 use Rattle.fields.specs.Fields.{field_count, lacking_at, is_dictionary, is_leaf}
@@ -22,7 +23,8 @@ unfoldable pub field_at : ℕ → List ℕ → List ℕ → ℕ → Bool → ℕ
 field_at options text t place nullable number w =
     let kind = word t place kind_word in
     let name = child_name text t place in
-    let own : ℕ → ℕ → ℕ → Writing = λ type strategy children. both (record_of type nullable strategy number (length name) children) name w in
+    let own : ℕ → ℕ → ℕ → Writing = λ type strategy children.
+    both (record_of type nullable strategy number (length name) children) name w in
     when is_dictionary options t place then own (dictionary_type options) no_strategy 0
     else own (type_of options kind % 256) (strategy_of kind) (field_count t kind place)
 
@@ -65,6 +67,10 @@ emitted_below options text t levels = fields_below t (emitted_at options text t 
 abbrev pub child_at : ℕ → List ℕ → List ℕ → ℕ → ℕ → ℕ → ℕ → ℕ → Writing → Writing
 child_at options text t levels = child_in t (emitted_at options text t levels)
 
+-- any of these of what emission reads
+abbrev pub over : {A : Type 0} → (ℕ → List ℕ → List ℕ → A) → Source → A
+over f source = f source.options.word source.text.now source.table.now
+
 -- ---- the schema of what was traced
 -- more levels than the tree is deep: a place's number is above its parent's
 abbrev pub level_limit : ℕ
@@ -99,10 +105,10 @@ to_schema_at options text t fields names =
     on_walked (finished options text t fields names) fields names (walked options text t level_limit root_place)
 
 -- ---- what `finish` and `to_schema` answer for
-abbrev pub Finishes : ℕ → (text table : Slice) (fields names : MutSlice) → (records bytes below : ℕ) → Emitted → Type 0
-Finishes options text table fields names records bytes below r =
+abbrev pub Finishes : Source → (fields names : MutSlice) → Counts → Emitted → Type 0
+Finishes source fields names counts r =
     answered r (at_exit fields) (at_exit names)
-    ≡ finished options (now_of text) (now_of table) (at_entry fields) (at_entry names) records bytes below
+    ≡ over finished source (at_entry fields) (at_entry names) counts.records counts.names counts.columns
 
 -- the children of the first so many places are put in order first
 abbrev pub Emits : (options count : ℕ) → (text : Slice) (table fields names : MutSlice) → Emitted → Type 0

@@ -4,18 +4,17 @@
 #![tactic(auto)]
 
 ghost use Rattle.std.specs.Prelude.{◌≡◌, ◌≤◌};
-ghost use Rattle.words.specs.Word.{IsRow};
 ghost use Rattle.model.specs.Tracing.{place_limit};
 ghost use Rattle.places.specs.Layout.{Settled};
-ghost use Rattle.putting.specs.Put.{Within, Writes};
-ghost use Rattle.schema.specs.Emit.{field_at, emitted_at, emitted_below, child_at, Finishes, Emits};
+ghost use Rattle.putting.specs.Output.{Writes};
+ghost use Rattle.schema.specs.Emit.{over, field_at, emitted_at, emitted_below, child_at, Finishes, Emits};
 
 use datatype::Strategy;
 use options::TracingOptions;
-use putting::Ends;
+use putting::{Output, Record};
 use refusal::Refusal;
-use walk::Counts;
-use words::Table;
+use walk::{Counts, Source};
+use words::{Place, Table, Whole};
 
 // The bytes of a field record.
 const RECORD: usize = 8;
@@ -24,191 +23,95 @@ const RECORD: usize = 8;
 const LEVELS: usize = places::PLACES;
 
 // The record and the name of a place, with nothing below it.
-fn put_field(
-    options: TracingOptions,
-    text: &[u8],
-    place: usize,
-    nullable: bool,
-    number: u8,
-    ends: Ends,
-    table: &Table,
-    fields: &mut [u8],
-    names: &mut [u8],
-) -> Ends
-    requires settled { Settled text.now table.now }
-    requires row { IsRow place }
-    requires within { Within ends fields.old names.old }
-    ensures { Writes (field_at options.word text.now table.now place nullable number) ends fields names result }
+fn put_field(source: &Source, place: Place, nullable: bool, number: u8, out: &mut Output)
+    ensures { Writes (over field_at source.now place nullable number) out.old out.new }
 {
-    let kind = words::get(table, place, places::KIND);
-    let length = places::name_length(text, table, place);
-    let named = putting::put_name(text, table, place, names, ends.names);
-    if fields::is_dictionary(options, table, place) {
-        let next = putting::put_record(
-            fields,
-            ends.records,
-            options.dictionary_type().code(),
+    let kind = words::get(source.table, place, Whole::Kind);
+    let name_length = places::name_length(source.text, source.table, place);
+    out.put_name(source.text, source.table, place);
+    if fields::is_dictionary(source.options, source.table, place) {
+        out.put_record(Record {
+            kind: source.options.dictionary_type().code(),
             nullable,
-            Strategy::None.code(),
+            strategy: Strategy::None,
             number,
-            length,
-            0,
-        );
-        return Ends {
-            records: next,
-            names: named,
-        };
+            name_length,
+            children: 0,
+        });
+        return;
     }
-    let count = fields::field_count(table, kind, place);
-    let next = putting::put_record(
-        fields,
-        ends.records,
-        fields::type_of(options, kind),
+    out.put_record(Record {
+        kind: fields::type_of(source.options, kind),
         nullable,
-        fields::strategy_of(kind).code(),
+        strategy: fields::strategy_of(kind),
         number,
-        length,
-        count,
-    );
-    Ends {
-        records: next,
-        names: named,
-    }
+        name_length,
+        children: fields::field_count(source.table, kind, place),
+    });
 }
 
 // The field of a place, and all below it.
 #[cycle(emitting)]
-fn emit(
-    options: TracingOptions,
-    text: &[u8],
-    levels: usize,
-    place: usize,
-    lacking: bool,
-    number: u8,
-    ends: Ends,
-    table: &Table,
-    fields: &mut [u8],
-    names: &mut [u8],
-) -> Ends
-    requires settled { Settled text.now table.now }
-    requires row { IsRow place }
-    requires within { Within ends fields.old names.old }
-    ensures { Writes (emitted_at options.word text.now table.now levels place lacking number) ends fields names result }
+fn emit(source: &Source, levels: usize, place: Place, lacking: bool, number: u8, out: &mut Output)
+    ensures { Writes (over emitted_at source.now levels place lacking number) out.old out.new }
 {
-    let nullable = fields::is_nullable(table, place, lacking);
-    let own = put_field(
-        options, text, place, nullable, number, ends, table, fields, names,
-    );
-    if fields::is_leaf(options, levels, table, place) {
-        return own;
+    let nullable = fields::is_nullable(source.table, place, lacking);
+    put_field(source, place, nullable, number, out);
+    if fields::is_leaf(source.options, levels, source.table, place) {
+        return;
     }
-    let kind = words::get(table, place, places::KIND);
-    emit_children(
-        options,
-        text,
-        levels - 1,
-        kind,
-        place,
-        own,
-        table,
-        fields,
-        names,
-    )
+    let kind = words::get(source.table, place, Whole::Kind);
+    emit_children(source, levels - 1, kind, place, out);
 }
 
 // The fields below a place.
 #[cycle(emitting)]
-fn emit_children(
-    options: TracingOptions,
-    text: &[u8],
-    levels: usize,
-    kind: u32,
-    place: usize,
-    ends: Ends,
-    table: &Table,
-    fields: &mut [u8],
-    names: &mut [u8],
-) -> Ends
-    requires settled { Settled text.now table.now }
-    requires row { IsRow place }
-    requires within { Within ends fields.old names.old }
-    ensures { Writes (emitted_below options.word text.now table.now levels kind place) ends fields names result }
+fn emit_children(source: &Source, levels: usize, kind: u32, place: Place, out: &mut Output)
+    ensures { Writes (over emitted_below source.now levels kind place) out.old out.new }
 {
-    let mut so_far = putting::put_entries(kind, ends, fields, names);
+    out.put_entries(kind);
     let mut slot: u32 = 0;
-    let mut child = places::next_child(table, true, kind, place, 0);
+    let mut child = places::next_child(source.table, true, kind, place, Place::ROOT);
     for _ in 0..places::CHILDREN {
-        if child == 0 {
-            return so_far;
+        if child.is_root() {
+            return;
         }
-        so_far = emit_child(
-            options, text, levels, kind, place, slot, child, so_far, table, fields, names,
-        );
-        slot = walk::slot_behind(table, child);
-        child = places::next_child(table, true, kind, place, child);
+        emit_child(source, levels, kind, place, slot, child, out);
+        slot = walk::slot_behind(source.table, child);
+        child = places::next_child(source.table, true, kind, place, child);
     }
-    so_far
 }
 
 // A child, after the slots of a union that were never seen.
 #[cycle(emitting)]
 fn emit_child(
-    options: TracingOptions,
-    text: &[u8],
+    source: &Source,
     levels: usize,
     kind: u32,
-    place: usize,
+    place: Place,
     slot: u32,
-    child: usize,
-    ends: Ends,
-    table: &Table,
-    fields: &mut [u8],
-    names: &mut [u8],
-) -> Ends
-    requires settled { Settled text.now table.now }
-    requires place_row { IsRow place }
-    requires child_row { IsRow child }
-    requires within { Within ends fields.old names.old }
-    ensures { Writes (child_at options.word text.now table.now levels kind place slot child) ends fields names result }
+    child: Place,
+    out: &mut Output,
+)
+    ensures { Writes (over child_at source.now levels kind place slot child) out.old out.new }
 {
-    let next = putting::put_gaps(
-        fields,
-        ends.records,
-        slot,
-        walk::gaps(kind, table, slot, child),
-    );
-    let number = (places::variant(table, child) % 256) as u8;
-    emit(
-        options,
-        text,
-        levels,
-        child,
-        fields::is_lacking(table, kind, place, child),
-        number,
-        Ends {
-            records: next,
-            names: ends.names,
-        },
-        table,
-        fields,
-        names,
-    )
+    out.put_gaps(slot, walk::gaps(kind, source.table, slot, child));
+    let number = (places::variant(source.table, child) % 256) as u8;
+    let lacking = fields::is_lacking(source.table, kind, place, child);
+    emit(source, levels, child, lacking, number, out);
 }
 
 // Refusals 15 to 18, and else the schema is written.
 fn finish(
-    options: TracingOptions,
-    text: &[u8],
+    source: &Source,
     counts: Counts,
-    table: &Table,
     fields: &mut [u8],
     names: &mut [u8],
 ) -> Result<Counts, Refusal>
-    requires { Settled text.now table.now }
-    ensures { Finishes options.word text table fields names counts.records counts.names counts.columns result }
+    ensures { Finishes source.now fields names counts result }
 {
-    let kind = words::get(table, places::ROOT_PLACE, places::KIND);
-    if words::get(table, places::ROOT_PLACE, places::NULL) == 1 {
+    let kind = words::get(source.table, Place::ROOT, Whole::Kind);
+    if words::get(source.table, Place::ROOT, Whole::Null) == 1 {
         return Err(Refusal::NullableRoot);
     }
     if kind == shapes::UNKNOWN {
@@ -223,20 +126,8 @@ fn finish(
     if names.len() < counts.names as usize {
         return Err(Refusal::ShortBuffer);
     }
-    emit_children(
-        options,
-        text,
-        LEVELS,
-        kind,
-        places::ROOT_PLACE,
-        Ends {
-            records: 0,
-            names: 0,
-        },
-        table,
-        fields,
-        names,
-    );
+    let mut out = Output::new(fields, names);
+    emit_children(source, LEVELS, kind, Place::ROOT, &mut out);
     Ok(counts)
 }
 
@@ -255,6 +146,11 @@ pub fn to_schema(
     ensures { Emits options.word count text table fields names result }
 {
     order::sort_places(text, count, table);
-    let counts = walk::walk_place(options, text, LEVELS, places::ROOT_PLACE, table)?;
-    finish(options, text, counts, table, fields, names)
+    let source = Source {
+        options,
+        text,
+        table,
+    };
+    let counts = source.walk_place(LEVELS, Place::ROOT)?;
+    finish(&source, counts, fields, names)
 }

@@ -1,4 +1,5 @@
 pub mod Search
 pub mod Scan
 pub mod Tree
+pub mod Child
 pub mod laws

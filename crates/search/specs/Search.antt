@@ -4,17 +4,16 @@ use Rattle.logic.specs.Test.{when◌then◌else◌}
 use Rattle.logic.specs.Turns.{Turn, again, done, turns}
 use Rattle.text.specs.declared.Name.{Name}
 use Rattle.text.specs.Name.{bytes_of, eq_name}
-use Rattle.words.specs.Word.{word, IsTable, IsRow}
+use Rattle.words.specs.Word.{word}
 use Rattle.shapes.specs.declared.Step.{Step}
 use Rattle.shapes.specs.declared.Step.TheVariants as S
 use Rattle.shapes.specs.Steps.{field_code, code_of, no_name, unpacked_name, Inside}
 use Rattle.places.specs.Layout.{first_word, block_word, next_word, step_word, name_word, turn_limit}
 use Rattle.search.specs.Tree.{seek}
 
--- what is asked where the name of a child is compared: the child is a row of the table, and both names lie in the text
+-- what is asked where the name of a child is compared: both names lie in the text
 abbrev pub Comparable : List ℕ → List ℕ → Name → ℕ → Type 0
-Comparable text t name child =
-    IsRow child × IsTable t × Inside text name × Inside text (unpacked_name (word t child name_word))
+Comparable text t name child = Inside text name × Inside text (unpacked_name (word t child name_word))
 
 -- ---- the child at a step, in first_seen order; 0 for none
 unfoldable pub is_at : List ℕ → ℕ → Name → ℕ → List ℕ → Bool

@@ -7,7 +7,6 @@ use Rattle.logic.specs.Test.{when◌then◌else◌}
 use Rattle.logic.specs.Turns.{Turn, again, done, turns}
 use Rattle.words.specs.Word.{word}
 use Rattle.shapes.specs.Steps.{field_code}
-use Rattle.search.specs.declared.Slot.{Slot}
 use Rattle.places.specs.Layout.{root_word, left_word, right_word, step_word, turn_limit}
 
 -- variants and positions, by their codes
@@ -25,6 +24,12 @@ follow place field n t = when ltb place (word t place field) && ltb (word t plac
 -- where the search stands: before that link, with so many bits left
 pub data Seeking : Type 0 where
   seeking : (bits place field : ℕ) → Seeking
+
+-- a link, as the place that has it and its number there, and the child that it leads to or 0
+pub record Slot : Type 0 where
+  pub child : ℕ
+  pub place : ℕ
+  pub field : ℕ
 
 abbrev pub slot : ℕ → ℕ → ℕ → Slot
 slot child place field = record { child = child; place = place; field = field }

@@ -1,3 +1,4 @@
+pub mod Child
 pub mod Tree
 pub mod Search
 pub mod Scan

@@ -3,20 +3,22 @@
 
 #![tactic(auto)]
 
-ghost use Rattle.std.specs.Prelude.{◌≡◌, ◌+◌, ◌-◌, ◌/◌, ◌%◌, ◌<◌, ◌≤◌, true, ◌&&◌};
+ghost use Rattle.std.specs.Prelude.{◌≡◌, ◌+◌, ◌-◌, ◌/◌, ◌%◌, ◌<◌, ◌≤◌, ◌≢◌, IfSome};
 ghost use Rattle.model.specs.Tracing.{place_limit};
-ghost use Rattle.words.specs.Word.{word, IsRow, is_link};
+ghost use Rattle.words.specs.Word.{word, IsRow};
 ghost use Rattle.text.specs.Name.{bytes_of};
 ghost use Rattle.text.specs.Tag.{tag_of};
 ghost use Rattle.shapes.specs.Steps.{field_code, code_of, no_name, Inside};
 ghost use Rattle.places.specs.Layout.{Tagged, Ready, first_word, last_word};
+ghost use Rattle.words.specs.Numbers.{half_number};
+ghost use Rattle.search.specs.Child.{child_of, IsSlot};
 ghost use Rattle.search.specs.Tree.{is_numbered, side_word, follow, seek};
 ghost use Rattle.search.specs.Search.{Comparable, find_in, in_block, child_at};
 ghost use Rattle.search.specs.Scan.{few_places, many_places, is_tagged, is_field, field_among, past_others, is_sparse, Passed};
 
 use shapes::Step;
 use text::Name;
-use words::Table;
+use words::{Half, Place, Table, Whole};
 
 // So many places are looked at together, and so many where the first and the last child stand far apart.
 const FEW: usize = 8;
@@ -26,96 +28,68 @@ const MANY: usize = 16;
 // So far.
 const FAR: usize = 64;
 
-// No usual name is longer. Such names leave the search by number, whose comparison goes byte by byte and is small: names of
-// 60,000 bytes that overlap in the text would take long there.
+// No usual name is longer. Such names leave the search by number: names of 60,000 bytes that overlap in the text would take long there.
 const LONG: u16 = 255;
 
 // Whether one place is another's field and its name has that tag. The tags are compared first: most differ there. The root,
 // place 0, is nobody's child.
-fn is_tagged(place: usize, tag: u32, child: usize, table: &Table) -> bool
-    requires { IsRow child }
+#[tactic(auto, unfolding(crate::specs::Scan::is_tagged))]
+fn is_tagged(place: Place, tag: u32, child: Place, table: &Table) -> bool
     ensures { result ≡ is_tagged place tag child table.now }
 {
-    if words::get(table, child, places::TAG) != tag {
-        return false;
-    }
-    if child == 0 {
-        return false;
-    }
-    if words::link(table, child, places::PARENT) != place {
-        return false;
-    }
-    words::get(table, child, places::STEP) == shapes::FIELD
+    words::get(table, child, Whole::Tag) == tag
+        && !child.is_root()
+        && words::link(table, child, Half::Parent) == place.number()
+        && words::get(table, child, Whole::Step) == shapes::FIELD
 }
 
 // Whether one place is another's field with that name.
-fn is_field(text: &[u8], place: usize, name: Name, tag: u32, child: usize, table: &Table) -> bool
+#[tactic(auto, using(crate::specs::laws::Scan::no_tagged, crate::specs::laws::Scan::tagged_named))]
+fn is_field(text: &[u8], place: Place, name: Name, tag: u32, child: Place, table: &Table) -> bool
     requires comparable { Comparable text.now table.now name child }
     requires tag_value { (tag ≡ tag_of (bytes_of text.now name)) × Tagged text.now table.now child }
     ensures { result ≡ is_field text.now place name child table.now }
 {
-    if !is_tagged(place, tag, child, table) {
-        return false;
-    }
-    let own = shapes::unpacked(words::get(table, child, places::NAME));
-    own.equals(name, text)
+    is_tagged(place, tag, child, table) && places::given_name(table, child).equals(name, text)
 }
 
-// The same, where the names are compared in blocks.
-fn is_long_field(
-    text: &[u8],
-    place: usize,
-    name: Name,
-    tag: u32,
-    child: usize,
-    table: &Table,
-) -> bool
-    requires comparable { Comparable text.now table.now name child }
-    requires tag_value { (tag ≡ tag_of (bytes_of text.now name)) × Tagged text.now table.now child }
-    ensures { result ≡ is_field text.now place name child table.now }
-{
-    if !is_tagged(place, tag, child, table) {
-        return false;
-    }
-    let own = shapes::unpacked(words::get(table, child, places::NAME));
-    own.equals_long(name, text)
-}
-
-// The first of FEW places, from one on, that is the place's field with that name, or 0. Mostly none of them has the tag.
+// The first of FEW places, from one on, that is the place's field with that name. Mostly none of them has the tag.
 fn find_among(
     text: &[u8],
-    place: usize,
+    place: Place,
     name: Name,
     tag: u32,
     from: usize,
     count: usize,
     table: &Table,
-) -> usize
+) -> Option<Place>
     requires ready { Ready text.now table.now count place × Inside text.now name }
-    requires tag_value { (tag ≡ tag_of (bytes_of text.now name)) × (from + few_places ≤ place_limit) }
-    ensures { result ≡ field_among text.now place name table.now from few_places }
+    requires tag_value { tag ≡ tag_of (bytes_of text.now name) }
+    requires within { from + few_places ≤ place_limit }
+    ensures { result ≡ child_of (field_among text.now place name table.now from few_places) }
 {
-    if !words::has(table, from, FEW, places::TAG, tag) {
-        return 0;
+    if !words::has(table, from, FEW, Whole::Tag, tag) {
+        return None;
     }
-    let mut child = from;
-    while child < from + FEW {
+    for number in from..from + FEW {
+        let child = Place::new(number);
         if is_field(text, place, name, tag, child, table) {
-            return child;
+            return Some(child);
         }
-        child += 1;
     }
-    0
+    None
 }
 
-// Places with other tags are passed, MANY at a time, while so many stand before the last child.
+// Places with other tags are passed, MANY at a time, while so many stand before the last child. A `for` by steps would be no
+// plainer: where the loop ends is the answer.
 fn past_others(tag: u32, from: usize, last: usize, table: &Table) -> usize
-    requires { (from ≤ last) × IsRow last }
+    requires below { from ≤ last }
+    requires row { IsRow last }
     ensures { result ≡ past_others tag table.now from ((last - from) / many_places) }
 {
     let mut here = from;
     while here + MANY <= last {
-        if words::has(table, here, MANY, places::TAG, tag) {
+        if words::has(table, here, MANY, Whole::Tag, tag) {
             return here;
         }
         here += MANY;
@@ -124,81 +98,93 @@ fn past_others(tag: u32, from: usize, last: usize, table: &Table) -> usize
 }
 
 // Whether fewer than one in MANY of so many places up to the last child are children: its position tells how many are.
-fn is_sparse(span: usize, last: usize, table: &Table) -> bool
-    requires { IsRow last }
+#[tactic(auto, unfolding(crate::specs::Scan::is_sparse))]
+fn is_sparse(span: usize, last: Place, table: &Table) -> bool
     ensures { result ≡ is_sparse span last table.now }
 {
-    (words::get(table, last, places::POSITION) as usize) * MANY < span
+    (words::get(table, last, Whole::Position) as usize) * MANY < span
 }
 
-// The place's field with that name, found from child to child. Long names are found so, and names are compared in blocks.
+// The place's field with that name, found from child to child. Long names are found so.
 fn find_linked(
     text: &[u8],
-    place: usize,
+    place: Place,
     name: Name,
     tag: u32,
     count: usize,
     table: &Table,
-) -> usize
-    requires { Ready text.now table.now count place × Inside text.now name × (tag ≡ tag_of (bytes_of text.now name)) }
-    ensures { (result ≡ find_in text.now place field_code name table.now) × (result < count) }
+) -> Option<Place>
+    requires ready { Ready text.now table.now count place × Inside text.now name }
+    requires tag_value { tag ≡ tag_of (bytes_of text.now name) }
+    ensures found { result ≡ child_of (find_in text.now place field_code name table.now) }
+    ensures below { IfSome result (λ child. child < count) }
 {
-    let mut child = words::link(table, place, places::FIRST);
-    while child != 0 {
-        if is_long_field(text, place, name, tag, child, table) {
-            return child;
+    let mut child = places::link(table, place, Half::First);
+    while !child.is_root() {
+        if is_field(text, place, name, tag, child, table) {
+            return Some(child);
         }
-        child = words::link(table, child, places::NEXT);
+        child = places::link(table, child, Half::Next);
     }
-    0
+    None
 }
 
 // The place's field with that name, where the places before one are passed. FEW places from a multiple of FEW on are all
-// in the table, so the search starts at one. With this loop in `find_field` itself, small records take 4 % more instructions.
+// in the table, so the search starts at one. With this loop in `find_field` itself, small records take 4 % more instructions; as a
+// `for` in steps, typical returns take 3 % more, and records of 64 fields 9 %.
 fn find_from(
     text: &[u8],
-    place: usize,
+    place: Place,
     name: Name,
     tag: u32,
     from: usize,
     last: usize,
     count: usize,
     table: &Table,
-) -> usize
-    requires ready { Ready text.now table.now count place × Inside text.now name × (tag ≡ tag_of (bytes_of text.now name)) }
-    requires last_value { (last ≡ word table.now place last_word) × (from % few_places ≡ 0) × Passed text.now table.now count place name from }
-    ensures { (result ≡ find_in text.now place field_code name table.now) × (result < count) }
+) -> Option<Place>
+    requires ready { Ready text.now table.now count place × Inside text.now name }
+    requires tag_value { tag ≡ tag_of (bytes_of text.now name) }
+    requires last_value { last ≡ word table.now place last_word }
+    requires passed { (from % few_places ≡ 0) × Passed text.now table.now count place name from }
+    ensures found { result ≡ child_of (find_in text.now place field_code name table.now) }
+    ensures below { IfSome result (λ child. child < count) }
 {
     let mut here = from;
     while here <= last {
         let found = find_among(text, place, name, tag, here, count, table);
-        if found != 0 {
+        if found.is_some() {
             return found;
         }
         here += FEW;
     }
-    0
+    None
 }
 
-// The field of a place with that name, found in first_seen order; 0 where there is none, for no child is place 0. Children
-// stand in ascending order, so places are looked at by number from the first child to the last; from child to child where
-// few of them are children, or the name is long.
-pub fn find_field(text: &[u8], place: usize, name: Name, count: usize, table: &Table) -> usize
+// The field of a place with that name, found in first_seen order. Children stand in ascending order, so places are looked at by
+// number from the first child to the last; from child to child where few of them are children, or the name is long.
+pub fn find_field(
+    text: &[u8],
+    place: Place,
+    name: Name,
+    count: usize,
+    table: &Table,
+) -> Option<Place>
     requires { Ready text.now table.now count place × Inside text.now name }
-    ensures { (result ≡ find_in text.now place field_code name table.now) × (result < count) }
+    ensures found { result ≡ child_of (find_in text.now place field_code name table.now) }
+    ensures below { IfSome result (λ child. child < count) }
 {
-    let first = words::link(table, place, places::FIRST);
+    let first = words::link(table, place, Half::First);
     if first == 0 {
-        return 0;
+        return None;
     }
     let tag = name.tag(text);
     if LONG < name.length {
         return find_linked(text, place, name, tag, count, table);
     }
-    let last = words::link(table, place, places::LAST);
+    let last = words::link(table, place, Half::Last);
     let mut here = first / FEW * FEW;
     if FAR <= last - first {
-        if is_sparse(last - first, last, table) {
+        if is_sparse(last - first, Place::new(last), table) {
             return find_linked(text, place, name, tag, count, table);
         }
         here = past_others(tag, here, last, table);
@@ -207,18 +193,20 @@ pub fn find_field(text: &[u8], place: usize, name: Name, count: usize, table: &T
 }
 
 // The child of a place at a step that is no field: it is told by its code, whatever its name.
-fn find(text: &[u8], place: usize, code: u32, count: usize, table: &Table) -> usize
-    requires { Ready text.now table.now count place × (code ≡ field_code → ⊥) }
-    ensures { (result ≡ find_in text.now place code no_name table.now) × (result < count) }
+fn find(text: &[u8], place: Place, code: u32, count: usize, table: &Table) -> Option<Place>
+    requires ready { Ready text.now table.now count place }
+    requires no_field { code ≢ field_code }
+    ensures found { result ≡ child_of (find_in text.now place code no_name table.now) }
+    ensures below { IfSome result (λ child. child < count) }
 {
-    let mut child = words::link(table, place, places::FIRST);
-    while child != 0 {
-        if words::get(table, child, places::STEP) == code {
-            return child;
+    let mut child = places::link(table, place, Half::First);
+    while !child.is_root() {
+        if words::get(table, child, Whole::Step) == code {
+            return Some(child);
         }
-        child = words::link(table, child, places::NEXT);
+        child = places::link(table, child, Half::Next);
     }
-    0
+    None
 }
 
 // Whether a child with that code is numbered: a variant or a position.
@@ -228,53 +216,54 @@ pub fn is_numbered(code: u32) -> bool
     shapes::FIELD < code
 }
 
-// The child that a link of the search tree leads to, or 0. Links lead to places with higher numbers: none other is followed.
-fn follow(place: usize, field: usize, count: usize, table: &Table) -> usize
-    requires { IsRow place × (is_link field ≡ true) }
-    ensures { result ≡ follow place field count table.now }
+// The child that a link of the search tree leads to. Links lead to places with higher numbers: none other is followed.
+#[tactic(auto, using(logic::specs::laws::Test::chosen, logic::specs::laws::Test::other), unfolding(crate::specs::Tree::follow))]
+fn follow(place: Place, field: Half, count: usize, table: &Table) -> Option<Place>
+    requires { count ≤ place_limit }
+    ensures { result ≡ child_of (follow place (half_number field) count table.now) }
 {
     let link = words::link(table, place, field);
-    if link <= place {
-        return 0;
+    if place.number() < link && link < count {
+        Some(Place::new(link))
+    } else {
+        None
     }
-    if count <= link {
-        return 0;
-    }
-    link
 }
 
 // The link of a child by the lowest bit.
-fn side(bits: u32) -> usize
-    ensures { (result ≡ side_word bits) × (is_link result ≡ true) }
+#[tactic(auto, using(logic::specs::laws::Test::chosen, logic::specs::laws::Test::other), unfolding(crate::specs::Tree::side_word))]
+fn side(bits: u32) -> Half
+    ensures { half_number result ≡ side_word bits }
 {
     if bits % 2 == 0 {
-        return places::LEFT;
+        return Half::Left;
     }
-    places::RIGHT
+    Half::Right
 }
 
-// A link of the search tree, as the place that has it and its number there, and the child that it leads to or 0.
+// A link of the search tree, as the place that has it and its name there, and the child that it leads to.
 #[derive(Clone, Copy)]
 pub struct Slot {
-    pub child: usize,
-    pub place: usize,
-    pub field: usize,
+    pub child: Option<Place>,
+    pub place: Place,
+    pub field: Half,
 }
 
 // The link where the search for a numbered child ends: it leads to the child with the code, or to none. A bit of the code tells at each
 // child which link to take, so that at most 17 children are visited.
-pub fn seek(place: usize, code: u32, count: usize, table: &Table) -> Slot
-    requires { (place < count) × (count ≤ place_limit) }
-    ensures { result ≡ seek place code count table.now }
+pub fn seek(place: Place, code: u32, count: usize, table: &Table) -> Slot
+    requires below { place < count }
+    requires within { count ≤ place_limit }
+    ensures { IsSlot result (seek place code count table.now) }
 {
     let mut bits = code / 2;
     let mut at = place;
-    let mut field = places::ROOT;
-    let mut child = follow(place, places::ROOT, count, table);
-    while child != 0 {
-        if words::get(table, child, places::STEP) == code {
+    let mut field = Half::Root;
+    let mut next = follow(place, Half::Root, count, table);
+    while let Some(child) = next {
+        if words::get(table, child, Whole::Step) == code {
             return Slot {
-                child,
+                child: next,
                 place: at,
                 field,
             };
@@ -282,37 +271,55 @@ pub fn seek(place: usize, code: u32, count: usize, table: &Table) -> Slot
         at = child;
         field = side(bits);
         bits = bits / 2;
-        child = follow(at, field, count, table);
+        next = follow(at, field, count, table);
     }
     Slot {
-        child: 0,
+        child: None,
         place: at,
         field,
     }
 }
 
-// The numbered child of a place with that code, or 0.
-fn find_numbered(place: usize, code: u32, count: usize, table: &Table) -> usize
-    requires { (place < count) × (count ≤ place_limit) }
-    ensures { (result ≡ (seek place code count table.now).child) × (result < count) }
+// The numbered child of a place with that code.
+fn find_numbered(place: Place, code: u32, count: usize, table: &Table) -> Option<Place>
+    requires below { place < count }
+    requires within { count ≤ place_limit }
+    ensures found { result ≡ child_of (seek place code count table.now).child }
+    ensures below { IfSome result (λ child. child < count) }
 {
     seek(place, code, count, table).child
 }
 
-// Whether that position stands in the place's block.
-fn is_in_block(place: usize, i: u16, count: usize, table: &Table) -> bool
-    requires { IsRow place × IsRow (word table.now place first_word) }
-    ensures { result ≡ in_block place i count table.now }
+// The child with that number: 0 stands for none.
+#[tactic(auto, using(crate::specs::laws::Child::child_none, crate::specs::laws::Child::child_some))]
+fn child_of(number: usize) -> Option<Place>
+    requires { IsRow number }
+    ensures { result ≡ child_of number }
 {
-    (i as usize) < words::link(table, place, places::BLOCK)
-        && words::link(table, place, places::FIRST) + (i as usize) < count
+    if number == 0 {
+        None
+    } else {
+        Some(Place::new(number))
+    }
 }
 
-// The child of a place at a step that is no field, or 0: a position in the block stands by its number, any other numbered
+// Whether that position stands in the place's block.
+#[tactic(auto, unfolding(crate::specs::Search::in_block))]
+fn is_in_block(place: Place, i: u16, count: usize, table: &Table) -> bool
+    requires { IsRow (word table.now place first_word) }
+    ensures { result ≡ in_block place i count table.now }
+{
+    (i as usize) < words::link(table, place, Half::Block)
+        && words::link(table, place, Half::First) + (i as usize) < count
+}
+
+// The child of a place at a step that is no field: a position in the block stands by its number, any other numbered
 // child is found in the search tree, the others from sibling to sibling.
-pub fn child_at(text: &[u8], place: usize, step: Step, count: usize, table: &Table) -> usize
-    requires { Ready text.now table.now count place × (code_of step ≡ field_code → ⊥) }
-    ensures { (result ≡ child_at text.now place step count table.now) × (result < count) }
+pub fn child_at(text: &[u8], place: Place, step: Step, count: usize, table: &Table) -> Option<Place>
+    requires ready { Ready text.now table.now count place }
+    requires no_field { code_of step ≢ field_code }
+    ensures found { result ≡ child_of (child_at text.now place step count table.now) }
+    ensures below { IfSome result (λ child. child < count) }
 {
     let code = step.code();
     if !is_numbered(code) {
@@ -322,7 +329,7 @@ pub fn child_at(text: &[u8], place: usize, step: Step, count: usize, table: &Tab
         return find_numbered(place, code, count, table);
     };
     if is_in_block(place, i, count, table) {
-        return words::link(table, place, places::FIRST) + (i as usize);
+        return child_of(words::link(table, place, Half::First) + (i as usize));
     }
     find_numbered(place, code, count, table)
 }

@@ -1,5 +1,6 @@
 -- The first walk: refusals 12 to 14, and how many field records, name bytes and columns there are below a place.
-use Rattle.std.specs.Prelude.{Result, Ok, Err, ℕ, zero, suc, ◌+◌, ◌-◌, ◌%◌, ◌^◌, Bool, true, false, not, ◌&&◌, ◌||◌, List, length, ◌==◌, nat_eq, nat_le}
+use Rattle.std.specs.Prelude.{ℕ, zero, suc, ◌+◌, ◌-◌, ◌%◌, ◌^◌, Bool, true, false, not, ◌&&◌, ◌||◌, List, length, ◌==◌, nat_eq, nat_le}
+use Rattle.std.specs.Prelude.{Result, Ok, Err}
 use Rattle.logic.specs.Test.{when◌then◌else◌}
 use Rattle.datatype.specs.Codes.{null}
 use Rattle.options.specs.Word.{allow_null_fields, enums_without_data_as_strings}
@@ -106,7 +107,8 @@ children_below text t inner kind place =
 -- a place: refusals 12 and 13, and what stands below it; `flat` where no level is left, and a reader of its children
 unfoldable pub walked_by : ℕ → List ℕ → List ℕ → Bool → (ℕ → Walked) → ℕ → Walked
 walked_by options text t flat inner place =
-    when word t place kind_word == null then (when allow_null_fields options then Ok (counts 0 0 0) else Err F.NullField)
+    when word t place kind_word == null
+    then (when allow_null_fields options then Ok (counts 0 0 0) else Err F.NullField)
     else when not (is_container (word t place kind_word)) || flat then Ok (counts 0 0 0)
     else when word t place kind_word == union_kind && dataless_at t place && enums_without_data_as_strings options then Ok (counts 0 0 0)
     else when word t place kind_word == union_kind && dataless_at t place && not (allow_null_fields options) then Err F.DatalessUnion

@@ -4,16 +4,115 @@
 
 #![tactic(auto)]
 
-ghost use Rattle.std.specs.Prelude.{◌≡◌, true, false, ◌+◌, ◌*◌, ◌<◌, ◌≤◌, length};
-ghost use Rattle.words.specs.Word.{table_places, table_words, row_words, plane_words, place_words, link_limit, IsRow, is_link};
+ghost use Rattle.std.specs.Prelude.{◌≡◌, true, false, ◌+◌, ◌*◌, ◌<◌, ◌≤◌, ◌↔◌, length, ℕ};
+ghost use Rattle.words.specs.Word.{table_places, table_words, row_words, plane_words, link_limit, IsRow, is_link};
 ghost use Rattle.words.specs.Word.{plane_index, index_of};
+ghost use Rattle.words.specs.declared.Half.TheVariants.{Block};
+ghost use Rattle.words.specs.Numbers.{whole_number, half_number};
 ghost use Rattle.words.specs.Word.{part_of, with_part, word, with_word, has_among, zeros, cleared_in, cleared_to};
+
+use std::marker::Model;
 
 // So many words: a row for each place.
 pub const WORDS: usize = 16384;
 
 // The part of the work table that is lent to the tracer.
 pub type Table = [u32; WORDS];
+
+// A place, by its number in the table.
+#[derive(Clone, Copy)]
+pub struct Place {
+    number: usize,
+}
+
+impl Model for Place {
+    ghost Value = { ℕ };
+
+    ghost view = { λ p. p.number };
+
+    ghost invariant = { λ p. IsRow p.number };
+
+    ghost inverse = { λ n. record { number = n } };
+}
+
+impl Place {
+    // No place has it as a child, so that where a child is linked it stands for none.
+    pub const ROOT: Place = Place { number: 0 };
+
+    pub fn new(number: usize) -> Self
+        requires { IsRow number }
+        ensures { result ≡ number }
+    {
+        Place { number }
+    }
+
+    pub fn number(self) -> usize
+        ensures { (result ≡ self) × IsRow result }
+    {
+        self.number
+    }
+
+    pub fn is_root(self) -> bool
+        ensures { result ≡ true ↔ self ≡ 0 }
+    {
+        self.number == 0
+    }
+}
+
+// A whole word of a place, by its number: 0, 1 and 2 are free. What a place is, which whoever reads a value there writes; then
+// what it is as one of its parent's children, which whoever reads the parent's parts writes.
+#[derive(Clone, Copy)]
+pub enum Whole {
+    // Its kind (`shapes`).
+    Kind = 3,
+    // 1 where null was seen.
+    Null = 4,
+    // How many containers were observed there.
+    Samples = 5,
+    // The step to it from its parent (`Step::code`), and its name in the text (`shapes::packed`).
+    Step = 14,
+    Name = 15,
+    // How many of its parent's samples held it, and the number of the last that did.
+    Held = 16,
+    Mark = 17,
+    // The tag of its name (`Name::tag`), and its position among its siblings; a tuple's positions that are made at once have
+    // neither.
+    Tag = 18,
+    Position = 19,
+}
+
+// A link of a place, which is half a word, by its number.
+#[derive(Clone, Copy)]
+pub enum Half {
+    // The first and the last of its children.
+    First = 6,
+    Last = 7,
+    // The root of the search tree of its numbered children; and the first of its children, once they are put in order.
+    Root = 8,
+    // How many positions stand in a block: its first so many children are positions 0, 1, 2, .., each with the place number
+    // after the one before. It is kept as a link is: a tuple's positions are counted in 16 bits.
+    Block = 9,
+    // Its left and right link in the search tree of its parent's numbered children; and the next of its siblings, once they are
+    // put in order, in the right link's place.
+    Left = 10,
+    Right = 11,
+    // The next of its siblings, and its parent.
+    Next = 12,
+    Parent = 13,
+}
+
+impl Half {
+    pub const ORDERED_FIRST: Half = Half::Root;
+
+    pub const ORDERED_NEXT: Half = Half::Right;
+
+    fn number(self) -> usize
+        ensures value { result ≡ half_number self }
+        ensures link { is_link result ≡ true }
+    {
+        self as usize
+    }
+}
 
 // Words of a gap and the plane behind it, which has one for each place; and those of a gap, which has the words of number 0 of so many
 // places. Without gaps all words of a place would compete for the same few lines of a processor's cache.
@@ -41,21 +140,21 @@ const LAST_GAP: usize = 15;
 const LINK_LIMIT: u32 = 65536;
 
 // Where a word of the row stands.
-fn plane_index(row: usize, place: usize) -> usize
-    requires { IsRow place × (row < row_words) }
+fn plane_index(row: usize, place: Place) -> usize
+    requires { row < row_words }
     ensures { (result ≡ plane_index row place) × (result < table_words) }
 {
     if row == 0 {
-        return place / GAP * PLANE + place % GAP;
+        return place.number / GAP * PLANE + place.number % GAP;
     }
-    (row - 1) * PLANE + GAP + place
+    (row - 1) * PLANE + GAP + place.number
 }
 
 // Where a whole word stands. Behind the links numbers run ahead, for two links share a word.
-fn whole_index(place: usize, field: usize) -> usize
-    requires { IsRow place × (field < place_words) × (is_link field ≡ false) }
-    ensures { (result ≡ index_of place field) × (result < table_words) }
+fn whole_index(place: Place, field: Whole) -> usize
+    ensures { (result ≡ index_of place (whole_number field)) × (result < table_words) }
 {
+    let field = field as usize;
     if field < LINKS_FROM {
         return plane_index(field, place);
     }
@@ -63,35 +162,31 @@ fn whole_index(place: usize, field: usize) -> usize
 }
 
 // Where the word stands that has a link in it.
-fn link_index(place: usize, field: usize) -> usize
-    requires { IsRow place × (is_link field ≡ true) }
-    ensures { (result ≡ index_of place field) × (result < table_words) }
+fn link_index(place: Place, field: Half) -> usize
+    ensures { (result ≡ index_of place (half_number field)) × (result < table_words) }
 {
-    plane_index(LINKS_FROM + (field - LINKS_FROM) / 2, place)
+    plane_index(LINKS_FROM + (field.number() - LINKS_FROM) / 2, place)
 }
 
 // A whole word of a place.
-pub fn get(table: &Table, place: usize, field: usize) -> u32
-    requires { IsRow place × (field < place_words) × (is_link field ≡ false) }
-    ensures { result ≡ word table.now place field }
+pub fn get(table: &Table, place: Place, field: Whole) -> u32
+    ensures { result ≡ word table.now place (whole_number field) }
 {
     table[whole_index(place, field)]
 }
 
 // Stores a whole word of a place.
-pub fn set(table: &mut Table, place: usize, field: usize, value: u32)
-    requires { IsRow place × (field < place_words) × (is_link field ≡ false) }
-    ensures { table.new ≡ with_word table.old place field value }
+pub fn set(table: &mut Table, place: Place, field: Whole, value: u32)
+    ensures { table.new ≡ with_word table.old place (whole_number field) value }
 {
     table[whole_index(place, field)] = value;
 }
 
 // The link that is a half of a word.
-fn link_in(word: u32, field: usize) -> usize
-    requires { is_link field ≡ true }
-    ensures { (result ≡ part_of field word) × (result < link_limit) }
+fn link_in(word: u32, field: Half) -> usize
+    ensures { (result ≡ part_of (half_number field) word) × (result < link_limit) }
 {
-    if field % 2 == 0 {
+    if field.number() % 2 == 0 {
         (word % LINK_LIMIT) as usize
     } else {
         (word / LINK_LIMIT) as usize
@@ -99,43 +194,55 @@ fn link_in(word: u32, field: usize) -> usize
 }
 
 // A link of a place.
-pub fn link(table: &Table, place: usize, field: usize) -> usize
-    requires { IsRow place × (is_link field ≡ true) }
-    ensures { (result ≡ word table.now place field) × (result < link_limit) }
+pub fn link(table: &Table, place: Place, field: Half) -> usize
+    ensures { (result ≡ word table.now place (half_number field)) × (result < link_limit) }
 {
     link_in(table[link_index(place, field)], field)
 }
 
 // The word with one of its links stored, the other as it was.
-fn with_link(word: u32, field: usize, to: usize) -> u32
-    requires { (is_link field ≡ true) × (to < link_limit) }
-    ensures { result ≡ with_part field word to }
+fn with_link(word: u32, field: Half, to: usize) -> u32
+    requires { to < link_limit }
+    ensures { result ≡ with_part (half_number field) word to }
 {
-    if field % 2 == 0 {
+    if field.number() % 2 == 0 {
         word / LINK_LIMIT * LINK_LIMIT + to as u32
     } else {
         to as u32 * LINK_LIMIT + word % LINK_LIMIT
     }
 }
 
-// Stores a link of a place.
-pub fn set_link(table: &mut Table, place: usize, field: usize, to: usize)
-    requires { IsRow place × (is_link field ≡ true) × (to < link_limit) }
-    ensures { table.new ≡ with_word table.old place field to }
+// Stores a half of a word of a place.
+fn set_half(table: &mut Table, place: Place, field: Half, value: usize)
+    requires { value < link_limit }
+    ensures { table.new ≡ with_word table.old place (half_number field) value }
 {
     let at = link_index(place, field);
-    table[at] = with_link(table[at], field, to);
+    table[at] = with_link(table[at], field, value);
+}
+
+// Stores a link of a place: it leads to another, or to the root where it leads nowhere.
+pub fn set_link(table: &mut Table, place: Place, field: Half, to: Place)
+    ensures { table.new ≡ with_word table.old place (half_number field) to }
+{
+    set_half(table, place, field, to.number);
+}
+
+// Stores how many positions stand in the block of a place, which is kept as a link is.
+pub fn set_block(table: &mut Table, place: Place, positions: u16)
+    ensures { table.new ≡ with_word table.old place (half_number Block) positions }
+{
+    set_half(table, place, Half::Block, usize::from(positions));
 }
 
 // Whether one of so many places, from one on, has that value as that word. All are looked at: the compiler takes several at a time.
-pub fn has(table: &Table, from: usize, count: usize, field: usize, value: u32) -> bool
-    requires within { from + count ≤ table_places }
-    requires whole { (field < place_words) × (is_link field ≡ false) }
-    ensures { result ≡ has_among table.now from count field value }
+pub fn has(table: &Table, from: usize, count: usize, field: Whole, value: u32) -> bool
+    requires { from + count ≤ table_places }
+    ensures { result ≡ has_among table.now from count (whole_number field) value }
 {
     let mut some = false;
     for i in 0..count {
-        some = some | (get(table, from + i, field) == value);
+        some = some | (get(table, Place::new(from + i), field) == value);
     }
     some
 }

@@ -20,11 +20,11 @@ module _ (t : List ℕ) (kind place most i count child whole : ℕ) (w : count_f
   next further following h n f g =
       let l : most - i ≡ suc (most - (i + 1)) = omega arith in rw (f, g) (rw (l, count_from, ne_eqb child 0 n) at w)
 
-pub returns-then-child-eq0 : goal.returns-then-child-eq0
-returns-then-child-eq0 c = search (ended, rules)
+pub returns-then-is_root : goal.returns-then-is_root
+returns-then-is_root c = search (ended, rules)
 
 pub loop-preserved : goal.loop-preserved
-loop-preserved c = record { same_whole = search (next, rules); child_row = search rules }
+loop-preserved c = search (next, rules)
 
 pub returns : goal.returns
 returns c = search (spent, rules)

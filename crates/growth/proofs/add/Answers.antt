@@ -35,19 +35,20 @@ pub returns-then-count-ge-PLACES : goal.returns-then-count-ge-PLACES
 returns-then-count-ge-PLACES c = (search (full, rules), tt)
 
 pub next_position-position-requires : goal.next_position-position-requires
-next_position-position-requires c = (search rules, search (last_small, rules))
+next_position-position-requires c = search (last_small, rules)
 
 pub append-requires : goal.append-requires
-append-requires c = (search rules, search rules, search (last_small, rules))
+append-requires c = search (last_small, rules)
 
 pub returns : goal.returns
 returns c =
     let room : c.args.count < place_limit = search rules in
     let short : c.args.name.length < 65536 = search rules in
+    let s = c.new-child.ensures in
     let i = c.next_position-position.ensures in
-    let a = c.append.ensures in
+    let a = rw s at c.append.ensures in
     let b = c.tag.ensures in
-    let d = c.set.ensures in
-    let g = c.set-2.ensures in
-    let f = c.enter.ensures in
-    (new _ _ _ _ _ _ _ _ _ _ _ _ room i a b d g f, (sound _ _ _ _ _ _ _ _ _ _ _ _ room i a b d g f (search rules) (search rules) short, search rules))
+    let d = rw s at c.set.ensures in
+    let g = rw s at c.set-2.ensures in
+    let f = rw s at c.enter.ensures in
+    (rw s (new _ _ _ _ _ _ _ _ _ _ _ _ room i a b d g f), (sound _ _ _ _ _ _ _ _ _ _ _ _ room i a b d g f (search rules) (search rules) short, search rules))

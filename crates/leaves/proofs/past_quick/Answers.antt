@@ -1,22 +1,29 @@
--- `past_quick`: a law for each of its answers.
-use borrow.Author.Rules.{rules}
+-- `past_quick`: a law for each of its answers, and what is passed is a leaf, which ends behind where it begins.
+use Rattle.std.proofs.Common.{rules, arith}
+use Rattle.shapes.specs.laws.Leaf.{leaf_there, leaf_above}
 use Rattle.leaves.specs.laws.Quick.{same_fits, quick_same, quick_other, quick_null, quick_known, quick_changes}
 use Rattle.leaves.proofs.past_quick.Goals as goal
 
 pub overflow_add-result : goal.overflow_add-result
 overflow_add-result c = record { fits = search (same_fits, rules) }
 
-pub returns-then-is_same : goal.returns-then-is_same
-returns-then-is_same c = search (quick_same, rules)
+pub returns-then-is_same-clause-value : goal.returns-then-is_same-clause-value
+returns-then-is_same-clause-value c = search (quick_same, rules)
 
-pub returns-in_default : goal.returns-in_default
-returns-in_default c = search (quick_other, rules)
+pub returns-in_err-leaf-clause-value : goal.returns-in_err-leaf-clause-value
+returns-in_err-leaf-clause-value c = rw c.from_residual.ensures (search (quick_other, rules))
 
-pub returns-then-leaf : goal.returns-then-leaf
-returns-then-leaf c = quick_null _ _ _ _ _ _ _ c.leaf_at.ensures _ _ _ c.in-Some.is _ c.if-leaf.true c.set.ensures
+pub returns-then-leaf-clause-value : goal.returns-then-leaf-clause-value
+returns-then-leaf-clause-value c = quick_null _ _ _ _ _ _ _ c.leaf_at.ensures _ _ _ c.in_ok-leaf.was _ c.if-leaf.true c.set.ensures
 
-pub returns-then-get-leaf : goal.returns-then-get-leaf
-returns-then-get-leaf c = quick_known _ _ _ _ _ _ _ c.leaf_at.ensures _ _ _ c.in-Some.is _ c.get.ensures c.if-leaf.false c.if-get-leaf.true
+pub returns-then-leaf-clause-onward : goal.returns-then-leaf-clause-onward
+returns-then-leaf-clause-onward c = leaf_above _ _ _ _ _ _ _ (leaf_there _ _ _ _ _ c.leaf_at.ensures _ _ _ c.in_ok-leaf.was)
 
-pub returns : goal.returns
-returns c = quick_changes _ _ _ _ _ _ _ c.leaf_at.ensures _ _ _ c.in-Some.is _ c.get.ensures c.if-leaf.false c.if-get-leaf.false
+pub returns-then-get-leaf-clause-value : goal.returns-then-get-leaf-clause-value
+returns-then-get-leaf-clause-value c = quick_known _ _ _ _ _ _ _ c.leaf_at.ensures _ _ _ c.in_ok-leaf.was _ c.get.ensures c.if-leaf.false c.if-get-leaf.true
+
+pub returns-then-get-leaf-clause-onward : goal.returns-then-get-leaf-clause-onward
+returns-then-get-leaf-clause-onward c = leaf_above _ _ _ _ _ _ _ (leaf_there _ _ _ _ _ c.leaf_at.ensures _ _ _ c.in_ok-leaf.was)
+
+pub returns-clause-value : goal.returns-clause-value
+returns-clause-value c = quick_changes _ _ _ _ _ _ _ c.leaf_at.ensures _ _ _ c.in_ok-leaf.was _ c.get.ensures c.if-leaf.false c.if-get-leaf.false

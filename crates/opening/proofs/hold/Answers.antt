@@ -1,11 +1,7 @@
 -- `hold`: a child held, or a refusal.
 use borrow.Author.Rules.{rules}
-use Rattle.opening.specs.laws.Opening.{held_child, held_refused, child_place, child_room, child_held}
-use Rattle.places.specs.laws.Layout.{is_place}
+use Rattle.opening.specs.laws.Opening.{held_child, held_refused, child_held}
 use Rattle.opening.proofs.hold.Goals as goal
-
-pub touch-requires : goal.touch-requires
-touch-requires c = search (is_place, child_place, child_room, rules)
 
 pub returns : goal.returns
 returns c = (

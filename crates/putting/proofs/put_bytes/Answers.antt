@@ -12,8 +12,8 @@ copied bytes names part at e =
     rw (put_mid-paste at (at + length bytes - at) names part bytes (length bytes) e (omega arith) refl, take-length bytes)
     (append_assoc (take at names) bytes (drop (at + length bytes) names))
 
-pub returns-then-names-at : goal.returns-then-names-at
-returns-then-names-at c = no_room _ _ _ _ refl (search rules) (search rules)
+pub returns-then-buffer-at : goal.returns-then-buffer-at
+returns-then-buffer-at c = no_room _ _ _ _ refl (search rules) (search rules)
 
 pub returns : goal.returns
 returns c =

@@ -1,5 +1,5 @@
 -- The readers call one another in a circle, with the levels left falling.
-use borrow.Author.Rules.{rules}
+use Rattle.std.proofs.Common.{rules, arith}
 use mathlib.Core.Path.{refl}
 use native.Mathlib.Nat.{le_refl, le_trans}
 use Rattle.logic.specs.laws.Flag.{flagged}
@@ -55,7 +55,7 @@ read_elements-returns-in_err-next t c = (parts_refused _ _ _ _ _ _ _ _ _ _ _ _ c
 pub read_elements-read_part-requires : goal.read_elements-read_part-requires
 read_elements-read_part-requires t c =
     let step : c.element_part.result ≡ Ok (P.Step c.in-Step.step c.in-Step.value) = search rules in
-    (search rules, (search rules, part_unnamed c.args.commands.now c.loop-next.at _ _ _ c.element_part.ensures element_unnamed _ _ step))
+    (search rules, (search rules, part_unnamed c.args.batch.now.commands.now c.loop-next.at _ _ _ c.element_part.ensures element_unnamed _ _ step))
 
 pub read_elements-loop-next-smaller : goal.read_elements-loop-next-smaller
 read_elements-loop-next-smaller t c =
@@ -74,7 +74,7 @@ read_elements-loop-next-preserved t c =
     let read = c.read_part.ensures in
     let next = c.in_ok-traced-in-Step.was in
     let more = elements_more _ _ _ _ _ _ _ _ _ inv.0 _ part _ _ step _ _ read.0 _ _ next in
-    (elements_same _ _ _ _ _ _ _ _ _ _ c.past_same-at.ensures more, search (traced_ready, rules), le_trans inv.2 (traced_grows _ _ _ _ read.1 _ _ next), search rules, search rules)
+    (elements_same _ _ _ _ _ _ _ _ _ _ c.past_same-at.ensures more, search (traced_ready, rules), le_trans inv.2 (traced_grows _ _ _ _ read.1 _ _ next))
 
 pub read_elements-returns-in_err-traced-in-Step : goal.read_elements-returns-in_err-traced-in-Step
 read_elements-returns-in_err-traced-in-Step t c =
@@ -126,7 +126,7 @@ read_entries-loop-next-preserved t c =
     let next = c.in_ok-traced-in-Step.was in
     let more = parts_more _ _ _ _ _ _ _ _ _ _ _ _ inv.0 _ part _ _ step _ _ read.0 _ _ next in
     let counted = parts_counted _ _ _ _ _ _ _ _ _ _ _ _ inv.0 _ part _ _ step _ _ read.0 _ _ next _ (le_refl _) (search rules) in
-    ((more, search (traced_ready, rules), le_trans inv.2 (traced_grows _ _ _ _ read.1 _ _ next), search rules, search rules), counted)
+    ((more, search (traced_ready, rules), le_trans inv.2 (traced_grows _ _ _ _ read.1 _ _ next)), counted)
 
 pub read_fields-overflow_add-result : goal.read_fields-overflow_add-result
 read_fields-overflow_add-result t c =
@@ -162,33 +162,39 @@ read_fields-overflow_add-at t c =
     let child : c.open_field.result ≡ Ok (Some c.in-Some.field) = search rules in
     record { fits = whole_fits _ _ _ _ _ _ _ _ _ is _ inv.0 _ _ field.0 _ _ child _ (search rules) }
 
-pub read_fields-loop-field-smaller-then-quick-ne0 : goal.read_fields-loop-field-smaller-then-quick-ne0
-read_fields-loop-field-smaller-then-quick-ne0 t c =
+pub read_fields-loop-field-smaller-in-Some-past_quick : goal.read_fields-loop-field-smaller-in-Some-past_quick
+read_fields-loop-field-smaller-in-Some-past_quick t c =
     let is = c.requires.kind_value in
     let inv = c.loop-field.invariant in
     let field = c.open_field.ensures in
     let opened = placed_ok _ _ _ c.map_err.ensures.cases _ c.in_ok-field.was in
     let child : c.open_field.result ≡ Ok (Some c.in-Some.field) = search rules in
-    let quick = c.past_quick-quick.ensures in
-    let read = quick_read _ _ _ _ _ _ _ _ _ quick c.if-quick-ne0.true _ in
+    let passed : c.past_quick.result ≡ Some c.in-Some-past_quick.next = search rules in
+    let onward = rw passed at c.past_quick.ensures.onward in
+    let quick = rw passed at c.past_quick.ensures.value in
+    let some : c.in-Some-past_quick.next ≡ 0 → ⊥ = grind arith in
+    let read = quick_read _ _ _ _ _ _ _ _ _ quick some _ in
     fields_less _ _ _ _ _ _ _ _ _ is _ inv.0 _ _ field.0 _ _ child _ refl _ _ read _ _ refl
 
-pub read_fields-loop-field-preserved-then-quick-ne0 : goal.read_fields-loop-field-preserved-then-quick-ne0
-read_fields-loop-field-preserved-then-quick-ne0 t c =
+pub read_fields-loop-field-preserved-in-Some-past_quick : goal.read_fields-loop-field-preserved-in-Some-past_quick
+read_fields-loop-field-preserved-in-Some-past_quick t c =
     let is = c.requires.kind_value in
     let inv = c.loop-field.invariant in
     let field = c.open_field.ensures in
     let opened = placed_ok _ _ _ c.map_err.ensures.cases _ c.in_ok-field.was in
     let child : c.open_field.result ≡ Ok (Some c.in-Some.field) = search rules in
-    let quick = c.past_quick-quick.ensures in
-    let read = quick_read _ _ _ _ _ _ _ _ _ quick c.if-quick-ne0.true _ in
-    let sound = quick_sound _ _ _ _ _ _ _ _ _ quick c.if-quick-ne0.true (field_ready _ _ _ _ field.1 _ _ child) in
+    let passed : c.past_quick.result ≡ Some c.in-Some-past_quick.next = search rules in
+    let onward = rw passed at c.past_quick.ensures.onward in
+    let quick = rw passed at c.past_quick.ensures.value in
+    let some : c.in-Some-past_quick.next ≡ 0 → ⊥ = grind arith in
+    let read = quick_read _ _ _ _ _ _ _ _ _ quick some _ in
+    let sound = quick_sound _ _ _ _ _ _ _ _ _ quick some (field_ready _ _ _ _ field.1 _ _ child) in
     let more = fields_more _ _ _ _ _ _ _ _ _ is _ inv.0 _ _ field.0 _ _ child _ refl _ _ read _ _ refl in
     let still = field_still _ _ _ _ field.1 _ _ _ child inv.1.here in
-    (more, record { sound = sound; here = still }, le_trans inv.2 (field_grows _ _ _ _ field.1 _ _ child), search rules, search rules)
+    (more, record { sound = sound; here = still }, le_trans inv.2 (field_grows _ _ _ _ field.1 _ _ child))
 
-pub read_fields-overflow_add-at-else-quick-ne0 : goal.read_fields-overflow_add-at-else-quick-ne0
-read_fields-overflow_add-at-else-quick-ne0 t c =
+pub read_fields-overflow_add-at-in_default-past_quick : goal.read_fields-overflow_add-at-in_default-past_quick
+read_fields-overflow_add-at-in_default-past_quick t c =
     let is = c.requires.kind_value in
     let inv = c.loop-field.invariant in
     let field = c.open_field.ensures in
@@ -205,8 +211,8 @@ read_fields-read_name-name-requires t c =
     let child : c.open_field.result ≡ Ok (Some c.in-Some.field) = search rules in
     name_whole _ _ _ _ _ _ _ _ _ is _ inv.0 _ _ field.0 _ _ child
 
-pub read_fields-overflow_add-at-else-quick-ne0-2 : goal.read_fields-overflow_add-at-else-quick-ne0-2
-read_fields-overflow_add-at-else-quick-ne0-2 t c =
+pub read_fields-overflow_add-at-in_default-past_quick-2 : goal.read_fields-overflow_add-at-in_default-past_quick-2
+read_fields-overflow_add-at-in_default-past_quick-2 t c =
     let is = c.requires.kind_value in
     let inv = c.loop-field.invariant in
     let field = c.open_field.ensures in
@@ -220,10 +226,10 @@ read_fields-read_named-requires t c =
     let field = c.open_field.ensures in
     let opened = placed_ok _ _ _ c.map_err.ensures.cases _ c.in_ok-field.was in
     let child : c.open_field.result ≡ Ok (Some c.in-Some.field) = search rules in
-    let quick = c.past_quick-quick.ensures in
-    let same = quick_none _ _ _ _ _ _ _ _ c.if-quick-ne0.false quick in
+    let passed : c.past_quick.result ≡ None = search rules in
+    let same = quick_none _ _ _ _ _ _ _ _ refl (rw passed at c.past_quick.ensures.value) in
     let inside = name_inside _ _ _ _ _ _ _ _ _ c.requires.kind_value _ inv.0 _ _ field.0 _ _ child _ c.read_name-name.ensures in
-    (search rules, ((rw same (field_ready _ _ _ _ field.1 _ _ child), c.requires.ready.1), inside))
+    (search rules, (rw same (field_ready _ _ _ _ field.1 _ _ child), inside))
 
 pub read_fields-loop-field-smaller : goal.read_fields-loop-field-smaller
 read_fields-loop-field-smaller t c =
@@ -232,8 +238,8 @@ read_fields-loop-field-smaller t c =
     let field = c.open_field.ensures in
     let opened = placed_ok _ _ _ c.map_err.ensures.cases _ c.in_ok-field.was in
     let child : c.open_field.result ≡ Ok (Some c.in-Some.field) = search rules in
-    let quick = c.past_quick-quick.ensures in
-    let same = quick_none _ _ _ _ _ _ _ _ c.if-quick-ne0.false quick in
+    let passed : c.past_quick.result ≡ None = search rules in
+    let same = quick_none _ _ _ _ _ _ _ _ refl (rw passed at c.past_quick.ensures.value) in
     let name = c.read_name-name.ensures in
     let read = c.read_named.ensures in
     let next = c.in_ok-traced.was in
@@ -247,15 +253,15 @@ read_fields-loop-field-preserved t c =
     let field = c.open_field.ensures in
     let opened = placed_ok _ _ _ c.map_err.ensures.cases _ c.in_ok-field.was in
     let child : c.open_field.result ≡ Ok (Some c.in-Some.field) = search rules in
-    let quick = c.past_quick-quick.ensures in
-    let same = quick_none _ _ _ _ _ _ _ _ c.if-quick-ne0.false quick in
+    let passed : c.past_quick.result ≡ None = search rules in
+    let same = quick_none _ _ _ _ _ _ _ _ refl (rw passed at c.past_quick.ensures.value) in
     let name = c.read_name-name.ensures in
     let read = c.read_named.ensures in
     let next = c.in_ok-traced.was in
     let more = fields_more _ _ _ _ _ _ _ _ _ is _ inv.0 _ _ field.0 _ _ child _ name _ _ (rw same at read.0) _ _ next in
     let still = field_still _ _ _ _ field.1 _ _ _ child inv.1.here in
     let grows = field_grows _ _ _ _ field.1 _ _ child in
-    (more, traced_ready _ _ _ _ read.1 _ _ next _ still, le_trans inv.2 (le_trans grows (traced_grows _ _ _ _ read.1 _ _ next)), search rules, search rules)
+    (more, traced_ready _ _ _ _ read.1 _ _ next _ still, le_trans inv.2 (le_trans grows (traced_grows _ _ _ _ read.1 _ _ next)))
 
 pub read_fields-returns-in_err-traced : goal.read_fields-returns-in_err-traced
 read_fields-returns-in_err-traced t c =
@@ -264,8 +270,8 @@ read_fields-returns-in_err-traced t c =
     let field = c.open_field.ensures in
     let opened = placed_ok _ _ _ c.map_err.ensures.cases _ c.in_ok-field.was in
     let child : c.open_field.result ≡ Ok (Some c.in-Some.field) = search rules in
-    let quick = c.past_quick-quick.ensures in
-    let same = quick_none _ _ _ _ _ _ _ _ c.if-quick-ne0.false quick in
+    let passed : c.past_quick.result ≡ None = search rules in
+    let same = quick_none _ _ _ _ _ _ _ _ refl (rw passed at c.past_quick.ensures.value) in
     let name = c.read_name-name.ensures in
     let read = c.read_named.ensures in
     (fields_stopped _ _ _ _ _ _ _ _ _ is _ inv.0 _ _ field.0 _ _ child _ name _ _ (rw same at read.0) _ _ c.in_err-traced.was (search rules), search rules)
@@ -352,7 +358,7 @@ read_positions-returns-in_err-next t c = (parts_refused _ _ _ _ _ _ _ _ _ _ _ _ 
 pub read_positions-read_part-requires : goal.read_positions-read_part-requires
 read_positions-read_part-requires t c =
     let step : c.value_part.result ≡ Ok (P.Step c.in-Step.step c.in-Step.value) = search rules in
-    (search rules, (search rules, part_unnamed c.args.commands.now c.loop-i.at _ _ _ c.value_part.ensures (position_unnamed c.loop-i.i) _ _ step))
+    (search rules, (search rules, part_unnamed c.args.batch.now.commands.now c.loop-i.at _ _ _ c.value_part.ensures (position_unnamed c.loop-i.i) _ _ step))
 
 pub read_positions-returns-in_err-traced-in-Step : goal.read_positions-returns-in_err-traced-in-Step
 read_positions-returns-in_err-traced-in-Step t c =
@@ -377,7 +383,7 @@ read_positions-loop-i-preserved t c =
     let read = c.read_part.ensures in
     let next = c.in_ok-traced-in-Step.was in
     let more = parts_more _ _ _ _ _ _ _ _ _ _ _ _ inv.0 _ part _ _ step _ _ read.0 _ _ next in
-    ((more, search (traced_ready, rules), le_trans inv.2 (traced_grows _ _ _ _ read.1 _ _ next), search rules, search rules), search rules)
+    ((more, search (traced_ready, rules), le_trans inv.2 (traced_grows _ _ _ _ read.1 _ _ next)), search rules)
 
 pub read_positions-returns : goal.read_positions-returns
 read_positions-returns t c = (parts_end _ _ _ _ _ _ _ _ _ _ _ _ c.loop-i.invariant.0.0 _ (positions_end _ _ _ _ _ (search rules)) _ refl, search rules)

@@ -6,17 +6,18 @@ use Rattle.places.specs.Layout.{Ready}
 use Rattle.reading.specs.Reading.{parts_from, parts_by, readers}
 use Prim.Native.Nat.{◌-◌, ℕ, ◌+◌, ◌*◌, ◌≤◌}
 use mathlib.Core.List.{List}
-use Rattle.options.specs.declared.TracingOptions.{TracingOptions}
+use Rattle.leaves.specs.declared.Batch.{Batch}
 use Rattle.leaves.specs.declared.Site.{Site}
 use Rattle.reading.proofs.+readers.Given as goal
 
--- ---- the loops: from here on the parts give what they give from the start on, the place is ready, no place is lost, and
--- the levels stay
-abbrev pub Left : List ℕ → List ℕ → TracingOptions → ℕ → ℕ → ℕ → Site → List ℕ → ℕ → ℕ → Site → List ℕ → Type 0
-Left commands text options kind positions start site table₀ i at grown table =
-    (parts_from commands text (readers commands text options.word grown.levels) kind positions grown.place i at grown.count table
-    ≡ parts_by commands text (readers commands text options.word site.levels) kind positions site.place start site.count table₀)
-    × Ready text table grown.count grown.place × (site.count ≤ grown.count) × (length table ≡ length table₀) × (grown.levels ≡ site.levels)
+-- ---- the loops: from here on the parts give what they give from the start on, the place is ready, and no place is lost
+abbrev pub Left : Batch → ℕ → ℕ → ℕ → Site → List ℕ → ℕ → ℕ → ℕ → List ℕ → Type 0
+Left batch kind positions start site table₀ i at count table =
+    let commands : List ℕ = batch.commands.now in
+    let text : List ℕ = batch.text.now in
+    (parts_from commands text (readers commands text batch.options.word site.levels) kind positions site.place i at count table
+    ≡ parts_by commands text (readers commands text batch.options.word site.levels) kind positions site.place start site.count table₀)
+    × Ready text table count site.place × (site.count ≤ count)
 
 abbrev pub decreases-read_container : goal.decreases-read_container
 decreases-read_container l = 8 * l.site.levels + 1
@@ -55,25 +56,25 @@ abbrev pub decreases-read_variant : goal.decreases-read_variant
 decreases-read_variant l = 8 * l.site.levels + 1
 
 abbrev pub invariant-read_elements-loop-next : goal.invariant-read_elements-loop-next
-invariant-read_elements-loop-next l = Left l.commands l.text l.options sequence_kind 0 l.start l.initial.grown l.initial.table 0 l.at l.grown l.table
+invariant-read_elements-loop-next l = Left l.batch sequence_kind 0 l.start l.fn.site l.fn.table 0 l.at l.count l.table
 
 abbrev pub decreases-read_elements-loop-next : goal.decreases-read_elements-loop-next
-decreases-read_elements-loop-next l = length l.commands - l.at
+decreases-read_elements-loop-next l = length l.batch.commands.now - l.at
 
 abbrev pub invariant-read_entries-loop-next : goal.invariant-read_entries-loop-next
-invariant-read_entries-loop-next l = Left l.commands l.text l.options map_kind 0 l.start l.initial.grown l.initial.table l.i l.at l.grown l.table × (l.i ≤ l.at)
+invariant-read_entries-loop-next l = Left l.batch map_kind 0 l.start l.fn.site l.fn.table l.i l.at l.count l.table × (l.i ≤ l.at)
 
 abbrev pub decreases-read_entries-loop-next : goal.decreases-read_entries-loop-next
-decreases-read_entries-loop-next l = length l.commands - l.at
+decreases-read_entries-loop-next l = length l.batch.commands.now - l.at
 
 abbrev pub invariant-read_fields-loop-field : goal.invariant-read_fields-loop-field
-invariant-read_fields-loop-field l = Left l.commands l.text l.options l.kind 0 l.start l.initial.grown l.initial.table 0 l.at l.grown l.table
+invariant-read_fields-loop-field l = Left l.batch l.kind 0 l.start l.fn.site l.fn.table 0 l.at l.count l.table
 
 abbrev pub decreases-read_fields-loop-field : goal.decreases-read_fields-loop-field
-decreases-read_fields-loop-field l = length l.commands - l.at
+decreases-read_fields-loop-field l = length l.batch.commands.now - l.at
 
 abbrev pub invariant-read_positions-loop-i : goal.invariant-read_positions-loop-i
-invariant-read_positions-loop-i l = Left l.commands l.text l.options tuple_kind l.positions l.start l.initial.grown l.initial.table l.i l.at l.grown l.table × (l.i ≤ l.positions)
+invariant-read_positions-loop-i l = Left l.batch tuple_kind l.positions l.start l.fn.site l.fn.table l.i l.at l.count l.table × (l.i ≤ l.positions)
 
 abbrev pub decreases-read_positions-loop-i : goal.decreases-read_positions-loop-i
-decreases-read_positions-loop-i l = length l.commands - l.at
+decreases-read_positions-loop-i l = length l.batch.commands.now - l.at

@@ -15,7 +15,7 @@ use Rattle.model.specs.Tracing.{place_limit, has}
 use Rattle.equality.specs.laws.Base.{same_true, or_cases}
 use Rattle.shapes.specs.declared.Step as Flat
 use Rattle.shapes.specs.Steps.{field_code, code_of, name_of}
-use Rattle.search.specs.declared.Slot.{Slot}
+use Rattle.search.specs.Tree.{Slot}
 use Rattle.places.specs.Layout.{kind_word, root_word, block_word, left_word, next_word, step_word, right_word, tag_word, position_word}
 use Rattle.search.specs.Tree.{is_numbered, follow, slot, seek}
 use Rattle.growth.specs.Growth.{appended, position_in, tagged, entered}

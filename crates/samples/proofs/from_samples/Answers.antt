@@ -1,6 +1,5 @@
 -- `from_samples`: the options are those that are given, and what they tell of the text is so.
-use borrow.Author.Rules.{rules}
-use mathlib.Core.Path.{◌≡◌, sym, ◌∙◌}
+use mathlib.Core.Path.{◌≡◌}
 use mathlib.Core.List.{List}
 use Prim.Native.Nat.{ℕ}
 use Rattle.leaves.specs.Leaves.{Out}
@@ -9,9 +8,6 @@ use Rattle.samples.proofs.from_samples.Goals as goal
 
 same_word : (commands text : List ℕ) (word given : ℕ) (t : List ℕ) (o : Out) → o ≡ from_samples commands text word t → word ≡ given → o ≡ from_samples commands text given t
 same_word commands text word given t o e w = rw w at e
-
-pub read_records-requires : goal.read_records-requires
-read_records-requires c = (search rules, λ e. sym c.is_ascii.ensures ∙ sym c.over.ensures.1 ∙ e)
 
 pub returns : goal.returns
 returns c =

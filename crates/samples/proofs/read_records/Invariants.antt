@@ -7,7 +7,7 @@ use Rattle.samples.specs.Samples.{records_at, from_samples}
 use Rattle.samples.proofs.read_records.Given as goal
 
 abbrev pub invariant-loop-read : goal.invariant-loop-read
-invariant-loop-read l = (records_at l.commands l.text l.options.word l.read.next l.read.count l.table ≡ from_samples l.commands l.text l.options.word l.initial.table) × Ready l.text l.table l.read.count 0 × (length l.table ≡ length l.initial.table)
+invariant-loop-read l = (records_at l.batch.commands.now l.batch.text.now l.batch.options.word l.read.next l.read.count l.table ≡ from_samples l.batch.commands.now l.batch.text.now l.batch.options.word l.initial.table) × Ready l.batch.text.now l.table l.read.count 0 × (length l.table ≡ length l.initial.table)
 
 abbrev pub decreases-loop-read : goal.decreases-loop-read
-decreases-loop-read l = length l.commands - l.read.next
+decreases-loop-read l = length l.batch.commands.now - l.read.next

@@ -16,9 +16,8 @@ one_more : (t : List ℕ) (place newest last r : ℕ) → newest ≡ newest_of t
 unfolding newest_of
 one_more t place newest last r before here e = rw (add-one, ← before, ← here) e
 
-pub loop-place-init : goal.loop-place-init
-loop-place-init c = search (none, rules)
+pub loop-number-init : goal.loop-number-init
+loop-number-init c = search (none, rules)
 
-pub loop-place-preserved : goal.loop-place-preserved
-loop-place-preserved c =
-    (one_more _ _ _ _ _ c.loop-place.invariant.0 c.link.ensures.0 (search rules), search rules)
+pub loop-number-preserved : goal.loop-number-preserved
+loop-number-preserved c = (search (one_more, rules), search rules)

@@ -4,5 +4,5 @@ use Rattle.model.specs.Tracing.{place_limit}
 use Rattle.samples_vectors.specs.Made.{newest_of}
 use Rattle.samples_vectors.proofs.made.Given as goal
 
-abbrev pub invariant-loop-place : goal.invariant-loop-place
-invariant-loop-place l = (l.newest ≡ newest_of l.table l.place) × (l.newest < place_limit)
+abbrev pub invariant-loop-number : goal.invariant-loop-number
+invariant-loop-number l = (l.newest ≡ newest_of l.table l.number) × (l.newest < place_limit)

@@ -1,12 +1,13 @@
 -- The emission of a place, of its children and of a child, as one cycle: the levels fall. Over the children, those that are left give what all give.
 use borrow.Author.Rules.{rules}
+use mathlib.Core.Path.{◌≡◌}
 use Prim.Native.Nat.{◌≤◌}
 use native.Mathlib.Omega.{arith}
 use Rattle.schema.proofs.Emits.{spent, ended, next, in_child, some_level, leaf, opened}
 use Rattle.schema.proofs.+emitting.Goals as goal
 
 pub emit-returns-then-is_leaf : goal.emit-returns-then-is_leaf
-emit-returns-then-is_leaf t c = (search (leaf, rules), search rules)
+emit-returns-then-is_leaf t c = search (leaf, rules)
 
 pub emit-overflow_sub-levels : goal.emit-overflow_sub-levels
 emit-overflow_sub-levels t c = search (some_level, rules)
@@ -15,22 +16,16 @@ pub emit-emit_children-requires : goal.emit-emit_children-requires
 emit-emit_children-requires t c = let h : 1 ≤ c.args.levels = search (some_level, rules) in (omega arith, search rules)
 
 pub emit-returns : goal.emit-returns
-emit-returns t c = (search (opened, rules), search rules)
+emit-returns t c = search (opened, rules)
 
 pub emit_child-returns : goal.emit_child-returns
-emit_child-returns t c = (search (in_child, rules), search rules)
+emit_child-returns t c = search (in_child, rules)
 
-pub emit_children-returns-then-child-eq0 : goal.emit_children-returns-then-child-eq0
-emit_children-returns-then-child-eq0 t c = (search (ended, rules), search rules)
+pub emit_children-returns-then-is_root : goal.emit_children-returns-then-is_root
+emit_children-returns-then-is_root t c = let none : c.loop.child ≡ 0 = grind arith in search (ended, none, rules)
 
 pub emit_children-loop-preserved : goal.emit_children-loop-preserved
-emit_children-loop-preserved t c = record {
-  same_whole = search (next, rules);
-  child_row = search rules;
-  place_row = c.loop.invariant.place_row;
-  linked = c.loop.invariant.linked;
-  within = search rules;
-}
+emit_children-loop-preserved t c = let some : c.loop.child ≡ 0 → ⊥ = grind arith in search (next, some, rules)
 
 pub emit_children-returns : goal.emit_children-returns
-emit_children-returns t c = (search (spent, rules), search rules)
+emit_children-returns t c = search (spent, rules)

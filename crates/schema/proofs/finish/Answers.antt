@@ -14,7 +14,9 @@ use Rattle.model.specs.Emission.{emits_struct}
 use Rattle.places.specs.Layout.{kind_word, null_word, root_place}
 use Rattle.std.specs.Prelude.{Ok, Err}
 use Rattle.walk.specs.Walk.{counts}
+use Rattle.putting.specs.declared.Output.{Output}
 use Rattle.putting.specs.Put.{writing}
+use Rattle.putting.specs.Output.{written_by}
 use Rattle.schema.specs.Emit.{answered, emitted_at, fields_below, level_limit, finished}
 use Rattle.schema.proofs.finish.Goals as goal
 
@@ -39,17 +41,18 @@ module _ (options : ℕ) (text t fields names : List ℕ) (records bytes below k
         unfolding finished when◌then◌else◌
         short_fields h = rw (← u, ne_eqb seen 1 n, ← k, ne_eqb kind null m, sym r ∙ not-false root s, lt-ltb (length fields) (records * 8) h)
 
-        module _ (g : records * 8 ≤ length fields) where
+        module _ (g' : records * 8 ≤ length fields) where
           short_names : length names < bytes → answered (Err F.ShortBuffer) fields names ≡ finished options text t fields names records bytes below
           unfolding finished when◌then◌else◌
           short_names h =
-              rw (← u, ne_eqb seen 1 n, ← k, ne_eqb kind null m, sym r ∙ not-false root s, le-ltb (length fields) (records * 8) g, lt-ltb (length names) bytes h)
+              rw (← u, ne_eqb seen 1 n, ← k, ne_eqb kind null m, sym r ∙ not-false root s, le-ltb (length fields) (records * 8) g', lt-ltb (length names) bytes h)
 
-          emitted : (i j : ℕ) (out named : List ℕ) → bytes ≤ length names → writing i j out named ≡ fields_below t (emitted_at options text t level_limit) kind root_place (writing 0 0 fields names) →
+          emitted : (p : Output) (out named : List ℕ) → bytes ≤ length names → out ≡ p.fields.now → named ≡ p.names.now →
+              written_by p ≡ fields_below t (emitted_at options text t level_limit) kind root_place (writing 0 0 fields names) →
               answered (Ok (counts records bytes below)) out named ≡ finished options text t fields names records bytes below
           unfolding finished when◌then◌else◌
-          emitted i j out named h e =
-              rw (← u, ne_eqb seen 1 n, ← k, ne_eqb kind null m, sym r ∙ not-false root s, le-ltb (length fields) (records * 8) g, le-ltb (length names) bytes h, ← e)
+          emitted p out named h f g e =
+              rw (← u, ne_eqb seen 1 n, ← k, ne_eqb kind null m, sym r ∙ not-false root s, le-ltb (length fields) (records * 8) g', le-ltb (length names) bytes h, ← e, f, g)
 
 pub returns-then-get-eq1 : goal.returns-then-get-eq1
 returns-then-get-eq1 c = search (nullable_root_lem, rules)
@@ -69,4 +72,4 @@ returns-then-names-counts c = search (short_names, rules)
 pub returns : goal.returns
 returns c =
     emitted _ _ _ _ _ _ _ _ _ _ c.get-kind.ensures c.get.ensures c.if-get-eq1.false c.if-kind-eq-UNKNOWN.false _ c.emits_struct.ensures (rw c.if-not-emits_struct.false refl)
-    c.if-fields-counts.false _ _ _ _ c.if-names-counts.false c.emit_children.ensures.0
+    c.if-fields-counts.false c.emit_children.new.out _ _ c.if-names-counts.false (search rules) (search rules) (rw c.new-out.ensures.nothing at c.emit_children.ensures.written)

@@ -14,28 +14,29 @@ use Rattle.words.specs.Word.{word}
 use Rattle.model.specs.Emission.{type_of, strategy_of}
 use Rattle.places.specs.Layout.{kind_word}
 use Rattle.places.specs.Reading.{child_name}
-use Rattle.putting.specs.Put.{put, put_bytes, record_of, writing, both}
+use Rattle.putting.specs.Put.{record_of, Writing, with_record, with_name}
+use Rattle.putting.proofs.Puts.{name_then_record}
 use Rattle.fields.specs.Fields.{is_dictionary, field_count}
 use Rattle.schema.specs.Emit.{field_at}
 use Rattle.schema.proofs.put_field.Goals as goal
 
-module _ (options : ℕ) (text t : List ℕ) (place : ℕ) (nullable : Bool) (number i j next named size : ℕ) (fields names records bytes : List ℕ)
-    (is : Bool) (d : is ≡ is_dictionary options t place) (l : size ≡ length (child_name text t place)) (q : put named bytes ≡ put_bytes (child_name text t place) names j) where
-  of_dictionary : (type : DataType) (code strategy : ℕ) → is ≡ true → code_of type ≡ dictionary_type options → code ≡ code_of type → strategy ≡ no_strategy →
-      put next records ≡ put_bytes (record_of code nullable strategy number size 0) fields i →
-      writing next named records bytes ≡ field_at options text t place nullable number (writing i j fields names)
-  unfolding field_at both when◌then◌else◌
-  of_dictionary type code strategy p e f s r = rw (sym d ∙ p, ← l, ← (f ∙ e), ← (rw s at r), ← q)
+module _ (options : ℕ) (text t : List ℕ) (place : ℕ) (nullable : Bool) (number size : ℕ) (before behind w : Writing)
+    (is : Bool) (d : is ≡ is_dictionary options t place) (l : size ≡ length (child_name text t place)) (q : behind ≡ with_name (child_name text t place) before) where
+  of_dictionary : (type : DataType) (code : ℕ) → is ≡ true → code_of type ≡ dictionary_type options → code ≡ code_of type →
+      w ≡ with_record (record_of code nullable no_strategy number size 0) behind → w ≡ field_at options text t place nullable number before
+  unfolding field_at when◌then◌else◌
+  of_dictionary type code p e f r =
+      rw (sym d ∙ p, ← l, ← (f ∙ e), ← (name_then_record (record_of code nullable no_strategy number size 0) (child_name text t place) before), ← q) r
 
-  of_kind : (kind code strategy count : ℕ) (how : Strategy) → is ≡ false → kind ≡ word t place kind_word → code ≡ type_of options kind % 256 →
-      strategy_code how ≡ strategy_of kind → strategy ≡ strategy_code how → count ≡ field_count t kind place →
-      put next records ≡ put_bytes (record_of code nullable strategy number size count) fields i →
-      writing next named records bytes ≡ field_at options text t place nullable number (writing i j fields names)
-  unfolding field_at both when◌then◌else◌
-  of_kind kind code strategy count how p k e s c n r = rw (sym d ∙ p, ← k, ← l, ← e, ← (c ∙ s), ← n, ← r, ← q)
+  of_kind : (kind code count : ℕ) (how : Strategy) → is ≡ false → kind ≡ word t place kind_word → code ≡ type_of options kind % 256 →
+      strategy_code how ≡ strategy_of kind → count ≡ field_count t kind place →
+      w ≡ with_record (record_of code nullable (strategy_code how) number size count) behind → w ≡ field_at options text t place nullable number before
+  unfolding field_at when◌then◌else◌
+  of_kind kind code count how p k e s n r =
+      rw (sym d ∙ p, ← k, ← l, ← e, ← s, ← n, ← (name_then_record (record_of code nullable (strategy_code how) number size count) (child_name text t place) before), ← q) r
 
 pub returns-then-is_dictionary : goal.returns-then-is_dictionary
-returns-then-is_dictionary c = (search (of_dictionary, rules), search rules)
+returns-then-is_dictionary c = search (of_dictionary, rules)
 
 pub returns : goal.returns
-returns c = (search (of_kind, rules), search rules)
+returns c = search (of_kind, rules)

@@ -4,8 +4,8 @@ use Prim.Native.Nat.{◌+◌, ◌-◌, ◌≤◌}
 use Rattle.search.specs.Scan.{few_places, field_among}
 use Rattle.search.proofs.find_among.Given as goal
 
-abbrev pub invariant-loop-child : goal.invariant-loop-child
-invariant-loop-child l = (field_among l.text l.place l.name l.table l.child (l.from + few_places - l.child) ≡ field_among l.text l.place l.name l.table l.from few_places) × (l.child ≤ l.from + few_places)
+abbrev pub invariant-loop-number : goal.invariant-loop-number
+invariant-loop-number l = (field_among l.text l.place l.name l.table l.number (l.from + few_places - l.number) ≡ field_among l.text l.place l.name l.table l.from few_places) × (l.number ≤ l.from + few_places)
 
-abbrev pub decreases-loop-child : goal.decreases-loop-child
-decreases-loop-child l = l.from + few_places - l.child
+abbrev pub decreases-loop-number : goal.decreases-loop-number
+decreases-loop-number l = l.from + few_places - l.number

@@ -4,6 +4,7 @@ use Rattle.std.proofs.Math.Path.{refl, sym, fun_ext}
 use Rattle.std.proofs.Common.{ap, ◌∙◌, ne_eqb, eqb-true, ltb-true}
 use Rattle.std.proofs.lemmas.Bool.{false≢true, eqb-false}
 use native.Mathlib.Omega.{arith}
+use borrow.Author.Tests.{lt-ltb}
 use Rattle.logic.specs.Test.{when◌then◌else◌}
 use Rattle.logic.specs.laws.Test.{cases, both}
 use Rattle.logic.specs.Turns.{Turn, done, turns}
@@ -18,7 +19,24 @@ use Rattle.model.specs.Tracing.{place_limit}
 use Rattle.shapes.specs.Steps.{field_code, unpacked_name}
 use Rattle.places.specs.Layout.{first_word, block_word, next_word, step_word, name_word, tag_word, Tagged, Sound, turn_limit}
 use Rattle.search.specs.Search.{is_at, find_turn, find_from, find_in, in_block}
+use Rattle.places.specs.Reading.{link_at}
 use Rattle.places.specs.laws.Layout.{first_below, next_below}
+
+-- ---- the links that a search goes by lead to places
+module _ (text t : List ℕ) (n p x : ℕ) (s : Sound text t n) (h : p < n) where
+  pub first_link : x ≡ link_at t p first_word → x ≡ word t p first_word
+  unfolding link_at when◌then◌else◌
+  first_link e =
+      let m : n ≤ place_limit = s.linked.most in
+      let b = first_below text t n p _ s h refl in
+      e ∙ rw (lt-ltb (word t p first_word) place_limit (omega arith)) refl
+
+  pub next_link : x ≡ link_at t p next_word → x ≡ word t p next_word
+  unfolding link_at when◌then◌else◌
+  next_link e =
+      let m : n ≤ place_limit = s.linked.most in
+      let b = next_below text t n p _ s h refl in
+      e ∙ rw (lt-ltb (word t p next_word) place_limit (omega arith)) refl
 
 -- ---- the search for a child
 -- how many children may still follow: numbers rise, and 0 is none

@@ -10,9 +10,8 @@ use Rattle.logic.specs.Turns.{Turn, done, after, turns}
 use Rattle.logic.specs.laws.Invariant.{Keeps, goes_on_within, ends_within, holds_within}
 use Rattle.words.specs.Word.{word}
 use Rattle.model.specs.Tracing.{place_limit}
-use Rattle.search.specs.declared.Slot.{Slot}
 use Rattle.places.specs.Layout.{root_word, left_word, right_word, step_word, turn_limit}
-use Rattle.search.specs.Tree.{Seeking, follow, seek, seek_at, seek_from, seek_stop, seek_turn, seeking, side_word, slot}
+use Rattle.search.specs.Tree.{Slot, Seeking, follow, seek, seek_at, seek_from, seek_stop, seek_turn, seeking, side_word, slot}
 
 -- ---- a link
 pub follow_below : (place field n : ℕ) (t : List ℕ) → (follow place field n t ≡ 0 → ⊥) → (place < follow place field n t) × (follow place field n t < n)

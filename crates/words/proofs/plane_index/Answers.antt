@@ -1,4 +1,5 @@
 -- `plane_index`: in the gaps, or in a plane.
+use Rattle.std.proofs.Common.{rules}
 use mathlib.Core.Path.{◌≡◌}
 use Prim.Native.Nat.{ℕ, ◌+◌, ◌-◌, ◌*◌, ◌/◌, ◌%◌, ◌<◌}
 use native.Mathlib.Omega.{arith}
@@ -14,7 +15,7 @@ in_plane : (row place : ℕ) → IsRow place → row < row_words → (row ≡ 0 
 in_plane row place l m n = (index_plane row place n, omega (arith, n))
 
 pub returns-then-row-eq0 : goal.returns-then-row-eq0
-returns-then-row-eq0 c = in_gap _ _ c.requires.0 c.if-row-eq0.true
+returns-then-row-eq0 c = search (in_gap, rules)
 
 pub returns : goal.returns
-returns c = in_plane _ _ c.requires.0 c.requires.1 c.if-row-eq0.false
+returns c = search (in_plane, rules)

@@ -11,7 +11,7 @@ use Rattle.model.specs.Kinds.{Step, same}
 use Rattle.model.specs.Tracing.{place_limit, has}
 use Rattle.equality.specs.laws.Base.{or_cases}
 use Rattle.shapes.specs.Steps.{field_code}
-use Rattle.search.specs.declared.Slot.{Slot}
+use Rattle.search.specs.Tree.{Slot}
 use Rattle.places.specs.Layout.{root_word, block_word, left_word, step_word, right_word}
 use Rattle.search.specs.laws.Tree.{Ends, seek_ends, Again, seek_again}
 use Rattle.search.specs.Tree.{follow, slot, seek}
