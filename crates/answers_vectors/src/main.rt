@@ -40,7 +40,8 @@ fn call(
     )
 }
 
-// Whether the call gives what the question says: these field records and names, or its refusal.
+// Whether the call gives what the question says: these field records and names, or its refusal. Table and buffers are of fixed sizes, as
+// what the call is lent is.
 fn is_met(
     question: &Question<'_>,
     commands: &[u8],

@@ -206,7 +206,8 @@ fn can_begin(s: &[u8]) -> bool
     matches!(s, [first, ..] if first.is_ascii_digit() || *first == b'+' || *first == b'-')
 }
 
-// The fixed forms. Their bytes are all there, so that no test has to come before another: they are joined by `&`.
+// The fixed forms. Their bytes are all there, so that no test has to come before another: they are joined by `&`. How many there are
+// differs from one to the next, so arrays would name as many lengths as the clauses do.
 fn two_digits(s: &[u8], at: usize) -> bool
     requires { at + 2 ≤ length s.now }
     ensures { result ≡ two_digits s.now at }

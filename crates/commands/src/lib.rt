@@ -308,36 +308,26 @@ pub fn read_command(
 ) -> Result<(Command, usize), Refused>
     ensures { result ≡ read_command commands.now text.now at due }
 {
-    let bad_command = Refused {
-        refusal: Refusal::BadCommand,
-        place: at,
-    };
     if commands.len() <= at {
-        return Err(bad_command);
+        return Err(Refusal::BadCommand.at(at));
     }
     let byte = read_byte(commands, at);
     if COMMANDS <= byte {
-        return Err(bad_command);
+        return Err(Refusal::BadCommand.at(at));
     }
     let operands = operand_count(byte);
     let width = 1 + 2 * operands as usize;
     if commands.len() - at < width {
-        return Err(bad_command);
+        return Err(Refusal::BadCommand.at(at));
     }
     if !due.admits(byte) {
-        return Err(bad_command);
+        return Err(Refusal::BadCommand.at(at));
     }
     if has_bad_name(commands, text, at + 1, operands) {
-        return Err(Refused {
-            refusal: Refusal::BadName,
-            place: at,
-        });
+        return Err(Refusal::BadName.at(at));
     }
     if due.is_bad_key(byte) {
-        return Err(Refused {
-            refusal: Refusal::BadKey,
-            place: at,
-        });
+        return Err(Refusal::BadKey.at(at));
     }
     Ok((command_of(byte, commands, at + 1), at + width))
 }

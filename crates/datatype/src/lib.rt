@@ -48,10 +48,10 @@ pub enum DataType {
 // How a field without a direct match in Arrow is to be read (strategy.rs). Tracing samples gives no other.
 #[derive(Clone, Copy, PartialEq, Eq)]
 pub enum Strategy {
-    None,
-    TupleAsStruct,
-    MapAsStruct,
-    UnknownVariant,
+    None = 0,
+    TupleAsStruct = 1,
+    MapAsStruct = 2,
+    UnknownVariant = 3,
 }
 
 // A code that is no type's.
@@ -157,12 +157,7 @@ impl From<Strategy> for u8 {
     ghost from_gives = { λ strategy code. code ≡ strategy_code strategy };
 
     fn from(strategy: Strategy) -> u8 {
-        match strategy {
-            Strategy::None => 0,
-            Strategy::TupleAsStruct => 1,
-            Strategy::MapAsStruct => 2,
-            Strategy::UnknownVariant => 3,
-        }
+        strategy as u8
     }
 }
 

@@ -12,6 +12,7 @@ ghost use Rattle.fields.specs.Fields.{count_with, count_below, field_count, lack
 
 use datatype::{DataType, Strategy};
 use options::TracingOptions;
+use places::Children;
 use words::{Place, Table, Whole};
 
 // The count of fields after a child: the slots of a union up to its own.
@@ -30,13 +31,8 @@ fn count_children(table: &Table, kind: u32, place: Place) -> u32
     ensures { result ≡ count_below table.now kind place }
 {
     let mut count: u32 = 0;
-    let mut child = places::next_child(table, false, kind, place, Place::ROOT);
-    for _ in 0..places::CHILDREN {
-        if child.is_root() {
-            return count;
-        }
+    for child in Children::new(table, false, kind, place) {
         count = count_with(kind, table, child, count);
-        child = places::next_child(table, false, kind, place, child);
     }
     count
 }

@@ -30,7 +30,7 @@ fn enter(place: Place, code: u32, child: Place, table: &mut Table)
     words::set_link(table, slot.place, slot.field, child);
 }
 
-// The link to a new last child: from the place where it is the first, else from the last before it.
+// The link to a new last child: from the place where it is the first, else from the last before it. 0 is no child, as the table has it.
 #[tactic(auto, using(logic::specs::laws::Test::chosen, logic::specs::laws::Test::other), unfolding(crate::specs::Growth::linked))]
 fn link(place: Place, child: Place, table: &mut Table)
     requires { IsRow (word table.old place last_word) }
@@ -104,7 +104,8 @@ fn next_position(place: Place, table: &Table) -> u32
     words::get(table, last, Whole::Position).wrapping_add(1)
 }
 
-// A new last child, at a step where the place has none, if there is room; else refusal 11.
+// A new last child, at a step where the place has none, if there is room; else refusal 11. The step comes as its code and its name: a
+// `Step` would ask of callers that the two belong together.
 pub fn add(
     text: &[u8],
     place: Place,

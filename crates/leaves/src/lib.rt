@@ -13,6 +13,7 @@ ghost use Rattle.leaves.specs.Quick.{same_at, quick_at};
 use commands::byte;
 use options::TracingOptions;
 use refusal::Refused;
+use shapes::Leaf;
 use words::{Place, Table, Whole};
 
 // A batch as it is read: its commands, the texts that they speak of, and the options, which may know that the texts are ASCII.
@@ -55,7 +56,8 @@ fn mark(byte: u8, place: Place, table: &mut Table)
     }
 }
 
-// Marks the place nullable for each `some`, and gives the offset of the first command that is neither 10 nor 11.
+// Marks the place nullable for each `some`, and gives the offset of the first command that is neither 10 nor 11. Offsets are
+// gone through, and no slice: commands are read by `read_byte` alone.
 pub fn past_marks(commands: &[u8], at: usize, place: Place, table: &mut Table) -> usize
     ensures { Chain.chain result table.new ≡ past_marks commands.now at place table.old }
 {
@@ -90,26 +92,24 @@ fn is_known(null: bool, before: u32, kind: u32) -> bool
 // A primitive at a place.
 pub fn observe(
     options: TracingOptions,
-    null: bool,
-    kind: u32,
+    leaf: Leaf,
     here: usize,
-    next: usize,
     site: Site,
     table: &mut Table,
 ) -> Result<Traced, Refused>
-    ensures { Out.out result table.new ≡ observed_at options.word null kind here next site table.old }
+    ensures { Out.out result table.new ≡ observed_at options.word leaf.null leaf.kind here leaf.next site table.old }
 {
     let before = words::get(table, site.place, Whole::Kind);
     let traced = Traced {
-        next,
+        next: leaf.next,
         count: site.count,
     };
-    if is_known(null, before, kind) {
+    if is_known(leaf.null, before, leaf.kind) {
         return Ok(traced);
     }
-    let met = kinds::meet(options, site.levels, before, kind);
+    let met = kinds::meet(options, site.levels, before, leaf.kind);
     let joint = met.map_err(|refusal| refusal.at(here))?;
-    store(null, joint, site.place, table);
+    store(leaf.null, joint, site.place, table);
     Ok(traced)
 }
 

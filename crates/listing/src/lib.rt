@@ -6,10 +6,8 @@ ghost use Rattle.std.specs.Prelude.{◌≡◌, ◌+◌, ◌<◌, ◌≤◌, ℕ,
 ghost use Rattle.listing.specs.Levels.{level_after, one_fewer, next_level, next_due};
 
 // The line of a field record: level, type, nullable, strategy, variant, children, name.
-fn print_record(rt: &impl Print, level: usize, record: &[u8], name: &[u8])
-    requires { length record.now ≡ 8 }
-{
-    let (data_type, nullable, strategy, variant) = (record[0], record[1], record[2], record[3]);
+fn print_record(rt: &impl Print, level: usize, record: &[u8; 8], name: &[u8]) {
+    let [data_type, nullable, strategy, variant, ..] = *record;
     let children = files::two_bytes(record, 6);
     let _ = print!(rt; "{level} {data_type} {nullable} {strategy} {variant} {children} ");
     let _ = rt.write_all(name);
@@ -78,7 +76,8 @@ pub fn print_records(rt: &impl Print, fields: &[u8], names: &[u8])
         level: 0,
     };
     let mut names = names;
-    for record in fields.chunks_exact(8) {
+    let (records, _) = fields.as_chunks::<8>();
+    for record in records {
         let length = usize::from(files::two_bytes(record, 4)).min(names.len());
         let (name, rest) = names.split_at(length);
         print_record(rt, levels.level, record, name);

@@ -123,8 +123,7 @@ impl TracingOptions {
         self.bit(10)
     }
 
-    // The types that a switch chooses have an `if` each: a function of the switch and two types would be no plainer.
-    // The type of a text.
+    // The type of a text. The types that a switch chooses have an `if` each: a function of the switch and two types is no plainer.
     pub fn string_type(self) -> DataType
         ensures { code_of result ≡ string_type self.word }
     {

@@ -1,2 +1,3 @@
 pub mod laws
 pub mod Sort
+pub mod Sorter

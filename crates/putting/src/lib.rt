@@ -55,15 +55,17 @@ impl Record {
     fn bytes(self) -> [u8; 8]
         ensures { result ≡ record_bytes self }
     {
+        let [length, length_high, ..] = self.name_length.to_le_bytes();
+        let [children, children_high, ..] = self.children.to_le_bytes();
         [
             self.kind,
             u8::from(self.nullable),
             self.strategy.code(),
             self.number,
-            (self.name_length % 256) as u8,
-            (self.name_length / 256 % 256) as u8,
-            (self.children % 256) as u8,
-            (self.children / 256 % 256) as u8,
+            length,
+            length_high,
+            children,
+            children_high,
         ]
     }
 }

@@ -20,7 +20,7 @@ pub const BYTE: u8 = 0xA5;
 
 pub const WORD: u32 = 0xA5A5A5A5;
 
-// The five numbers that a question says a call answers.
+// The five numbers that a question says a call answers. The call has a struct of them, but what reads questions need not link the call.
 #[derive(Clone, Copy, PartialEq, Eq)]
 pub struct Answer {
     pub refusal: u32,
@@ -74,7 +74,8 @@ impl<'a> Question<'a> {
 
     // The five numbers are those of the header.
     pub fn is_answered(&self, answer: Answer) -> bool
-        ensures { result ≡ true ↔ Answered self.now.bytes.now answer.refusal answer.place answer.field_records answer.name_bytes answer.columns }
+        ensures { result ≡ true ↔
+            Answered self.now.bytes.now answer.refusal answer.place answer.field_records answer.name_bytes answer.columns }
     {
         answer
             == Answer {

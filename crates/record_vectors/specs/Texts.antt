@@ -19,7 +19,8 @@ bit_of matches weight = when matches then weight else 0
 -- the four answers
 unfoldable pub matchers_of : List ℕ → ℕ
 matchers_of text =
-    bit_of (fits naive_datetime text) 1 + bit_of (fits utc_datetime text) 2 + bit_of (fits naive_time text) 4 + bit_of (fits naive_date text) 8
+    bit_of (fits naive_datetime text) 1 + bit_of (fits utc_datetime text) 2
+    + bit_of (fits naive_time text) 4 + bit_of (fits naive_date text) 8
 
 -- a record: the matchers' answers, the types observed without and with string_as_large_utf8, the text
 unfoldable pub text_agrees : List ℕ → Bool

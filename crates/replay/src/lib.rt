@@ -2,10 +2,11 @@
 
 #![tactic(auto)]
 
-ghost use Rattle.std.specs.Prelude.{◌≡◌, List, ℕ, Bool, ◌+◌, ◌≤◌, ◌<◌, length};
+ghost use Rattle.std.specs.Prelude.{◌≡◌, List, ℕ, Bool, ◌+◌, ◌-◌, ◌≤◌, ◌<◌, length};
+ghost use Rattle.std.specs.Iterator.{at_most};
 ghost use Rattle.logic.specs.Test.{when◌then◌else◌};
 ghost use Rattle.replay.specs.Records.{record_end, IsEnd};
-ghost use Rattle.replay.specs.Replayed.{Answers, replayed};
+ghost use Rattle.replay.specs.Replayed.{Answers, GivesRecord, replayed};
 ghost use Rattle.replay.specs.laws.Records.{record_is_end};
 
 use std::rt::Files;
@@ -74,6 +75,32 @@ pub fn differs(rt: &impl Print, record: usize, agrees: bool) -> usize
     1
 }
 
+// The records of a file from an offset on, each without the bytes at its start that are not handed on.
+#[derive(Drop)]
+struct Records<'a, L> {
+    vectors: &'a [u8],
+    layout: L,
+    at: usize,
+}
+
+impl<'a, L: Layout + Drop> Iterator for Records<'a, L> {
+    type Item = &'a [u8];
+
+    ghost next_gives = { GivesRecord L.HEAD L.end };
+
+    ghost remaining = { λ s. at_most (length s.vectors.now - s.at) };
+
+    fn next(&mut self) -> Option<&'a [u8]> {
+        if self.vectors.len() <= self.at {
+            return None;
+        }
+        let at = self.at;
+        let end = self.layout.end_of(self.vectors, at);
+        self.at = end;
+        Some(&self.vectors[at + L::HEAD..end])
+    }
+}
+
 // Puts each record to a check, and counts.
 pub fn replay<R: Print, L: Layout + Drop, F: Fn(&[u8]) -> bool + Drop>(
     rt: &R,
@@ -88,13 +115,14 @@ pub fn replay<R: Print, L: Layout + Drop, F: Fn(&[u8]) -> bool + Drop>(
         records: 0,
         differ: 0,
     };
-    // No iterator of the library: records differ in length, and where one ends is seen only when it is reached.
-    let mut at = 0;
-    while at < vectors.len() {
-        let end = layout.end_of(vectors, at);
-        tally.differ += differs(rt, tally.records, agrees(&vectors[at + L::HEAD..end]));
+    let records = Records {
+        vectors,
+        layout,
+        at: 0,
+    };
+    for record in records {
+        tally.differ += differs(rt, tally.records, agrees(record));
         tally.records += 1;
-        at = end;
     }
     tally
 }

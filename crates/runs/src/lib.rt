@@ -23,20 +23,21 @@ fn is_held(place: Place, child: Place, table: &Table) -> bool
 // So many commands of a run are looked at together.
 const BLOCK: usize = 16;
 
-// Whether BLOCK commands, from an offset on, are that byte. All are looked at: the compiler takes them together.
+// Whether BLOCK commands, from an offset on, are that byte. All are looked at: the compiler takes them together. Offsets are
+// gone through, here and below, and no slice: commands are read by `read_byte` alone.
 fn are_all(commands: &[u8], byte: u8, at: usize) -> bool
     requires { at + block_length ≤ length commands.now }
     ensures { result ≡ are_all commands.now byte at block_length }
 {
-    let mut other = false;
-    for i in 0..BLOCK {
-        other |= commands::read_byte(commands, at + i) != byte;
-    }
-    !other
+    !(at..at + BLOCK).fold(
+        false,
+        |other, here| other | (commands::read_byte(commands, here) != byte),
+    )
 }
 
 // An offset from which the run of one byte ends where it does from this one. How far it goes is its own choice: by BLOCK
-// commands at a time, which is quick. A `for` in steps of BLOCK would have to stop where less than a block is left, too.
+// commands at a time, which is quick. A `for` in steps of BLOCK would have to stop where less than a block is left, too, and
+// `as_chunks` would read commands otherwise than by `read_byte`.
 fn past_blocks(commands: &[u8], byte: u8, at: usize) -> usize
     ensures { behind_run commands.now byte result ≡ behind_run commands.now byte at }
 {
@@ -52,12 +53,9 @@ fn past_run(commands: &[u8], byte: u8, at: usize) -> usize
     ensures { result ≡ behind_run commands.now byte at }
 {
     let start = past_blocks(commands, byte, at);
-    for here in start..commands.len() {
-        if commands::read_byte(commands, here) != byte {
-            return here;
-        }
-    }
-    start.max(commands.len())
+    (start..commands.len())
+        .find(|here| commands::read_byte(commands, *here) != byte)
+        .unwrap_or(start.max(commands.len()))
 }
 
 // The offset behind the values of a type, where they are of one byte.

@@ -80,10 +80,10 @@ fn print_places(rt: &impl Print, table: &Table, count: usize)
 fn made(table: &Table) -> usize
     ensures { (result ≡ made_in table.now) × (result ≤ place_limit) }
 {
-    let mut newest = 0;
-    for number in 0..places::PLACES {
-        newest = newest.max(places::link(table, Place::new(number), Half::Last).number());
-    }
+    let newest = (0..places::PLACES)
+        .map(|number| places::link(table, Place::new(number), Half::Last).number())
+        .max()
+        .unwrap_or(0);
     newest + 1
 }
 

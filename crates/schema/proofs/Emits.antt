@@ -1,9 +1,9 @@
 -- The ways through the second walk: what the definitions give where the code's tests came out so.
 use borrow.Author.Tests.{ne_eqb}
-use mathlib.Core.Path.{◌≡◌, sym, ◌∙◌}
+use mathlib.Core.Path.{◌≡◌, refl, sym, ◌∙◌}
 use mathlib.Core.Bool.{Bool, true, false, not, ◌||◌, true≢false}
-use mathlib.Core.List.{List}
-use Prim.Native.Nat.{ℕ, zero, suc, ◌+◌, ◌-◌, ◌%◌, ◌<◌, ◌≤◌}
+use mathlib.Core.List.{List, [], ◌∷◌}
+use Prim.Native.Nat.{ℕ, zero, suc, ◌-◌, ◌%◌, ◌≤◌}
 use native.Mathlib.Omega.{arith}
 use lib.Dec.{eqb}
 use Rattle.logic.specs.Test.{when◌then◌else◌}
@@ -12,27 +12,31 @@ use Rattle.words.specs.Word.{word}
 use Rattle.model.specs.Kinds.{is_container}
 use Rattle.places.specs.Layout.{kind_word, null_word}
 use Rattle.places.specs.Reading.{variant_at, next_child}
+use Rattle.places.specs.Children.{children_from}
 use Rattle.walk.specs.Walk.{gaps_at, slot_behind}
 use Rattle.putting.specs.Put.{Writing, gaps_in}
 use Rattle.fields.specs.Fields.{is_dictionary, is_leaf, lacking_at}
 use Rattle.schema.specs.Emit.{Writer, field_at, child_in, fields_from, fields_below, emitted_by, emitted_at}
 
--- ---- a turn over a child, where `i` were before it: what is left gives what the whole gives
-module _ (t : List ℕ) (inner : Writer) (kind place most i slot child : ℕ) (w whole : Writing) (e : fields_from t inner kind place (most - i) slot child w ≡ whole) where
-  pub spent : most ≤ i → w ≡ whole
-  unfolding fields_from
-  spent h = let l : most - i ≡ 0 = omega arith in rw (l, fields_from) at e
+some : (m : ℕ) → eqb (suc m) 0 ≡ false
+some m = ne_eqb (suc m) 0 (λ z. omega arith)
 
-  pub ended : i < most → child ≡ 0 → w ≡ whole
-  unfolding fields_from
-  ended h z = let l : most - i ≡ suc (most - (i + 1)) = omega arith in rw (l, z, fields_from) at e
+-- ---- over the children as a list
+abbrev pub fields_over : List ℕ → Writer → ℕ → ℕ → ℕ → List ℕ → Writing → Writing
+fields_over t inner kind place slot [] w = w
+fields_over t inner kind place slot (child ∷ more) w =
+    fields_over t inner kind place (slot_behind t child) more (child_in t inner kind place slot child w)
 
-  pub next : (further following : ℕ) (after : Writing) → i < most → (child ≡ 0 → ⊥) → after ≡ child_in t inner kind place slot child w →
-      further ≡ slot_behind t child → following ≡ next_child t true kind place child → fields_from t inner kind place (most - (i + 1)) further following after ≡ whole
-  unfolding fields_from
-  next further following after h n a f g =
-      let l : most - i ≡ suc (most - (i + 1)) = omega arith in
-      rw (a, f, g) (rw (l, fields_from, ne_eqb child 0 n) at e)
+-- it is what is written from one child to the next
+module _ (t : List ℕ) (inner : Writer) (kind place : ℕ) where
+  pub same_fields : (left slot child : ℕ) (w : Writing) →
+      fields_over t inner kind place slot (children_from t true kind place left child) w ≡ fields_from t inner kind place left slot child w
+  unfolding children_from fields_from
+  same_fields zero slot child w = refl
+  same_fields (suc left) slot zero w = refl
+  same_fields (suc left) slot (suc m) w =
+      rw (children_from, fields_from, some m)
+      (same_fields left (slot_behind t (suc m)) (next_child t true kind place (suc m)) (child_in t inner kind place slot (suc m) w))
 
 -- ---- a child, after the slots before it
 pub in_child : (t : List ℕ) (inner : Writer) (kind place slot child count number : ℕ) (lacking : Bool) (before behind w : Writing) →
@@ -40,9 +44,6 @@ pub in_child : (t : List ℕ) (inner : Writer) (kind place slot child count numb
     w ≡ inner child lacking (number % 256) behind → w ≡ child_in t inner kind place slot child before
 unfolding child_in
 in_child t inner kind place slot child count number lacking before behind w c p n l e = rw (← c, ← n, ← l, ← p) e
-
-some : (m : ℕ) → eqb (suc m) 0 ≡ false
-some m = ne_eqb (suc m) 0 (λ z. omega arith)
 
 -- ---- a place, by whether anything is emitted below it
 module _ (options : ℕ) (t : List ℕ) (place : ℕ) (is : Bool) where

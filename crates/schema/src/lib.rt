@@ -11,6 +11,7 @@ ghost use Rattle.schema.specs.Emit.{over, field_at, emitted_at, emitted_below, c
 
 use datatype::Strategy;
 use options::TracingOptions;
+use places::Children;
 use putting::{Output, Record};
 use refusal::Refusal;
 use walk::{Counts, Source};
@@ -71,14 +72,9 @@ fn emit_children(source: &Source, levels: usize, kind: u32, place: Place, out: &
 {
     out.put_entries(kind);
     let mut slot: u32 = 0;
-    let mut child = places::next_child(source.table, true, kind, place, Place::ROOT);
-    for _ in 0..places::CHILDREN {
-        if child.is_root() {
-            return;
-        }
+    for child in Children::new(source.table, true, kind, place) {
         emit_child(source, levels, kind, place, slot, child, out);
         slot = walk::slot_behind(source.table, child);
-        child = places::next_child(source.table, true, kind, place, child);
     }
 }
 

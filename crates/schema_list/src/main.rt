@@ -40,6 +40,7 @@ fn trace(options: u16, commands: &[u8], text: &[u8], fields: &mut [u8], names: &
     fasthrom::fasthrom_trace(options, commands, text, &mut table, fields, names)
 }
 
+// The buffers are of fixed sizes, as what the call is lent is.
 fn list(rt: &impl Print, options: u16, commands: &[u8], text: &[u8]) {
     let mut fields = [0u8; 65536];
     let mut names = [0u8; 65536];

@@ -36,7 +36,8 @@ field_among text place name t from (suc count) =
 -- where the first of so many groups of sixteen starts, from a place on, in which one has that tag; where they end if none has
 unfoldable pub past_others : ℕ → List ℕ → ℕ → ℕ → ℕ
 past_others tag t from zero = from
-past_others tag t from (suc groups) = when has_among t from many_places tag_word tag then from else past_others tag t (from + many_places) groups
+past_others tag t from (suc groups) =
+    when has_among t from many_places tag_word tag then from else past_others tag t (from + many_places) groups
 
 -- fewer than one in sixteen of that many places up to the last child are children: its position tells how many stand before it
 unfoldable pub is_sparse : ℕ → ℕ → List ℕ → Bool

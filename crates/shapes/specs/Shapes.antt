@@ -63,7 +63,8 @@ abbrev pub PartRead : Type 0
 PartRead = Result Part Refused
 
 abbrev pub value_part : List ℕ → Step → ℕ → Read → PartRead
-value_part commands step at (Ok (command, behind)) = when eqb (get_or commands at 0) end_byte then Ok (P.Ended behind) else Ok (P.Step step at)
+value_part commands step at (Ok (command, behind)) =
+    when eqb (get_or commands at 0) end_byte then Ok (P.Ended behind) else Ok (P.Step step at)
 value_part commands step at (Err r) = Err r
 
 abbrev pub field_part : List ℕ → ℕ → Read → PartRead
@@ -109,7 +110,8 @@ takes_value D.KeyOrEnd = false
 
 -- the command with that byte stands there, and the name behind it is inside the text
 unfoldable pub named_at : List ℕ → List ℕ → ℕ → ℕ → Bool
-named_at commands text byte at = leb (at + 5) (length commands) && eqb (get_or commands at 0) byte && inside text (name_at commands (at + 1))
+named_at commands text byte at =
+    leb (at + 5) (length commands) && eqb (get_or commands at 0) byte && inside text (name_at commands (at + 1))
 
 -- a command with that byte begins there
 unfoldable pub begins_at : List ℕ → ℕ → ℕ → Bool

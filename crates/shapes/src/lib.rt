@@ -26,7 +26,8 @@ use options::TracingOptions;
 use refusal::{Refusal, Refused};
 use text::Name;
 
-// Kinds: a primitive type's code, or one of these. They are numbers, since they are words of the work table, whose memory is fixed.
+// Kinds: a primitive type's code, or one of these. They are numbers, since they are words of the work table, whose memory is fixed: a
+// place's kind is any word that stands there, and public functions take any, so that an enum would ask more of their callers.
 pub const UNKNOWN: u32 = 0;
 
 pub const SEQUENCE: u32 = 22;
@@ -55,7 +56,7 @@ pub enum Step {
 pub const FIELD: u32 = 3;
 
 impl Step {
-    // The word that tells steps apart, but for the names of fields.
+    // The word that tells steps apart, but for the names of fields: no whole step, so no `From`.
     pub fn code(self) -> u32
         ensures { result ≡ code_of self }
     {
@@ -110,7 +111,7 @@ pub enum Contents {
 }
 
 // What a command begins: a primitive and whether it is null, the parts of a container, a variant. 10 and 11 are passed
-// before, and 16 and 17 begin no value.
+// before, and 16 and 17 begin no value: the fourth of four cases, which an Option around three would say no plainer.
 #[derive(Clone, Copy)]
 pub enum Shape {
     Leaf(bool, u32),
@@ -120,7 +121,7 @@ pub enum Shape {
 }
 
 // What stands before a part of a container: its end and the offset behind it, or the step to the part and the offset of its
-// value.
+// value. Not an Option: the definition of a part (`part_at`) has both offsets, and for fields the step and the offset are read.
 #[derive(Clone, Copy)]
 pub enum Part {
     Ended(usize),

@@ -1,4 +1,4 @@
-// Tags of names, which tell them apart without comparing them byte by byte.
+// Tags of names, which tell them apart without comparing their bytes.
 ghost use Rattle.std.specs.Prelude.{◌≡◌, ◌+◌, ◌≤◌, ◌<◌, length};
 ghost use Rattle.text.specs.Tag.{tag_limit, tag_bits, four_of, mixed_of, long_tag, tag_of};
 

@@ -1,5 +1,5 @@
 -- The ways through the walk: what the definitions give where the code's tests came out so.
-use Rattle.std.proofs.Common.{◌≡◌, Ok, Err, ℕ, zero, suc, ◌+◌, ◌-◌, ◌<◌, ◌≤◌, Bool, true, false, not, ◌&&◌, eqb, List, sym, refl, ◌∙◌, arith, eq-eqb, ne_eqb, le-leb}
+use Rattle.std.proofs.Common.{◌≡◌, Ok, Err, ℕ, zero, suc, ◌-◌, ◌<◌, ◌≤◌, Bool, true, false, not, ◌&&◌, eqb, List, [], ◌∷◌, sym, refl, ◌∙◌, arith, eq-eqb, ne_eqb, le-leb}
 use borrow.Author.Tests.{lt-leb, not-true, not-false}
 use Rattle.logic.specs.Test.{when◌then◌else◌}
 use Rattle.datatype.specs.Codes.{null}
@@ -11,40 +11,64 @@ use Rattle.model.specs.Kinds.{sequence_kind, union_kind}
 use Rattle.places.specs.Layout.{kind_word}
 use Rattle.walk.specs.declared.Counts.{Counts}
 use Rattle.places.specs.Reading.{next_child}
-use Rattle.walk.specs.Walk.{Walked, counts, counts_with, dataless_at, slot_behind, is_beyond, children_from, children_below, walked_by, walked}
+use Rattle.places.specs.Children.{children_from as listed}
+use Rattle.walk.specs.Walk.{Walked, counts, counts_with, with_child, dataless_at, slot_behind, is_beyond, children_from, children_below, walked_by, walked}
 
--- ---- a turn over a child, where `i` were before it: what is left gives what the whole gives
-module _ (text t : List ℕ) (inner : ℕ → Walked) (kind place most i slot child : ℕ) (so_far : Counts) (whole : Walked)
-    (w : children_from text t inner kind place (most - i) so_far.records so_far.names so_far.columns slot child ≡ whole) where
-  pub spent : most ≤ i → Ok so_far ≡ whole
-  unfolding children_from
-  spent h = let l : most - i ≡ 0 = omega arith in rw (l, children_from) at w
+-- ---- over the children as a list
+abbrev pub walk_over : List ℕ → List ℕ → (ℕ → Walked) → ℕ → Counts → ℕ → List ℕ → Walked
+walk_over text t inner kind so_far slot [] = Ok so_far
+walk_over text t inner kind so_far slot (child ∷ more) =
+    elim (is_beyond kind t child) [
+      | true ↦ Err F.TooManySlots
+      | false ↦ with_child (λ r n c. walk_over text t inner kind (counts r n c) (slot_behind t child) more)
+          text t kind so_far.records so_far.names so_far.columns slot child (inner child)
+    ]
 
-  module _ (h : i < most) where
-    pub ended : child ≡ 0 → Ok so_far ≡ whole
-    unfolding children_from
-    ended e = let l : most - i ≡ suc (most - (i + 1)) = omega arith in rw (l, e, children_from) at w
+-- what goes on alike after a child gives the same
+module _ (text t : List ℕ) (kind slot child : ℕ) (so_far : Counts) where
+  same_turn : (beyond : Bool) (below : Walked) (f g : ℕ → ℕ → ℕ → Walked) → ((r n c : ℕ) → f r n c ≡ g r n c) →
+      Path Walked
+      (elim beyond [
+        | true ↦ Err F.TooManySlots
+        | false ↦ with_child f text t kind so_far.records so_far.names so_far.columns slot child below
+      ])
+      (elim beyond [
+        | true ↦ Err F.TooManySlots
+        | false ↦ with_child g text t kind so_far.records so_far.names so_far.columns slot child below
+      ])
+  same_turn true below f g h = refl
+  same_turn false (Err refusal) f g h = refl
+  same_turn false (Ok c) f g h = h _ _ _
 
-    module _ (n : child ≡ 0 → ⊥) (is : Bool) (b : is ≡ is_beyond kind t child) where
-      pub beyond : is ≡ true → Err F.TooManySlots ≡ whole
-      unfolding children_from
-      beyond e = let l : most - i ≡ suc (most - (i + 1)) = omega arith in rw (l, children_from, ne_eqb child 0 n, sym b ∙ e) at w
+-- it is what is walked from one child to the next
+module _ (text t : List ℕ) (inner : ℕ → Walked) (kind place : ℕ) where
+  pub same_walk : (left : ℕ) (so_far : Counts) (slot child : ℕ) →
+      walk_over text t inner kind so_far slot (listed t false kind place left child)
+      ≡ children_from text t inner kind place left so_far.records so_far.names so_far.columns slot child
+  unfolding listed children_from
+  same_walk zero so_far slot child = refl
+  same_walk (suc left) so_far slot zero = refl
+  same_walk (suc left) so_far slot (suc m) =
+      let some : suc m ≡ 0 → ⊥ = λ e. omega arith in
+      rw (listed, children_from, ne_eqb (suc m) 0 some)
+      (same_turn text t kind slot (suc m) so_far (is_beyond kind t (suc m)) (inner (suc m)) _ _
+      (λ r n c. same_walk left (counts r n c) (slot_behind t (suc m)) (next_child t false kind place (suc m))))
 
-      pub refused : (answer r : Walked) (refusal same : Refusal) → is ≡ false → answer ≡ inner child → answer ≡ Err refusal →
-          r ≡ Err same → same ≡ refusal → r ≡ whole
-      unfolding children_from
-      refused answer r refusal same f a e p q =
-          let l : most - i ≡ suc (most - (i + 1)) = omega arith in
-          rw (p, q) (rw (l, children_from, ne_eqb child 0 n, sym b ∙ f, sym a ∙ e) at w)
+-- ---- a turn over a child: what is left gives what the whole gives
+module _ (text t : List ℕ) (inner : ℕ → Walked) (kind slot : ℕ) (so_far : Counts) (left : List ℕ) (whole : Walked)
+    (w : walk_over text t inner kind so_far slot left ≡ whole) where
+  module _ (child : ℕ) (more : List ℕ) (n : left ≡ child ∷ more) (is : Bool) (b : is ≡ is_beyond kind t child) where
+    pub beyond : is ≡ true → Err F.TooManySlots ≡ whole
+    beyond e = rw (n, walk_over, sym b ∙ e) at w
 
-      pub next : (answer : Walked) (below after : Counts) (further following : ℕ) → is ≡ false →
-          answer ≡ inner child → answer ≡ Ok below → after ≡ counts_with kind text t slot child so_far below →
-          further ≡ slot_behind t child → following ≡ next_child t false kind place child →
-          children_from text t inner kind place (most - (i + 1)) after.records after.names after.columns further following ≡ whole
-      unfolding children_from
-      next answer below after further following f a e p s g =
-          let l : most - i ≡ suc (most - (i + 1)) = omega arith in
-          rw (p, s, g) (rw (l, children_from, ne_eqb child 0 n, sym b ∙ f, sym a ∙ e) at w)
+    pub refused : (answer r : Walked) (refusal same : Refusal) → is ≡ false → answer ≡ inner child → answer ≡ Err refusal →
+        r ≡ Err same → same ≡ refusal → r ≡ whole
+    refused answer r refusal same f a e p q = rw (p, q) (rw (n, walk_over, sym b ∙ f, sym a ∙ e) at w)
+
+    pub next : (answer : Walked) (below after : Counts) (further : ℕ) → is ≡ false →
+        answer ≡ inner child → answer ≡ Ok below → after ≡ counts_with kind text t slot child so_far below →
+        further ≡ slot_behind t child → walk_over text t inner kind after further more ≡ whole
+    next answer below after further f a e p s = rw (p, s) (rw (n, walk_over, sym b ∙ f, sym a ∙ e) at w)
 
 -- ---- a place, by its kind
 module _ (options : ℕ) (text t : List ℕ) (place kind : ℕ) (k : kind ≡ word t place kind_word) where

@@ -102,7 +102,8 @@ above_of kind = counts (when nat_eq kind map_kind then 1 else 0) (when nat_eq ki
 abbrev pub children_below : List ℕ → List ℕ → (ℕ → Walked) → ℕ → ℕ → Walked
 children_below text t inner kind place =
     children_from text t inner kind place child_limit
-    (when nat_eq kind map_kind then 1 else 0) (when nat_eq kind map_kind then length entries_name else 0) 0 0 (next_child t false kind place 0)
+    (when nat_eq kind map_kind then 1 else 0) (when nat_eq kind map_kind then length entries_name else 0) 0 0
+    (next_child t false kind place 0)
 
 -- a place: refusals 12 and 13, and what stands below it; `flat` where no level is left, and a reader of its children
 unfoldable pub walked_by : ℕ → List ℕ → List ℕ → Bool → (ℕ → Walked) → ℕ → Walked

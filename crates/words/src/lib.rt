@@ -1,6 +1,7 @@
 // The words of a place in the lent work table: whole words, and links of 16 bits, two to a word of its row. Callers lend the
 // part that has a row for each place, and nothing else. The words of all places at one number of the row stand one after
-// another, a plane, so that the tags of eight places can be looked at at a time.
+// another, a plane, so that the tags of eight places can be looked at at a time. The call has no heap: this memory, which is lent
+// and fixed, is all there is, so places are numbers, and what they hold are words and halves of words.
 
 #![tactic(auto)]
 
@@ -36,7 +37,7 @@ impl Model for Place {
 }
 
 impl Place {
-    // No place has it as a child, so that where a child is linked it stands for none.
+    // No place has it as a child, so that where a child is linked it stands for none: a link is half a word, and has no room for more.
     pub const ROOT: Place = Place { number: 0 };
 
     pub fn new(number: usize) -> Self

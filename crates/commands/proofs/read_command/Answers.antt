@@ -83,14 +83,16 @@ returns-then-not-admits c = search (misplaced, rules)
 
 pub returns-then-has_bad_name : goal.returns-then-has_bad_name
 returns-then-has_bad_name c =
-    let st : bad_command c.args.commands.now c.args.at c.args.due ≡ false = search (placed, rules) in misnamed _ _ _ _ c.read_byte-byte.ensures st
-    c.operand_count-operands.ensures c.has_bad_name.ensures c.if-has_bad_name.true
+    let st : bad_command c.args.commands.now c.args.at c.args.due ≡ false = search (placed, rules) in
+    rw c.at-then-has_bad_name.ensures (misnamed _ _ _ _ c.read_byte-byte.ensures st
+    c.operand_count-operands.ensures c.has_bad_name.ensures c.if-has_bad_name.true)
 
 pub returns-then-is_bad_key : goal.returns-then-is_bad_key
 returns-then-is_bad_key c =
-    let st : bad_command c.args.commands.now c.args.at c.args.due ≡ false = search (placed, rules) in no_key _ _ _ _ c.read_byte-byte.ensures st
+    let st : bad_command c.args.commands.now c.args.at c.args.due ≡ false = search (placed, rules) in
+    rw c.at-then-is_bad_key.ensures (no_key _ _ _ _ c.read_byte-byte.ensures st
     c.operand_count-operands.ensures c.has_bad_name.ensures c.if-has_bad_name.false
-    c.is_bad_key.ensures c.if-is_bad_key.true
+    c.is_bad_key.ensures c.if-is_bad_key.true)
 
 pub returns : goal.returns
 returns c =

@@ -1,5 +1,5 @@
 -- `past_quick`: a law for each of its answers, and what is passed is a leaf, which ends behind where it begins.
-use Rattle.std.proofs.Common.{rules, arith}
+use Rattle.std.proofs.Common.{rules}
 use Rattle.shapes.specs.laws.Leaf.{leaf_there, leaf_above}
 use Rattle.leaves.specs.laws.Quick.{same_fits, quick_same, quick_other, quick_null, quick_known, quick_changes}
 use Rattle.leaves.proofs.past_quick.Goals as goal

@@ -1,9 +1,8 @@
 -- The emission of a place, of its children and of a child, as one cycle: the levels fall. Over the children, those that are left give what all give.
 use borrow.Author.Rules.{rules}
-use mathlib.Core.Path.{◌≡◌}
 use Prim.Native.Nat.{◌≤◌}
 use native.Mathlib.Omega.{arith}
-use Rattle.schema.proofs.Emits.{spent, ended, next, in_child, some_level, leaf, opened}
+use Rattle.schema.proofs.Emits.{same_fields, in_child, some_level, leaf, opened}
 use Rattle.schema.proofs.+emitting.Goals as goal
 
 pub emit-returns-then-is_leaf : goal.emit-returns-then-is_leaf
@@ -21,11 +20,5 @@ emit-returns t c = search (opened, rules)
 pub emit_child-returns : goal.emit_child-returns
 emit_child-returns t c = search (in_child, rules)
 
-pub emit_children-returns-then-is_root : goal.emit_children-returns-then-is_root
-emit_children-returns-then-is_root t c = let none : c.loop.child ≡ 0 = grind arith in search (ended, none, rules)
-
-pub emit_children-loop-preserved : goal.emit_children-loop-preserved
-emit_children-loop-preserved t c = let some : c.loop.child ≡ 0 → ⊥ = grind arith in search (next, some, rules)
-
-pub emit_children-returns : goal.emit_children-returns
-emit_children-returns t c = search (spent, rules)
+pub emit_children-loop-child-init : goal.emit_children-loop-child-init
+emit_children-loop-child-init t c = search (same_fields, rules)

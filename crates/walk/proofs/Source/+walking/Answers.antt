@@ -1,12 +1,12 @@
 -- The walk of a place and of its children, as one cycle: the levels fall. Over the children, those that are left give what all give.
-use Rattle.std.proofs.Common.{rules, arith}
+use Rattle.std.proofs.Common.{rules}
 use Rattle.std.proofs.lemmas.Result.{err_from_is_err_and}
-use Rattle.walk.proofs.Walks.{spent, ended, beyond, refused, next, unknown, null_field_lem, primitive, no_level, as_strings, dataless_union_lem, Opens, no_union, with_data, null_children, opened}
+use Rattle.walk.proofs.Walks.{same_walk, beyond, refused, next, unknown, null_field_lem, primitive, no_level, as_strings, dataless_union_lem, Opens, no_union, with_data, null_children, opened}
 use Rattle.walk.proofs.Source.+walking.Goals.{walk_place-then-kind-eq-UNION+then-is_dataless+else-enums_without_data_as_strings+else-not-allow_null_fields, walk_place-else-kind-eq-UNION, walk_place-else-kind-eq-UNION-via-then-kind-eq-UNION+else-is_dataless, walk_place-else-kind-eq-UNION-via-else-kind-eq-UNION}
 use Rattle.walk.proofs.Source.+walking.Goals as goal
 
-pub walk_children-returns-then-is_root : goal.walk_children-returns-then-is_root
-walk_children-returns-then-is_root t c = search (ended, rules)
+pub walk_children-loop-child-init : goal.walk_children-loop-child-init
+walk_children-loop-child-init t c = search (same_walk, rules)
 
 pub walk_children-returns-then-is_beyond : goal.walk_children-returns-then-is_beyond
 walk_children-returns-then-is_beyond t c = search (beyond, rules)
@@ -14,14 +14,10 @@ walk_children-returns-then-is_beyond t c = search (beyond, rules)
 pub walk_children-returns-in_err-below : goal.walk_children-returns-in_err-below
 walk_children-returns-in_err-below t c =
     let p = err_from_is_err_and c.from_residual.result c.from_residual.ensures.1 in
-    refused _ _ _ _ _ _ _ _ _ _ _ c.loop.invariant c.loop-test.true (grind arith) _ c.is_beyond.ensures _ _ _ _
-    c.if-is_beyond.false c.walk_place.ensures c.in_err-below.was p.1 p.2
+    search (refused, p, rules)
 
-pub walk_children-loop-preserved : goal.walk_children-loop-preserved
-walk_children-loop-preserved t c = search (next, rules)
-
-pub walk_children-returns : goal.walk_children-returns
-walk_children-returns t c = search (spent, rules)
+pub walk_children-loop-child-preserved : goal.walk_children-loop-child-preserved
+walk_children-loop-child-preserved t c = search (next, rules)
 
 pub walk_place-returns-then-allow_null_fields : goal.walk_place-returns-then-allow_null_fields
 walk_place-returns-then-allow_null_fields t c = search (unknown, rules)
