@@ -1,7 +1,6 @@
 -- How places come to the table: a new last child, the child at a step found or made, samples counted, and the children of a container.
-use Rattle.std.specs.Prelude.{◌≡◌, ℕ, zero, suc, ◌+◌, ◌%◌, ◌^◌, ◌<◌, not, ◌&&◌, List, [], ◌∷◌, ◌==◌, nat_le, Result, Ok, Err}
+use Rattle.std.specs.Prelude.{◌≡◌, ℕ, zero, suc, ◌+◌, ◌%◌, ◌^◌, ◌<◌, not, ◌&&◌, List, [], ◌∷◌, ◌==◌, nat_le, Result, Ok, Err, IfOk}
 use Rattle.logic.specs.Test.{when◌then◌else◌}
-use Rattle.logic.specs.Slices.{Slice, MutSlice, now_of, at_exit}
 use Rattle.refusal.specs.declared.Refusal.{Refusal}
 use Rattle.refusal.specs.declared.Refusal.TheVariants as F
 use Rattle.text.specs.declared.Name.{Name}
@@ -14,7 +13,8 @@ use Rattle.datatype.specs.Codes.{null}
 use Rattle.shapes.specs.declared.Step.{Step}
 use Rattle.shapes.specs.declared.Step.TheVariants as S
 use Rattle.shapes.specs.Steps.{code_of, no_name, name_of, packed_name, unpacked_name}
-use Rattle.growth.specs.declared.Found.{Found}
+use Rattle.places.specs.declared.Places.{Places}
+use Rattle.places.specs.Places.{Same}
 use Rattle.places.specs.Layout.{kind_word, samples_word, first_word, last_word, block_word, next_word, parent_word, step_word, name_word, held_word, mark_word, tag_word, position_word, Sound}
 use Rattle.search.specs.Tree.{is_numbered, seek}
 use Rattle.search.specs.Search.{child_at}
@@ -54,6 +54,10 @@ unfoldable pub entered : ℕ → ℕ → ℕ → List ℕ → List ℕ
 entered place code n t = when is_numbered code then with_word t (seek place code n t).place (seek place code n t).field n else t
 
 -- ---- the child at a step, found or made, and how many places there are; or refusal 9 or 11
+pub record Found : Type 0 where
+  pub child : ℕ
+  pub count : ℕ
+
 abbrev pub found : ℕ → ℕ → Found
 found child n = record { child = child; count = n }
 
@@ -144,10 +148,21 @@ abbrev pub SoundMade : List ℕ → List ℕ → Made → Type 0
 SoundMade text t (Ok n) = Sound text t n
 SoundMade text t (Err refusal) = Unit {0}
 
--- ---- what is promised of a function that ensures a child, or makes children: its answer and the table then are what the definition gives
--- of the table before, and the table is sound
-abbrev pub EnsuredAs : Slice → MutSlice → Ensured → Ensuring → Type 0
-EnsuredAs text table r wanted = (ensuring r (at_exit table) ≡ wanted) × SoundEnsured (now_of text) (at_exit table) r
+-- ---- what is promised of a function that ensures a child, or makes children: its answer, with the count beside it, and the table then are
+-- what the definition gives of those before
+abbrev pub counted : Result ℕ Refusal → ℕ → Ensured
+counted (Ok child) n = Ok (found child n)
+counted (Err refusal) n = Err refusal
 
-abbrev pub MadeAs : Slice → MutSlice → Made → Making → Type 0
-MadeAs text table r wanted = (making r (at_exit table) ≡ wanted) × SoundMade (now_of text) (at_exit table) r
+pub record EnsuredAs (wanted : Ensuring) (o p : Places) (r : Result ℕ Refusal) : Type 0 where
+  pub ensured : ensuring (counted r p.count) p.table.now ≡ wanted
+  pub here : IfOk r (λ child. child < p.count)
+  pub same : Same o p
+
+abbrev pub count_of : Result (Unit {0}) Refusal → ℕ → Made
+count_of (Ok done) n = Ok n
+count_of (Err refusal) n = Err refusal
+
+pub record MadeAs (wanted : Making) (o p : Places) (r : Result (Unit {0}) Refusal) : Type 0 where
+  pub made : making (count_of r p.count) p.table.now ≡ wanted
+  pub same : Same o p

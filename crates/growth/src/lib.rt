@@ -2,16 +2,18 @@
 
 #![tactic(auto)]
 
-ghost use Rattle.std.specs.Prelude.{◌≡◌, ◌<◌, ◌&&◌, [], ◌∷◌, ◌==◌, ◌≢◌};
+ghost use Rattle.std.specs.Prelude.{◌≡◌, ℕ, ◌<◌, ◌&&◌, [], ◌∷◌, ◌==◌, ◌≢◌};
 ghost use Rattle.words.specs.Word.{word, IsRow};
 ghost use Rattle.shapes.specs.Steps.{field_code, code_of, name_of, Good};
-ghost use Rattle.places.specs.Layout.{Ready, last_word};
+ghost use Rattle.places.specs.Layout.{last_word};
 ghost use Rattle.search.specs.Search.{Comparable};
-ghost use Rattle.growth.specs.Growth.{linked, described, appended, confirmed, ensured_by, ensured, EnsuredAs, touched, sampled, made_one, made_all, positions_from, positions_made, made, MadeAs, position_in, entered};
+ghost use Rattle.growth.specs.Growth.{linked, described, appended, confirmed, counted, ensured_by, ensured, EnsuredAs, touched};
+ghost use Rattle.growth.specs.Growth.{sampled, made_all, positions_from, appended_from, positions_made, made, MadeAs, position_in, entered};
 ghost use Rattle.model.specs.Kinds.{tuple_kind};
 ghost use Rattle.datatype.specs.Codes.{null};
 ghost use Rattle.shapes.specs.declared.Step.TheVariants.{Key, Value};
 
+use places::Places;
 use refusal::Refusal;
 use shapes::Step;
 use text::Name;
@@ -65,27 +67,13 @@ fn append(place: Place, code: u32, name: Name, child: Place, table: &mut Table)
     words::set_link(table, place, Half::Last, child);
 }
 
-// The child that was found or made, and how many places there are.
-#[derive(Clone, Copy)]
-pub struct Found {
-    pub child: Place,
-    pub count: usize,
-}
-
 // The child that was found, whose name must be the one given (a variant's number has one name); else refusal 9.
-#[tactic(auto, using(logic::specs::laws::Test::chosen, logic::specs::laws::Test::other), unfolding(crate::specs::Growth::confirmed))]
-fn confirm(
-    text: &[u8],
-    name: Name,
-    child: Place,
-    count: usize,
-    table: &Table,
-) -> Result<Found, Refusal>
+fn confirm(text: &[u8], name: Name, child: Place, table: &Table) -> Result<Place, Refusal>
     requires { Comparable text.now table.now name child }
-    ensures { result ≡ confirmed text.now name child count table.now }
+    ensures { (n : ℕ) → counted result n ≡ confirmed text.now name child n table.now }
 {
     if places::given_name(table, child).equals(name, text) {
-        Ok(Found { child, count })
+        Ok(child)
     } else {
         Err(Refusal::TwoNames)
     }
@@ -107,51 +95,46 @@ fn next_position(place: Place, table: &Table) -> u32
 // A new last child, at a step where the place has none, if there is room; else refusal 11. The step comes as its code and its name: a
 // `Step` would ask of callers that the two belong together.
 pub fn add(
-    text: &[u8],
+    places: &mut Places<'_, '_>,
     place: Place,
     code: u32,
     name: Name,
-    count: usize,
-    table: &mut Table,
-) -> Result<Found, Refusal>
-    requires { Ready text.now table.old count place × Good text.now name }
-    ensures { EnsuredAs text table result (ensured_by text.now place code name count table.old 0) }
+) -> Result<Place, Refusal>
+    requires here { place < places.old.count }
+    requires good { Good places.old.text.now name }
+    ensures { EnsuredAs (ensured_by places.old.text.now place code name places.old.count places.old.table.now 0)
+        places.old places.new result }
 {
-    if places::PLACES <= count {
+    if places::PLACES <= places.count {
         return Err(Refusal::TooManyPlaces);
     }
-    let child = Place::new(count);
+    let child = Place::new(places.count);
+    let tag = name.tag(places.text);
+    let table = &mut *places.table;
     let position = next_position(place, table);
     append(place, code, name, child, table);
-    words::set(table, child, Whole::Tag, name.tag(text));
+    words::set(table, child, Whole::Tag, tag);
     words::set(table, child, Whole::Position, position);
     enter(place, code, child, table);
-    Ok(Found {
-        child,
-        count: count + 1,
-    })
+    places.count += 1;
+    Ok(child)
 }
 
 // The child of a place at a step that is no field: found, or made where there is room.
-pub fn ensure(
-    text: &[u8],
-    place: Place,
-    step: Step,
-    count: usize,
-    table: &mut Table,
-) -> Result<Found, Refusal>
-    requires { Ready text.now table.old count place × Good text.now (name_of step) × (code_of step ≢ field_code) }
-    ensures { EnsuredAs text table result (ensured text.now place step count table.old) }
+pub fn ensure(places: &mut Places<'_, '_>, place: Place, step: Step) -> Result<Place, Refusal>
+    requires here { place < places.old.count }
+    requires good { Good places.old.text.now (name_of step) }
+    requires no_field { code_of step ≢ field_code }
+    ensures { EnsuredAs (ensured places.old.text.now place step places.old.count places.old.table.now) places.old places.new result }
 {
-    let code = step.code();
-    let name = step.name();
-    match search::child_at(text, place, step, count, table) {
-        Some(child) => confirm(text, name, child, count, table),
-        None => add(text, place, code, name, count, table),
+    match search::child_at(places, place, step) {
+        Some(child) => confirm(places.text, step.name(), child, places.table),
+        None => add(places, place, step.code(), step.name()),
     }
 }
 
-// Counts the child once among those that the place's present sample holds.
+// Counts the child once among those that the place's present sample holds. This and `sample` take the table alone: of the struct they
+// would ask that the child and the place are among its places.
 #[tactic(auto, using(logic::specs::laws::Test::chosen, logic::specs::laws::Test::other), unfolding(crate::specs::Growth::touched))]
 pub fn touch(place: Place, child: Place, table: &mut Table)
     ensures { table.new ≡ touched place child table.old }
@@ -175,73 +158,77 @@ pub fn sample(place: Place, kind: u32, table: &mut Table)
     words::set(table, place, Whole::Samples, samples.wrapping_add(1));
 }
 
-// One child that must be there: how many places there are, as below.
-fn make_one(
-    text: &[u8],
-    place: Place,
-    step: Step,
-    count: usize,
-    table: &mut Table,
-) -> Result<usize, Refusal>
-    requires { Ready text.now table.old count place × Good text.now (name_of step) × (code_of step ≢ field_code) }
-    ensures { MadeAs text table result (made_one text.now place step count table.old) }
-{
-    let found = ensure(text, place, step, count, table)?;
-    Ok(found.count)
-}
-
 // A map's key and value.
-fn make_pair(text: &[u8], place: Place, count: usize, table: &mut Table) -> Result<usize, Refusal>
-    requires { Ready text.now table.old count place }
-    ensures { MadeAs text table result (made_all text.now place (Key ∷ Value ∷ []) count table.old) }
+fn make_pair(places: &mut Places<'_, '_>, place: Place) -> Result<(), Refusal>
+    requires { place < places.old.count }
+    ensures { MadeAs (made_all places.old.text.now place (Key ∷ Value ∷ []) places.old.count places.old.table.now)
+        places.old places.new result }
 {
-    let more = make_one(text, place, Step::Key, count, table)?;
-    make_one(text, place, Step::Value, more, table)
+    ensure(places, place, Step::Key)?;
+    ensure(places, place, Step::Value)?;
+    Ok(())
 }
 
 // All positions of a tuple at a place that has children.
-fn seek_positions(
-    text: &[u8],
+fn seek_positions(places: &mut Places<'_, '_>, place: Place, positions: u16) -> Result<(), Refusal>
+    requires { place < places.old.count }
+    ensures { MadeAs (made_all places.old.text.now place (positions_from 0 positions) places.old.count places.old.table.now)
+        places.old places.new result }
+{
+    for i in 0..positions {
+        ensure(places, place, Step::Position(i))?;
+    }
+    Ok(())
+}
+
+// A position behind those before it, with no search.
+fn append_position(places: &mut Places<'_, '_>, place: Place, i: u16) -> Result<(), Refusal>
+    requires { place < places.old.count }
+    ensures { MadeAs (appended_from place i 1 places.old.count places.old.table.now) places.old places.new result }
+{
+    let number = places.count;
+    if places::PLACES <= number {
+        return Err(Refusal::TooManyPlaces);
+    }
+    let step = Step::Position(i);
+    append(
+        place,
+        step.code(),
+        step.name(),
+        Place::new(number),
+        places.table,
+    );
+    places.count += 1;
+    Ok(())
+}
+
+// All positions of a tuple at a place that has no children.
+fn append_positions(
+    places: &mut Places<'_, '_>,
     place: Place,
     positions: u16,
-    count: usize,
-    table: &mut Table,
-) -> Result<usize, Refusal>
-    requires { Ready text.now table.old count place }
-    ensures { MadeAs text table result (made_all text.now place (positions_from 0 positions) count table.old) }
+) -> Result<(), Refusal>
+    requires { place < places.old.count }
+    ensures { MadeAs (appended_from place 0 positions places.old.count places.old.table.now) places.old places.new result }
 {
-    let mut places = count;
     for i in 0..positions {
-        places = make_one(text, place, Step::Position(i), places, table)?;
+        append_position(places, place, i)?;
     }
-    Ok(places)
+    Ok(())
 }
 
 // All positions of a tuple: a block where they are the place's first children.
-fn make_positions(
-    text: &[u8],
-    place: Place,
-    positions: u16,
-    count: usize,
-    table: &mut Table,
-) -> Result<usize, Refusal>
-    requires { Ready text.now table.old count place }
-    ensures { MadeAs text table result (positions_made text.now place positions count table.old) }
+fn make_positions(places: &mut Places<'_, '_>, place: Place, positions: u16) -> Result<(), Refusal>
+    requires { place < places.old.count }
+    ensures { MadeAs (positions_made places.old.text.now place positions places.old.count places.old.table.now)
+        places.old places.new result }
 {
-    if words::link(table, place, Half::First) != 0 {
-        return seek_positions(text, place, positions, count, table);
+    if words::link(places.table, place, Half::First) != 0 {
+        return seek_positions(places, place, positions);
     }
-    let mut places = count;
-    for i in 0..positions {
-        if places::PLACES <= places {
-            return Err(Refusal::TooManyPlaces);
-        }
-        let step = Step::Position(i);
-        append(place, step.code(), step.name(), Place::new(places), table);
-        places += 1;
-    }
-    words::set_block(table, place, positions);
-    Ok(places)
+    append_positions(places, place, positions)?;
+    words::set_block(places.table, place, positions);
+    Ok(())
 }
 
 // Whether a tuple comes to a place that was unknown.
@@ -253,25 +240,25 @@ fn is_first_tuple(kind: u32, before: u32) -> bool
 
 // The children that a container makes at its own command. A tuple makes its positions where the place was unknown.
 pub fn make(
-    text: &[u8],
+    places: &mut Places<'_, '_>,
     place: Place,
     kind: u32,
     positions: u16,
     before: u32,
-    count: usize,
-    table: &mut Table,
-) -> Result<usize, Refusal>
-    requires { Ready text.now table.old count place }
-    ensures { MadeAs text table result (made text.now place kind positions before count table.old) }
+) -> Result<(), Refusal>
+    requires { place < places.old.count }
+    ensures { MadeAs (made places.old.text.now place kind positions before places.old.count places.old.table.now)
+        places.old places.new result }
 {
     if kind == shapes::SEQUENCE {
-        return make_one(text, place, Step::Element, count, table);
+        ensure(places, place, Step::Element)?;
+        return Ok(());
     }
     if kind == shapes::MAP {
-        return make_pair(text, place, count, table);
+        return make_pair(places, place);
     }
     if is_first_tuple(kind, before) {
-        return make_positions(text, place, positions, count, table);
+        return make_positions(places, place, positions);
     }
-    Ok(count)
+    Ok(())
 }

@@ -9,6 +9,7 @@ use Rattle.commands.specs.Commands.{refused_at}
 use Rattle.words.specs.Word.{word, with_word}
 use Rattle.places.specs.Layout.{kind_word, null_word, Sound}
 use Rattle.kinds.specs.Meeting.{meeting}
+use Rattle.shapes.specs.declared.Leaf.{Leaf}
 use Rattle.leaves.specs.declared.Site.{Site}
 use Rattle.leaves.specs.declared.Traced.{Traced}
 use Rattle.model.specs.Kinds.{sequence_kind}
@@ -38,9 +39,15 @@ unfoldable pub observed : ℕ → Bool → ℕ → ℕ → ℕ → ℕ → ℕ �
 observed options null kind levels here behind place n t =
     on_met here t (λ joint. out (traced_to behind n) (stored null joint place t)) (meeting options levels (word t place kind_word) kind)
 
--- the same at a site
-abbrev pub observed_at : ℕ → Bool → ℕ → ℕ → ℕ → Site → List ℕ → Out
-observed_at options null kind here behind site t = observed options null kind site.levels here behind site.place site.count t
+-- the answer of a reader, with the count of places beside it
+abbrev pub counted : Result ℕ Refused → ℕ → Outcome
+counted (Ok next) n = traced_to next n
+counted (Err refused) n = Err refused
+
+-- what is promised where a primitive is seen at a site: however many places there are, they stay as many
+abbrev pub Observes : ℕ → Leaf → ℕ → Site → List ℕ → List ℕ → Result ℕ Refused → Type 0
+Observes options leaf here site t u r =
+    (n : ℕ) → out (counted r n) u ≡ observed options leaf.null leaf.kind site.levels here leaf.next site.place n t
 
 -- ---- what is true of the table afterwards: it is sound, and no place is lost
 abbrev pub SoundTraced : List ℕ → List ℕ → ℕ → Outcome → Type 0

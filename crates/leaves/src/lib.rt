@@ -6,7 +6,7 @@ ghost use Rattle.std.specs.Prelude.{◌≡◌, ◌<◌, IfSome};
 ghost use Rattle.std.specs.Option.{unwrap_or};
 ghost use Rattle.words.specs.Word.{word};
 ghost use Rattle.shapes.specs.Leaf.{Told};
-ghost use Rattle.leaves.specs.Leaves.{Out, stored, observed_at, is_known};
+ghost use Rattle.leaves.specs.Leaves.{Observes, stored, is_known};
 ghost use Rattle.leaves.specs.Marks.{Chain, is_mark, marked, past_marks};
 ghost use Rattle.leaves.specs.Quick.{same_at, quick_at};
 
@@ -25,15 +25,14 @@ pub struct Batch<'a> {
     ghost told: { Told options text.now },
 }
 
-// Where in the table a value is traced: its place, how many places there are, and how many levels are left for containers.
+// Where a value is traced: its place, and how many levels are left for containers.
 #[derive(Clone, Copy)]
 pub struct Site {
     pub place: Place,
-    pub count: usize,
     pub levels: usize,
 }
 
-// The offset behind what was read, and the count of places.
+// The offset behind a batch that was read, and the count of places.
 #[derive(Clone, Copy)]
 pub struct Traced {
     pub next: usize,
@@ -89,28 +88,24 @@ fn is_known(null: bool, before: u32, kind: u32) -> bool
     !null && before == kind && kind < shapes::SEQUENCE
 }
 
-// A primitive at a place.
+// A primitive at a place: the offset behind it.
 pub fn observe(
     options: TracingOptions,
     leaf: Leaf,
     here: usize,
     site: Site,
     table: &mut Table,
-) -> Result<Traced, Refused>
-    ensures { Out.out result table.new ≡ observed_at options.word leaf.null leaf.kind here leaf.next site table.old }
+) -> Result<usize, Refused>
+    ensures { Observes options.word leaf here site table.old table.new result }
 {
     let before = words::get(table, site.place, Whole::Kind);
-    let traced = Traced {
-        next: leaf.next,
-        count: site.count,
-    };
     if is_known(leaf.null, before, leaf.kind) {
-        return Ok(traced);
+        return Ok(leaf.next);
     }
     let met = kinds::meet(options, site.levels, before, leaf.kind);
     let joint = met.map_err(|refusal| refusal.at(here))?;
     store(leaf.null, joint, site.place, table);
-    Ok(traced)
+    Ok(leaf.next)
 }
 
 // Whether a value of one byte stands at an offset, of the type that is at a place.

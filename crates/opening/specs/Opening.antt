@@ -1,7 +1,6 @@
 -- What is opened before anything below it is read: containers, variants, fields.
-use Rattle.std.specs.Prelude.{◌≡◌, List, ℕ, ◌≤◌, Result, Ok, Err, Option, Some, None}
+use Rattle.std.specs.Prelude.{◌≡◌, List, ℕ, ◌≤◌, Result, Ok, Err, Option, Some, None, IfOk, IfSome, ◌<◌}
 use Rattle.logic.specs.Test.{when◌then◌else◌}
-use Rattle.logic.specs.Slices.{Slice, MutSlice, now_of, at_exit}
 use Rattle.refusal.specs.declared.Refusal.{Refusal}
 use Rattle.refusal.specs.declared.Refusal.TheVariants as F
 use Rattle.text.specs.declared.Name.{Name}
@@ -12,8 +11,9 @@ use Rattle.model.specs.Kinds.{union_kind}
 use Rattle.shapes.specs.declared.Step.{Step}
 use Rattle.shapes.specs.declared.Step.TheVariants as S
 use Rattle.places.specs.Layout.{kind_word, Sound, Ready}
-use Rattle.growth.specs.declared.Found.{Found}
-use Rattle.growth.specs.Growth.{Ensuring, ensuring, ensured, Making, making, made, touched, sampled}
+use Rattle.places.specs.declared.Places.{Places}
+use Rattle.places.specs.Places.{Same}
+use Rattle.growth.specs.Growth.{Found, found, Ensuring, ensuring, ensured, Making, making, made, touched, sampled}
 use Rattle.kinds.specs.Meeting.{meeting}
 use Rattle.shapes.specs.Field.{Field, field_at}
 
@@ -80,7 +80,21 @@ SoundOpened text t n (Ok (Some f)) = Ready text t f.count f.child × (n ≤ f.co
 SoundOpened text t n (Ok None) = Sound text t n
 SoundOpened text t n (Err refusal) = Unit {0}
 
--- what is promised of a function that opens a field: its answer and the table then are what the definition gives of the table before, and
--- the table is sound
-abbrev pub OpenedAs : Slice → MutSlice → ℕ → Opened → Opening → Type 0
-OpenedAs text table n r wanted = (opening r (at_exit table) ≡ wanted) × SoundOpened (now_of text) (at_exit table) n r
+-- what is promised of a function that opens a field: its answer, with the count beside it, and the table then are what the definition gives
+-- of those before
+abbrev pub counted : Result (Option ℕ) Refusal → ℕ → Opened
+counted (Ok (Some child)) n = Ok (Some (found child n))
+counted (Ok None) n = Ok None
+counted (Err refusal) n = Err refusal
+
+-- where the end stands there are as many places as before
+abbrev pub Still : Result (Option ℕ) Refusal → ℕ → ℕ → Type 0
+Still (Ok (Some child)) n m = Unit {0}
+Still (Ok None) n m = m ≡ n
+Still (Err refusal) n m = Unit {0}
+
+pub record OpenedAs (wanted : Opening) (o p : Places) (r : Result (Option ℕ) Refusal) : Type 0 where
+  pub opened : opening (counted r p.count) p.table.now ≡ wanted
+  pub here : IfOk r (λ field. IfSome field (λ child. child < p.count))
+  pub still : Still r o.count p.count
+  pub same : Same o p

@@ -1,4 +1,5 @@
 pub mod Layout
+pub mod Places
 pub mod Reading
 pub mod Children
 pub mod laws

@@ -1,12 +1,14 @@
 -- What each of the readers promises: its answer, and the table then, are what one of these readings gives.
-use Rattle.std.specs.Prelude.{List, ℕ, ◌-◌}
-use Rattle.logic.specs.Slices.{MutSlice, at_entry}
+use Rattle.std.specs.Prelude.{◌≡◌, List, ℕ, ◌-◌, Result}
+use Rattle.refusal.specs.declared.Refused.{Refused}
 use Rattle.text.specs.declared.Name.{Name}
 use Rattle.shapes.specs.declared.Step.{Step}
 use Rattle.shapes.specs.declared.Contents.{Contents}
 use Rattle.leaves.specs.declared.Batch.{Batch}
 use Rattle.leaves.specs.declared.Site.{Site}
-use Rattle.leaves.specs.Leaves.{Outcome, TracedIn}
+use Rattle.places.specs.declared.Places.{Places}
+use Rattle.places.specs.Places.{Same}
+use Rattle.leaves.specs.Leaves.{counted, out}
 use Rattle.reading.specs.Reading.{Reader, dots_in, part_read, parts_by, container_by, variant_by, readers, inner_of, value_at}
 
 -- a reading is a reader, given the commands, the texts, the options and the levels left
@@ -37,8 +39,9 @@ parts kind positions commands text options levels at place =
 abbrev pub part : Step → ℕ → Reading
 part step here commands text options levels = part_read text (readers commands text options levels) step here
 
--- what is promised of a function that reads from an offset on, at a site: that it traces as the reading says
-abbrev pub Reads : Batch → ℕ → Site → MutSlice → Reading → Outcome → Type 0
-Reads batch at site table reading r =
-    TracedIn batch.text.now table site.count r
-    (reading batch.commands.now batch.text.now batch.options.word site.levels at site.place site.count (at_entry table))
+-- what is promised of a function that reads from an offset on, at a site: its answer, with the count of places beside it, and the table
+-- then are what the reading gives of those before
+pub record Reads (batch : Batch) (at : ℕ) (site : Site) (o p : Places) (reading : Reading) (r : Result ℕ Refused) : Type 0 where
+  pub read : out (counted r p.count) p.table.now
+      ≡ reading batch.commands.now batch.text.now batch.options.word site.levels at site.place o.count o.table.now
+  pub same : Same o p

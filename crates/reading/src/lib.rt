@@ -1,22 +1,22 @@
 // Reads the values of a batch and traces each at its place (from_samples/mod.rs). A container's contents are read by a
-// call on itself, with the levels left falling from 20: a level for each step down, and one for each dot of its name.
+// call on itself, with the levels left falling from 20: a level for each step down, and one for each dot of its name. That the
+// batch and the places speak of one text is asked of each reader: a struct round both, for that alone, is no plainer.
 
 #![tactic(auto)]
 
-ghost use Rattle.std.specs.Prelude.{◌≡◌, true, ◌-◌};
+ghost use Rattle.std.specs.Prelude.{◌≡◌, true, ◌-◌, ◌<◌};
 ghost use Rattle.model.specs.Kinds.{sequence_kind, map_kind, tuple_kind, is_struct};
 ghost use Rattle.shapes.specs.Steps.{Unnamed, Inside, Good};
 ghost use Rattle.shapes.specs.Shapes.{is_parted};
-ghost use Rattle.places.specs.Layout.{Ready};
 ghost use Rattle.reading.specs.Reading.{dots_in, value_at, parted};
 ghost use Rattle.reading.specs.Promises.{named, container, variant, inside, parts, part, Reads};
 
 use commands::{Due, byte};
-use leaves::{Batch, Site, Traced};
+use leaves::{Batch, Site};
+use places::Places;
 use refusal::{Refusal, Refused};
 use shapes::{Contents, Leaf, Part, Shape, Step};
 use text::Name;
-use words::Table;
 
 // The levels left below a step.
 fn lower(levels: usize, name: Name, text: &[u8]) -> usize
@@ -33,15 +33,16 @@ pub fn read_value(
     batch: &Batch<'_>,
     at: usize,
     site: Site,
-    table: &mut Table,
-) -> Result<Traced, Refused>
-    requires { Ready batch.now.text.now table.old site.count site.place }
-    ensures { Reads batch.entry.now at site table value_at result }
+    places: &mut Places<'_, '_>,
+) -> Result<usize, Refused>
+    requires here { site.place < places.old.count }
+    requires same_text { places.old.text.now ≡ batch.now.text.now }
+    ensures { Reads batch.entry.now at site places.old places.new value_at result }
 {
-    let here = leaves::past_marks(batch.commands, at, site.place, table);
+    let here = leaves::past_marks(batch.commands, at, site.place, places.table);
     match shapes::leaf_at(batch.commands, batch.text, batch.options, here) {
-        Some(leaf) => leaves::observe(batch.options, leaf, here, site, table),
-        None => read_parted(batch, here, site, table),
+        Some(leaf) => leaves::observe(batch.options, leaf, here, site, places.table),
+        None => read_parted(batch, here, site, places),
     }
 }
 
@@ -54,19 +55,20 @@ fn read_named(
     name: Name,
     at: usize,
     site: Site,
-    table: &mut Table,
-) -> Result<Traced, Refused>
-    requires ready { Ready batch.now.text.now table.old site.count site.place }
+    places: &mut Places<'_, '_>,
+) -> Result<usize, Refused>
+    requires here { site.place < places.old.count }
+    requires same_text { places.old.text.now ≡ batch.now.text.now }
     requires inside { Inside batch.now.text.now name }
-    ensures { Reads batch.entry.now at site table (named name) result }
+    ensures { Reads batch.entry.now at site places.old places.new (named name) result }
 {
-    let here = leaves::past_marks(batch.commands, at, site.place, table);
+    let here = leaves::past_marks(batch.commands, at, site.place, places.table);
     match shapes::leaf_at(batch.commands, batch.text, batch.options, here) {
-        Some(leaf) => leaves::observe(batch.options, leaf, here, site, table),
+        Some(leaf) => leaves::observe(batch.options, leaf, here, site, places.table),
         None => {
             let levels = lower(site.levels, name, batch.text);
             let below = Site { levels, ..site };
-            read_parted(batch, here, below, table)
+            read_parted(batch, here, below, places)
         }
     }
 }
@@ -78,30 +80,31 @@ fn read_parted(
     batch: &Batch<'_>,
     here: usize,
     site: Site,
-    table: &mut Table,
-) -> Result<Traced, Refused>
-    requires { Ready batch.now.text.now table.old site.count site.place }
-    ensures { Reads batch.entry.now here site table parted result }
+    places: &mut Places<'_, '_>,
+) -> Result<usize, Refused>
+    requires here { site.place < places.old.count }
+    requires same_text { places.old.text.now ≡ batch.now.text.now }
+    ensures { Reads batch.entry.now here site places.old places.new parted result }
 {
     if shapes::begins_at(batch.commands, byte::STRUCT, here) {
         let kind = shapes::STRUCT;
         let at = here + 1;
-        return read_container(batch, kind, 0, here, at, site, table);
+        return read_container(batch, kind, 0, here, at, site, places);
     }
     if shapes::begins_at(batch.commands, byte::SEQUENCE, here) {
         let kind = shapes::SEQUENCE;
         let at = here + 1;
-        return read_container(batch, kind, 0, here, at, site, table);
+        return read_container(batch, kind, 0, here, at, site, places);
     }
     let (command, next) = commands::read_command(batch.commands, batch.text, here, Due::Value)?;
     match shapes::shape_of(command, batch.text, batch.options) {
         Shape::Leaf(null, kind) => {
             let leaf = Leaf { null, kind, next };
-            leaves::observe(batch.options, leaf, here, site, table)
+            leaves::observe(batch.options, leaf, here, site, places.table)
         }
-        Shape::Parts(kind, n) => { read_container(batch, kind, n, here, next, site, table) }
+        Shape::Parts(kind, n) => { read_container(batch, kind, n, here, next, site, places) }
         Shape::Variant(number, name, contents) => read_variant(
-            batch, number, name, contents, here, next, site, table,
+            batch, number, name, contents, here, next, site, places,
         ),
         Shape::NoValue => Err(Refusal::BadCommand.at(here)),
     }
@@ -118,30 +121,25 @@ fn read_container(
     here: usize,
     at: usize,
     site: Site,
-    table: &mut Table,
-) -> Result<Traced, Refused>
-    requires ready { Ready batch.now.text.now table.old site.count site.place }
+    places: &mut Places<'_, '_>,
+) -> Result<usize, Refused>
+    requires here { site.place < places.old.count }
+    requires same_text { places.old.text.now ≡ batch.now.text.now }
     requires kind_value { is_parted kind ≡ true }
-    ensures { Reads batch.entry.now at site table (container kind positions here) result }
+    ensures { Reads batch.entry.now at site places.old places.new (container kind positions here) result }
 {
     let made = opening::open_container(
-        batch.text,
+        places,
         batch.options,
         kind,
         positions,
         site.levels,
         site.place,
-        site.count,
-        table,
     );
-    let count = made.map_err(|refusal| refusal.at(here))?;
+    made.map_err(|refusal| refusal.at(here))?;
     let levels = site.levels - 1;
-    let below = Site {
-        place: site.place,
-        count,
-        levels,
-    };
-    read_parts(batch, kind, positions, at, below, table)
+    let below = Site { levels, ..site };
+    read_parts(batch, kind, positions, at, below, places)
 }
 
 // The parts of a container by its kind. The levels are those left below it. The loops stand apart: with those inlined where a
@@ -154,37 +152,39 @@ fn read_parts(
     positions: u16,
     start: usize,
     site: Site,
-    table: &mut Table,
-) -> Result<Traced, Refused>
-    requires ready { Ready batch.now.text.now table.old site.count site.place }
+    places: &mut Places<'_, '_>,
+) -> Result<usize, Refused>
+    requires here { site.place < places.old.count }
+    requires same_text { places.old.text.now ≡ batch.now.text.now }
     requires kind_value { is_parted kind ≡ true }
-    ensures { Reads batch.entry.now start site table (parts kind positions) result }
+    ensures { Reads batch.entry.now start site places.old places.new (parts kind positions) result }
 {
     if kinds::is_struct(kind) {
-        return read_fields(batch, kind, start, site, table);
+        return read_fields(batch, kind, start, site, places);
     }
     if kind == shapes::SEQUENCE {
-        return read_elements(batch, start, site, table);
+        return read_elements(batch, start, site, places);
     }
     if kind == shapes::MAP {
-        return read_entries(batch, start, site, table);
+        return read_entries(batch, start, site, places);
     }
-    read_positions(batch, positions, start, site, table)
+    read_positions(batch, positions, start, site, places)
 }
 
-// The fields of a struct, or of a map in map mode, up to the end. The site grows by the places that they add, here and in
-// the loops below. What the loop reads of the batch is taken out before: else wide structs take 4 % more instructions.
+// The fields of a struct, or of a map in map mode, up to the end. What the loop reads of the batch is taken out before: else wide
+// structs take 4 % more instructions.
 #[cycle(readers)]
 fn read_fields(
     batch: &Batch<'_>,
     kind: u32,
     start: usize,
     site: Site,
-    table: &mut Table,
-) -> Result<Traced, Refused>
-    requires ready { Ready batch.now.text.now table.old site.count site.place }
+    places: &mut Places<'_, '_>,
+) -> Result<usize, Refused>
+    requires here { site.place < places.old.count }
+    requires same_text { places.old.text.now ≡ batch.now.text.now }
     requires kind_value { is_struct kind ≡ true }
-    ensures { Reads batch.entry.now start site table (parts kind 0) result }
+    ensures { Reads batch.entry.now start site places.old places.new (parts kind 0) result }
 {
     let Batch {
         commands,
@@ -194,37 +194,28 @@ fn read_fields(
     let mut at = start;
     let place = site.place;
     let levels = site.levels;
-    let mut count = site.count;
-    while let Some(field) = opening::open_field(
-        commands, text, kind, at, place, count, table,
-    ).map_err(|refusal| refusal.at(at))?
-    {
+    while let Some(child) = opening::open_field(places, commands, kind, at, place).map_err(
+        |refusal| refusal.at(at),
+    )? {
         if let Some(next) = leaves::past_quick(
             commands,
             text,
             options,
             at + 5,
-            field.child,
-            table,
+            child,
+            places.table,
         ) {
             at = next;
-            count = field.count;
         } else {
             let name = commands::read_name(commands, at + 1);
             let below = Site {
-                place: field.child,
-                count: field.count,
+                place: child,
                 levels,
             };
-            let traced = read_named(batch, name, at + 5, below, table)?;
-            at = traced.next;
-            count = traced.count;
+            at = read_named(batch, name, at + 5, below, places)?;
         }
     }
-    Ok(Traced {
-        next: at + 1,
-        count,
-    })
+    Ok(at + 1)
 }
 
 // The elements of a sequence, up to the end.
@@ -234,29 +225,24 @@ fn read_elements(
     batch: &Batch<'_>,
     start: usize,
     site: Site,
-    table: &mut Table,
-) -> Result<Traced, Refused>
-    requires { Ready batch.now.text.now table.old site.count site.place }
-    ensures { Reads batch.entry.now start site table (parts sequence_kind 0) result }
+    places: &mut Places<'_, '_>,
+) -> Result<usize, Refused>
+    requires here { site.place < places.old.count }
+    requires same_text { places.old.text.now ≡ batch.now.text.now }
+    ensures { Reads batch.entry.now start site places.old places.new (parts sequence_kind 0) result }
 {
     let mut at = start;
     let place = site.place;
     let levels = site.levels;
-    let mut count = site.count;
     loop {
         match shapes::element_part(batch.commands, batch.text, at)? {
             Part::Ended(next) => {
-                return Ok(Traced { next, count });
+                return Ok(next);
             }
             Part::Step(step, value) => {
-                let grown = Site {
-                    place,
-                    count,
-                    levels,
-                };
-                let traced = read_part(batch, step, at, value, grown, table)?;
-                at = runs::past_same(batch.commands, traced.next, place, table);
-                count = traced.count;
+                let below = Site { place, levels };
+                let next = read_part(batch, step, at, value, below, places)?;
+                at = runs::past_same(batch.commands, next, place, places.table);
             }
         }
     }
@@ -268,30 +254,24 @@ fn read_entries(
     batch: &Batch<'_>,
     start: usize,
     site: Site,
-    table: &mut Table,
-) -> Result<Traced, Refused>
-    requires { Ready batch.now.text.now table.old site.count site.place }
-    ensures { Reads batch.entry.now start site table (parts map_kind 0) result }
+    places: &mut Places<'_, '_>,
+) -> Result<usize, Refused>
+    requires here { site.place < places.old.count }
+    requires same_text { places.old.text.now ≡ batch.now.text.now }
+    ensures { Reads batch.entry.now start site places.old places.new (parts map_kind 0) result }
 {
     let mut i: usize = 0;
     let mut at = start;
     let place = site.place;
     let levels = site.levels;
-    let mut count = site.count;
     loop {
         match shapes::entry_part(batch.commands, batch.text, i, at)? {
             Part::Ended(next) => {
-                return Ok(Traced { next, count });
+                return Ok(next);
             }
             Part::Step(step, value) => {
-                let grown = Site {
-                    place,
-                    count,
-                    levels,
-                };
-                let traced = read_part(batch, step, at, value, grown, table)?;
-                at = traced.next;
-                count = traced.count;
+                let below = Site { place, levels };
+                at = read_part(batch, step, at, value, below, places)?;
             }
         }
         i += 1;
@@ -305,15 +285,15 @@ fn read_positions(
     positions: u16,
     start: usize,
     site: Site,
-    table: &mut Table,
-) -> Result<Traced, Refused>
-    requires { Ready batch.now.text.now table.old site.count site.place }
-    ensures { Reads batch.entry.now start site table (parts tuple_kind positions) result }
+    places: &mut Places<'_, '_>,
+) -> Result<usize, Refused>
+    requires here { site.place < places.old.count }
+    requires same_text { places.old.text.now ≡ batch.now.text.now }
+    ensures { Reads batch.entry.now start site places.old places.new (parts tuple_kind positions) result }
 {
     let mut at = start;
     let place = site.place;
     let levels = site.levels;
-    let mut count = site.count;
     for i in 0..positions {
         match shapes::value_part(
             batch.commands,
@@ -323,21 +303,15 @@ fn read_positions(
             at,
         )? {
             Part::Ended(next) => {
-                return Ok(Traced { next, count });
+                return Ok(next);
             }
             Part::Step(step, value) => {
-                let grown = Site {
-                    place,
-                    count,
-                    levels,
-                };
-                let traced = read_part(batch, step, at, value, grown, table)?;
-                at = traced.next;
-                count = traced.count;
+                let below = Site { place, levels };
+                at = read_part(batch, step, at, value, below, places)?;
             }
         }
     }
-    Ok(Traced { next: at, count })
+    Ok(at)
 }
 
 // The value of a part that is no field, at the child that its step leads to.
@@ -348,20 +322,17 @@ fn read_part(
     here: usize,
     at: usize,
     site: Site,
-    table: &mut Table,
-) -> Result<Traced, Refused>
-    requires ready { Ready batch.now.text.now table.old site.count site.place }
+    places: &mut Places<'_, '_>,
+) -> Result<usize, Refused>
+    requires here { site.place < places.old.count }
+    requires same_text { places.old.text.now ≡ batch.now.text.now }
     requires unnamed { Unnamed step }
-    ensures { Reads batch.entry.now at site table (part step here) result }
+    ensures { Reads batch.entry.now at site places.old places.new (part step here) result }
 {
-    let held = opening::hold(batch.text, site.place, step, site.count, table);
-    let part = held.map_err(|refusal| refusal.at(here))?;
-    let below = Site {
-        place: part.child,
-        count: part.count,
-        levels: site.levels,
-    };
-    read_value(batch, at, below, table)
+    let held = opening::hold(places, site.place, step);
+    let place = held.map_err(|refusal| refusal.at(here))?;
+    let below = Site { place, ..site };
+    read_value(batch, at, below, places)
 }
 
 // A variant, whose command stands at `here` and whose contents start at `at`.
@@ -374,30 +345,18 @@ fn read_variant(
     here: usize,
     at: usize,
     site: Site,
-    table: &mut Table,
-) -> Result<Traced, Refused>
-    requires ready { Ready batch.now.text.now table.old site.count site.place }
+    places: &mut Places<'_, '_>,
+) -> Result<usize, Refused>
+    requires here { site.place < places.old.count }
+    requires same_text { places.old.text.now ≡ batch.now.text.now }
     requires good { Good batch.now.text.now name }
-    ensures { Reads batch.entry.now at site table (variant number name contents here) result }
+    ensures { Reads batch.entry.now at site places.old places.new (variant number name contents here) result }
 {
-    let held = opening::open_variant(
-        batch.text,
-        batch.options,
-        number,
-        name,
-        site.levels,
-        site.place,
-        site.count,
-        table,
-    );
-    let variant = held.map_err(|refusal| refusal.at(here))?;
+    let held = opening::open_variant(places, batch.options, number, name, site.levels, site.place);
+    let place = held.map_err(|refusal| refusal.at(here))?;
     let levels = lower(site.levels - 1, name, batch.text);
-    let below = Site {
-        place: variant.child,
-        count: variant.count,
-        levels,
-    };
-    read_contents(batch, contents, here, at, below, table)
+    let below = Site { place, levels };
+    read_contents(batch, contents, here, at, below, places)
 }
 
 // A variant's contents are as for the plain form, their command being the variant's.
@@ -408,10 +367,11 @@ fn read_contents(
     here: usize,
     at: usize,
     site: Site,
-    table: &mut Table,
-) -> Result<Traced, Refused>
-    requires { Ready batch.now.text.now table.old site.count site.place }
-    ensures { Reads batch.entry.now at site table (inside contents here) result }
+    places: &mut Places<'_, '_>,
+) -> Result<usize, Refused>
+    requires here { site.place < places.old.count }
+    requires same_text { places.old.text.now ≡ batch.now.text.now }
+    ensures { Reads batch.entry.now at site places.old places.new (inside contents here) result }
 {
     match contents {
         Contents::Unit => {
@@ -420,16 +380,16 @@ fn read_contents(
                 kind: shapes::UNKNOWN,
                 next: at,
             };
-            leaves::observe(batch.options, leaf, here, site, table)
+            leaves::observe(batch.options, leaf, here, site, places.table)
         }
-        Contents::Value => read_value(batch, at, site, table),
+        Contents::Value => read_value(batch, at, site, places),
         Contents::Positions(n) => {
             let kind = shapes::TUPLE;
-            read_container(batch, kind, n, here, at, site, table)
+            read_container(batch, kind, n, here, at, site, places)
         }
         Contents::Fields => {
             let kind = shapes::STRUCT;
-            read_container(batch, kind, 0, here, at, site, table)
+            read_container(batch, kind, 0, here, at, site, places)
         }
     }
 }

@@ -1,10 +1,14 @@
 -- All records of a batch at the root (from_samples/mod.rs), which is the one place that there is at first: a value each, read with twenty
 -- levels left.
-use Rattle.std.specs.Prelude.{List, ℕ, ◌+◌, ltb, length}
+use Rattle.std.specs.Prelude.{◌≡◌, List, ℕ, ◌+◌, ltb, length, Result}
 use Rattle.logic.specs.Test.{when◌then◌else◌}
 use Rattle.logic.specs.Turns.{Turn, done, turns}
 use Rattle.places.specs.Layout.{root_place}
-use Rattle.leaves.specs.Leaves.{traced_to, Out, out}
+use Rattle.refusal.specs.declared.Refused.{Refused}
+use Rattle.places.specs.declared.Places.{Places}
+use Rattle.places.specs.Places.{Same}
+use Rattle.leaves.specs.declared.Batch.{Batch}
+use Rattle.leaves.specs.Leaves.{traced_to, counted, Out, out}
 use Rattle.reading.specs.Reading.{State, after_part, state, value_at}
 
 abbrev pub level_limit : ℕ
@@ -23,3 +27,8 @@ records_at commands text options at n t = turns (record_turn commands text optio
 
 abbrev pub from_samples : List ℕ → List ℕ → ℕ → List ℕ → Out
 from_samples commands text options t = records_at commands text options 0 1 t
+
+-- what is promised where all records of a batch are read, with the count of places beside the answer
+pub record ReadsAll (batch : Batch) (o p : Places) (r : Result ℕ Refused) : Type 0 where
+  pub read : out (counted r p.count) p.table.now ≡ from_samples batch.commands.now batch.text.now batch.options.word o.table.now
+  pub same : Same o p

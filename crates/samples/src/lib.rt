@@ -4,34 +4,34 @@
 
 ghost use Rattle.std.specs.Prelude.{◌≡◌};
 ghost use Rattle.places.specs.Layout.{Sound};
-ghost use Rattle.leaves.specs.Leaves.{TracedAs, TracedIn};
-ghost use Rattle.samples.specs.Samples.{from_samples};
+ghost use Rattle.leaves.specs.Leaves.{TracedAs};
+ghost use Rattle.samples.specs.Samples.{from_samples, ReadsAll};
 
 use leaves::{Batch, Site, Traced};
 use options::TracingOptions;
+use places::Places;
 use refusal::Refused;
 use words::{Place, Table};
 
 // Containers stand at most so deep.
 const LEVELS: usize = 20;
 
-// All records of a batch at the root, which is the one place that there is at first.
-fn read_records(batch: &Batch<'_>, table: &mut Table) -> Result<Traced, Refused>
-    requires { Sound batch.now.text.now table.old 1 }
-    ensures { TracedIn batch.entry.now.text.now table 1 result
-        (from_samples batch.entry.now.commands.now batch.entry.now.text.now batch.entry.now.options.word table.old) }
+// All records of a batch at the root, which is the one place that there is at first: the offset behind them.
+fn read_records(batch: &Batch<'_>, places: &mut Places<'_, '_>) -> Result<usize, Refused>
+    requires one { places.old.count ≡ 1 }
+    requires same_text { places.old.text.now ≡ batch.now.text.now }
+    ensures { ReadsAll batch.entry.now places.old places.new result }
 {
     let end = batch.commands.len();
-    let mut read = Traced { next: 0, count: 1 };
-    while read.next < end {
+    let mut at = 0;
+    while at < end {
         let root = Site {
             place: Place::ROOT,
-            count: read.count,
             levels: LEVELS,
         };
-        read = reading::read_value(batch, read.next, root, table)?;
+        at = reading::read_value(batch, at, root, places)?;
     }
-    Ok(read)
+    Ok(at)
 }
 
 // Tracer::from_samples. The text is looked at once, so that where it is ASCII no text in it is tested for UTF-8.
@@ -50,5 +50,14 @@ pub fn from_samples(
         text,
         options: options.over(text::is_ascii(text)),
     };
-    read_records(&batch, table)
+    let mut places = Places {
+        text,
+        table,
+        count: 1,
+    };
+    let next = read_records(&batch, &mut places)?;
+    Ok(Traced {
+        next,
+        count: places.count,
+    })
 }

@@ -16,6 +16,7 @@ ghost use Rattle.search.specs.Tree.{is_numbered, side_word, follow, seek};
 ghost use Rattle.search.specs.Search.{Comparable, find_in, in_block, child_at};
 ghost use Rattle.search.specs.Scan.{few_places, many_places, is_tagged, is_field, field_among, past_others, is_sparse, Passed};
 
+use places::Places;
 use shapes::Step;
 use text::Name;
 use words::{Half, Place, Table, Whole};
@@ -162,17 +163,15 @@ fn find_from(
 
 // The field of a place with that name, found in first_seen order. Children stand in ascending order, so places are looked at by
 // number from the first child to the last; from child to child where few of them are children, or the name is long.
-pub fn find_field(
-    text: &[u8],
-    place: Place,
-    name: Name,
-    count: usize,
-    table: &Table,
-) -> Option<Place>
-    requires { Ready text.now table.now count place × Inside text.now name }
-    ensures found { result ≡ child_of (find_in text.now place field_code name table.now) }
-    ensures below { IfSome result (λ child. child < count) }
+pub fn find_field(places: &Places<'_, '_>, place: Place, name: Name) -> Option<Place>
+    requires here { place < places.now.count }
+    requires inside { Inside places.now.text.now name }
+    ensures found { result ≡ child_of (find_in places.now.text.now place field_code name places.now.table.now) }
+    ensures below { IfSome result (λ child. child < places.now.count) }
 {
+    let text = places.text;
+    let count = places.count;
+    let table = &*places.table;
     let first = words::link(table, place, Half::First);
     if first == 0 {
         return None;
@@ -192,7 +191,8 @@ pub fn find_field(
     find_from(text, place, name, tag, here, last, count, table)
 }
 
-// The child of a place at a step that is no field: it is told by its code, whatever its name.
+// The child of a place at a step that is no field: it is told by its code, whatever its name. `find_linked` above tells a child
+// otherwise: one function over the test would need clauses on it that are longer than this loop.
 fn find(text: &[u8], place: Place, code: u32, count: usize, table: &Table) -> Option<Place>
     requires ready { Ready text.now table.now count place }
     requires no_field { code ≢ field_code }
@@ -315,12 +315,15 @@ fn is_in_block(place: Place, i: u16, count: usize, table: &Table) -> bool
 
 // The child of a place at a step that is no field: a position in the block stands by its number, any other numbered
 // child is found in the search tree, the others from sibling to sibling.
-pub fn child_at(text: &[u8], place: Place, step: Step, count: usize, table: &Table) -> Option<Place>
-    requires ready { Ready text.now table.now count place }
+pub fn child_at(places: &Places<'_, '_>, place: Place, step: Step) -> Option<Place>
+    requires here { place < places.now.count }
     requires no_field { code_of step ≢ field_code }
-    ensures found { result ≡ child_of (child_at text.now place step count table.now) }
-    ensures below { IfSome result (λ child. child < count) }
+    ensures found { result ≡ child_of (child_at places.now.text.now place step places.now.count places.now.table.now) }
+    ensures below { IfSome result (λ child. child < places.now.count) }
 {
+    let text = places.text;
+    let count = places.count;
+    let table = &*places.table;
     let code = step.code();
     if !is_numbered(code) {
         return find(text, place, code, count, table);

@@ -85,7 +85,8 @@ impl Step {
 }
 
 // A name in one word, so that names given by the same part of the text are equal words. No `From`: it is the work table that
-// has names so, and the word's own name says which word it is.
+// has names so, and the word's own name says which word it is. Commands and words hold a name without its text, so that what is
+// asked of a name, that it lies inside the text, stands in contracts and not in its type.
 pub fn packed(name: Name) -> u32
     ensures { result ≡ packed_name name }
 {
@@ -290,7 +291,8 @@ fn text_leaf(commands: &[u8], text: &[u8], options: TracingOptions, at: usize) -
     None
 }
 
-// The value at an offset, where it is a primitive; none where another command stands, or none that can stand there.
+// The value at an offset, where it is a primitive; none where another command stands, or none that can stand there. The parts of a
+// batch come one by one: read out of the struct at each value, wide records take 4 % more instructions.
 pub fn leaf_at(commands: &[u8], text: &[u8], options: TracingOptions, at: usize) -> Option<Leaf>
     requires { Told options text.now }
     ensures { result ≡ leaf_at options.word commands.now text.now at }

@@ -1,5 +1,5 @@
 -- `add` appends a child, gives it its tag and enters it into the search tree, where there is room.
-use Rattle.std.proofs.Common.{◌≡◌, ℕ, ◌+◌, ◌<◌, ◌≤◌, List, Ok, Err, rules, le-leb}
+use Rattle.std.proofs.Common.{◌≡◌, ℕ, ◌+◌, ◌<◌, ◌≤◌, List, Ok, Err, arith, rules, le-leb}
 use borrow.Author.Tests.{lt-leb}
 use Rattle.logic.specs.Test.{when◌then◌else◌}
 use Rattle.refusal.specs.declared.Refusal.TheVariants as F
@@ -12,7 +12,6 @@ use Rattle.shapes.specs.Steps.{Good}
 use Rattle.places.specs.Layout.{tag_word, position_word, Sound, Ready}
 use Rattle.growth.specs.Growth.{found, appended, position_in, tagged, ensuring, ensured_by, entered}
 use Rattle.growth.specs.laws.Growth.{sound_tagged, sound_entered}
-use Rattle.growth.specs.laws.Growth.{last_small}
 use Rattle.growth.proofs.add.Goals as goal
 
 module _ (text t : List ℕ) (n place code : ℕ) (name : Name) where
@@ -31,24 +30,25 @@ module _ (text t : List ℕ) (n place code : ℕ) (name : Name) where
     sound ready good h =
         sound_entered text x w n place code f ready.here room (sound_tagged text t n place ready room code name good h x position (rw (g, d, b, a)))
 
-pub returns-then-count-ge-PLACES : goal.returns-then-count-ge-PLACES
-returns-then-count-ge-PLACES c = (search (full, rules), tt)
+pub returns-then-places-ge-PLACES : goal.returns-then-places-ge-PLACES
+returns-then-places-ge-PLACES c = record { ensured = search (full, rules); here = tt; same = record { text = search rules; table = search rules; grows = omega arith } }
 
-pub next_position-position-requires : goal.next_position-position-requires
-next_position-position-requires c = search (last_small, rules)
-
-pub append-requires : goal.append-requires
-append-requires c = search (last_small, rules)
+pub invariant_of-places : goal.invariant_of-places
+invariant_of-places c =
+    let s = c.new-child.ensures in
+    let short : c.args.name.length < 65536 = search rules in
+    record {
+      sound = sound _ _ _ _ _ _ _ _ _ _ _ _ (search rules) c.next_position-position.ensures (rw s at c.append.ensures) c.tag-tag.ensures
+          (rw s at c.set.ensures) (rw s at c.set-2.ensures) (rw s at c.enter.ensures)
+          (record { sound = c.args.places.now.sound; here = c.requires.here }) c.requires.good short;
+    }
 
 pub returns : goal.returns
 returns c =
-    let room : c.args.count < place_limit = search rules in
-    let short : c.args.name.length < 65536 = search rules in
     let s = c.new-child.ensures in
-    let i = c.next_position-position.ensures in
-    let a = rw s at c.append.ensures in
-    let b = c.tag.ensures in
-    let d = rw s at c.set.ensures in
-    let g = rw s at c.set-2.ensures in
-    let f = rw s at c.enter.ensures in
-    (rw s (new _ _ _ _ _ _ _ _ _ _ _ _ room i a b d g f), (sound _ _ _ _ _ _ _ _ _ _ _ _ room i a b d g f (search rules) (search rules) short, search rules))
+    record {
+      ensured = rw s (new _ _ _ _ _ _ _ _ _ _ _ _ (search rules) c.next_position-position.ensures (rw s at c.append.ensures) c.tag-tag.ensures
+          (rw s at c.set.ensures) (rw s at c.set-2.ensures) (rw s at c.enter.ensures));
+      here = search rules;
+      same = record { text = search rules; table = search rules; grows = omega arith };
+    }

@@ -20,9 +20,8 @@ use Rattle.model.specs.Kinds.{sequence_kind, map_kind, tuple_kind}
 use Rattle.model.specs.Tracing.{place_limit}
 use Rattle.shapes.specs.declared.Step.{Step}
 use Rattle.shapes.specs.Steps.{field_code, name_of, packed_name, unpacked_name, Inside, Good}
-use Rattle.growth.specs.declared.Found.{Found}
 use Rattle.places.specs.Layout.{kind_word, samples_word, first_word, last_word, block_word, next_word, parent_word, step_word, name_word, held_word, mark_word, tag_word, position_word, Linked, Siblings, Sound, Ready}
-use Rattle.growth.specs.Growth.{linked, lengthened, described, appended, tagged, Ensured, Made, Ensuring, ensuring, confirmed, ensured_by, ensured, touched, sampled, Making, making, of_ensuring, made_one, then_made, made_all, appended_from, positions_made, made, SoundEnsured, SoundMade, entered}
+use Rattle.growth.specs.Growth.{Found, linked, lengthened, described, appended, tagged, Ensured, Made, Ensuring, ensuring, confirmed, ensured_by, ensured, touched, sampled, Making, making, of_ensuring, made_one, then_made, made_all, appended_from, positions_made, made, SoundEnsured, SoundMade, entered}
 use Rattle.search.specs.Search.{child_at}
 use Rattle.search.specs.laws.Tree.{seek_ends}
 use Rattle.search.specs.Tree.{is_numbered}

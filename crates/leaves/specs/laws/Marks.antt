@@ -108,3 +108,19 @@ module _ (text t : List ℕ) (n place : ℕ) (ready : Ready text t n place) wher
         le_refl n,
       )
       go (M.Err refusal) = tt
+
+  -- and the table stays sound, whatever is answered
+  pub observed_kept : (options : ℕ) (is_null : Bool) (kind levels here behind : ℕ) (r : Outcome) (u : List ℕ) →
+      out r u ≡ observed options is_null kind levels here behind place n t → Sound text u n
+  unfolding observed stored
+  observed_kept options is_null kind levels here behind r u e = rw (← e) at (go (meeting options levels (word t place kind_word) kind))
+    where
+      Kept : Out → Type 0
+      Kept (out r x) = Sound text x n
+
+      go : (met : M.Result ℕ Refusal) → Kept (on_met here t (λ joint. out (traced_to behind n) (stored is_null joint place t)) met)
+      go (M.Ok joint) =
+          if_either (λ x. Sound text x n) is_null
+          (sound_plain text _ n place null_word 1 refl ready.here (sound_plain text t n place kind_word joint refl ready.here ready.sound))
+          (sound_plain text t n place kind_word joint refl ready.here ready.sound)
+      go (M.Err refusal) = ready.sound

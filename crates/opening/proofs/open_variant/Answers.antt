@@ -1,21 +1,25 @@
 -- `open_variant`: kinds that meet, or a refusal.
-use borrow.Author.Rules.{rules}
-use native.Mathlib.Omega.{arith}
+use Rattle.std.proofs.Common.{refl, le_refl, rules}
+use Rattle.growth.specs.laws.Growth.{sound_sampled}
 use Rattle.opening.specs.laws.Opening.{holds_met, holds_unmet}
-use Rattle.growth.specs.laws.Growth.{sampled_ready}
+use Rattle.opening.proofs.Held.{was_refused, none_here}
 use Rattle.opening.proofs.open_variant.Goals as goal
 
-pub hold-requires : goal.hold-requires
-hold-requires c = (
-  sampled_ready _ _ _ _
-      c.requires.ready _ _
-      c.sample.ensures,
-  search rules,
-  λ e. omega arith,
-)
+pub returns-in_err-joint : goal.returns-in_err-joint
+returns-in_err-joint c =
+    record {
+      ensured = holds_unmet _ _ _ _ _ _ _ _ _ _ c.get-before.ensures c.meet.ensures _ _ c.in_err-joint.was (was_refused _ _ _ (search rules));
+      here = none_here _ c.in_err-joint.field-0.0 _ (search rules);
+      same = record { text = refl; table = refl; grows = le_refl _ };
+    }
+
+pub invariant_of-places-2 : goal.invariant_of-places-2
+invariant_of-places-2 c = record { sound = search (sound_sampled, rules) }
 
 pub returns : goal.returns
-returns c = (search (holds_met, rules), search rules)
-
-pub returns-in_err-joint : goal.returns-in_err-joint
-returns-in_err-joint c = (holds_unmet _ _ _ _ _ _ _ _ _ _ c.get-before.ensures c.meet.ensures _ _ c.in_err-joint.was (search rules), search rules)
+returns c =
+    record {
+      ensured = search (holds_met, rules);
+      here = c.hold.ensures.here;
+      same = record { text = c.hold.ensures.same.text; table = c.hold.ensures.same.table; grows = c.hold.ensures.same.grows };
+    }

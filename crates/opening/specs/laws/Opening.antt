@@ -18,8 +18,7 @@ use Rattle.shapes.specs.declared.Step.{Step}
 use Rattle.shapes.specs.declared.Step.TheVariants as S
 use Rattle.shapes.specs.Steps.{field_code, Inside, Good}
 use Rattle.places.specs.Layout.{kind_word, step_word, Ready, Sound}
-use Rattle.growth.specs.declared.Found.{Found}
-use Rattle.growth.specs.Growth.{Ensured, Made, found, ensuring, confirmed, ensured_by, ensured, making, made, touched, sampled, SoundEnsured}
+use Rattle.growth.specs.Growth.{Found, Ensured, Made, found, ensuring, confirmed, ensured_by, ensured, making, made, touched, sampled, SoundEnsured}
 use Rattle.search.specs.Search.{is_at, find_in, child_at}
 use Rattle.kinds.specs.Meeting.{meeting}
 use Rattle.places.specs.laws.Layout.{first_below}

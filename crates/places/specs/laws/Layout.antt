@@ -1,5 +1,5 @@
 -- Laws of the table of places: what stores keep, and a table of zeros.
-use Rattle.std.specs.Prelude.{◌≡◌, refl, Bool, true, false, not, ◌||◌, List, ℕ, ◌<◌, ◌≤◌, eqb, ltb}
+use Rattle.std.specs.Prelude.{◌≡◌, refl, Bool, true, false, not, ◌||◌, List, ℕ, ◌-◌, ◌<◌, ◌≤◌, eqb, ltb}
 use Rattle.std.proofs.Common.{sym, ◌∙◌, le_refl, arith, ltb-true, ltb-false}
 use Rattle.std.proofs.lemmas.Bool.{false≢true}
 use Rattle.logic.specs.laws.Test.{cases}
@@ -153,3 +153,21 @@ module _ (text t : List ℕ) (n place : ℕ) (ready : Ready text t n place) wher
 pub name_inside : (text t : List ℕ) (child w : ℕ) (known : Name) → Inside text (unpacked_name (word t child name_word)) →
     w ≡ word t child name_word → known ≡ unpacked_name w → Inside text known
 name_inside text t child w known i a b = rw (b, a) i
+
+-- a table is sound with one count of places alone
+no_more : (text t : List ℕ) (n m : ℕ) → Sound text t n → Sound text t m → n < m → ⊥
+no_more text t n m a b h =
+    let z : word t 0 first_word < n = a.linked.first 0 (omega arith) in
+    let l : word t 0 last_word < n = a.linked.last 0 (omega arith) in
+    let p : word t (m - 1) parent_word ≡ 0 = a.blank (m - 1) parent_word (omega arith) in
+    let k : m - 1 ≤ word t (word t (m - 1) parent_word) last_word = b.siblings.to (m - 1) (omega arith) (omega arith) in
+    let j : m - 1 ≤ word t 0 last_word = rw p at k in
+    absurd (omega arith)
+
+pub sound_count : (text t : List ℕ) (n m : ℕ) → Sound text t n → Sound text t m → n ≡ m
+sound_count text t n m a b =
+    cases (ltb n m)
+    (λ e. absurd (no_more text t n m a b (ltb-true n m e)))
+    (λ e. cases (ltb m n)
+    (λ d. absurd (no_more text t m n b a (ltb-true m n d)))
+    (λ d. let l : m ≤ n = ltb-false n m e in let k : n ≤ m = ltb-false m n d in omega arith))

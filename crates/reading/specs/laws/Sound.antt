@@ -16,8 +16,7 @@ use Rattle.model.specs.Tracing.{place_limit}
 use Rattle.shapes.specs.declared.Step.{Step}
 use Rattle.shapes.specs.declared.Step.TheVariants as S
 use Rattle.places.specs.Layout.{kind_word, first_word, Sound, Ready}
-use Rattle.growth.specs.declared.Found.{Found}
-use Rattle.growth.specs.Growth.{Ensured, Made, found, Ensuring, ensuring, ensured, sampled, making, made, SoundMade}
+use Rattle.growth.specs.Growth.{Found, Ensured, Made, found, Ensuring, ensuring, ensured, sampled, making, made, SoundMade}
 use Rattle.kinds.specs.Meeting.{meeting}
 use Rattle.growth.specs.laws.Growth.{OnChild, OnPlaces, all_more, ensured_more}
 use Rattle.shapes.specs.Shapes.{is_parted}
