@@ -127,7 +127,7 @@ pub fn ensure(places: &mut Places<'_, '_>, place: Place, step: Step) -> Result<P
     requires no_field { code_of step ≢ field_code }
     ensures { EnsuredAs (ensured places.old.text.now place step places.old.count places.old.table.now) places.old places.new result }
 {
-    match search::child_at(places, place, step) {
+    match search::child_at(places.text, place, step, places.count, places.table) {
         Some(child) => confirm(places.text, step.name(), child, places.table),
         None => add(places, place, step.code(), step.name()),
     }

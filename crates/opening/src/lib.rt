@@ -98,7 +98,7 @@ fn hold_field(
     requires inside { Inside places.old.text.now name }
     ensures { OpenedAs (field_held places.old.text.now place name places.old.count places.old.table.now) places.old places.new result }
 {
-    let Some(seen) = search::find_field(places, place, name) else {
+    let Some(seen) = search::find_field(places.text, place, name, places.count, places.table) else {
         return new_field(places, place, name);
     };
     growth::touch(place, seen, places.table);

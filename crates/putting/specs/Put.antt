@@ -3,7 +3,7 @@ use Rattle.std.specs.Prelude.{◌≡◌, Bool, true, false, List, [], ◌∷◌,
 use Rattle.logic.specs.Test.{when◌then◌else◌}
 use Rattle.logic.specs.Slices.{MutSlice, at_entry, at_exit}
 use Rattle.logic.specs.Buffer.{written}
-use Rattle.datatype.specs.Codes.{null, struct, no_strategy, unknown_variant, strategy_code}
+use Rattle.datatype.specs.Codes.{null, struct, no_strategy, unknown_variant}
 use Rattle.model.specs.Kinds.{map_kind}
 use Rattle.model.specs.Tracing.{one}
 use Rattle.model.specs.Emission.{entries_name}
@@ -29,7 +29,7 @@ record_of type nullable strategy number length children =
     type ∷ one nullable ∷ strategy ∷ number ∷ length % 256 ∷ length / 256 % 256 ∷ children % 256 ∷ children / 256 % 256 ∷ []
 
 abbrev pub record_bytes : Record → List ℕ
-record_bytes r = record_of r.kind r.nullable (strategy_code r.strategy) r.number r.name_length r.children
+record_bytes r = record_of r.kind r.nullable r.strategy r.number r.name_length r.children
 
 -- so many union slots never seen, from a slot on
 unfoldable pub put_gaps : ℕ → ℕ → ℕ → Put → Put

@@ -20,7 +20,7 @@ const ENTRIES_FIELDS: u32 = 2;
 pub struct Record {
     pub kind: u8,
     pub nullable: bool,
-    pub strategy: Strategy,
+    pub strategy: u8,
     pub number: u8,
     pub name_length: u32,
     pub children: u32,
@@ -60,7 +60,7 @@ impl Record {
         [
             self.kind,
             u8::from(self.nullable),
-            self.strategy.code(),
+            self.strategy,
             self.number,
             length,
             length_high,
@@ -111,7 +111,7 @@ impl<'f, 'n> Output<'f, 'n> {
         self.next_name = text::put_decimal(self.names, self.next_name, i);
     }
 
-    // The name of a child.
+    // The name of a child. A `walk::Source` would ask for options, which a name does not need.
     pub fn put_name(&mut self, text: &[u8], table: &Table, child: Place)
         requires settled { Settled text.now table.now }
         ensures { Writes (with_name (child_name text.now table.now child)) self.old self.new }
@@ -134,7 +134,7 @@ impl<'f, 'n> Output<'f, 'n> {
             self.put_record(Record {
                 kind: DataType::Null.code(),
                 nullable: true,
-                strategy: Strategy::UnknownVariant,
+                strategy: Strategy::UnknownVariant.code(),
                 number: (slot.wrapping_add(i) % 256) as u8,
                 name_length: 0,
                 children: 0,
@@ -152,7 +152,7 @@ impl<'f, 'n> Output<'f, 'n> {
         self.put_record(Record {
             kind: DataType::Struct.code(),
             nullable: false,
-            strategy: Strategy::None,
+            strategy: Strategy::None.code(),
             number: 0,
             name_length: places::ENTRIES_NAME.len() as u32,
             children: ENTRIES_FIELDS,

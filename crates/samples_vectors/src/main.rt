@@ -131,6 +131,7 @@ fn trace(rt: &impl Print, batch: &Batch<'_>, table: &mut Table) {
     }
 }
 
+// The table is of a fixed size, as what the call is lent is.
 fn main(rt: HostRuntime) {
     let bytes = files::load(&rt, b"batches.bin", MOST).unwrap_or_else(|| Vec::new(rt.alloc()));
     let mut table = [0u32; words::WORDS];

@@ -34,7 +34,7 @@ fn put_field(source: &Source, place: Place, nullable: bool, number: u8, out: &mu
         out.put_record(Record {
             kind: source.options.dictionary_type().code(),
             nullable,
-            strategy: Strategy::None,
+            strategy: Strategy::None.code(),
             number,
             name_length,
             children: 0,
@@ -44,7 +44,7 @@ fn put_field(source: &Source, place: Place, nullable: bool, number: u8, out: &mu
     out.put_record(Record {
         kind: fields::type_of(source.options, kind),
         nullable,
-        strategy: fields::strategy_of(kind),
+        strategy: fields::strategy_of(kind).code(),
         number,
         name_length,
         children: fields::field_count(source.table, kind, place),

@@ -16,7 +16,6 @@ ghost use Rattle.search.specs.Tree.{is_numbered, side_word, follow, seek};
 ghost use Rattle.search.specs.Search.{Comparable, find_in, in_block, child_at};
 ghost use Rattle.search.specs.Scan.{few_places, many_places, is_tagged, is_field, field_among, past_others, is_sparse, Passed};
 
-use places::Places;
 use shapes::Step;
 use text::Name;
 use words::{Half, Place, Table, Whole};
@@ -31,6 +30,8 @@ const FAR: usize = 64;
 
 // No usual name is longer. Such names leave the search by number: names of 60,000 bytes that overlap in the text would take long there.
 const LONG: u16 = 255;
+
+// What is searched is read apart, here and below, and `places::Places` is not asked for: it holds a table that is lent to change.
 
 // Whether one place is another's field and its name has that tag. The tags are compared first: most differ there. The root,
 // place 0, is nobody's child.
@@ -106,7 +107,8 @@ fn is_sparse(span: usize, last: Place, table: &Table) -> bool
     (words::get(table, last, Whole::Position) as usize) * MANY < span
 }
 
-// The place's field with that name, found from child to child. Long names are found so.
+// The place's field with that name, found from child to child. Long names are found so. `places::Children` would ask for the kind, which
+// tells the order: this goes by first sight.
 fn find_linked(
     text: &[u8],
     place: Place,
@@ -163,15 +165,17 @@ fn find_from(
 
 // The field of a place with that name, found in first_seen order. Children stand in ascending order, so places are looked at by
 // number from the first child to the last; from child to child where few of them are children, or the name is long.
-pub fn find_field(places: &Places<'_, '_>, place: Place, name: Name) -> Option<Place>
-    requires here { place < places.now.count }
-    requires inside { Inside places.now.text.now name }
-    ensures found { result ≡ child_of (find_in places.now.text.now place field_code name places.now.table.now) }
-    ensures below { IfSome result (λ child. child < places.now.count) }
+pub fn find_field(
+    text: &[u8],
+    place: Place,
+    name: Name,
+    count: usize,
+    table: &Table,
+) -> Option<Place>
+    requires { Ready text.now table.now count place × Inside text.now name }
+    ensures found { result ≡ child_of (find_in text.now place field_code name table.now) }
+    ensures below { IfSome result (λ child. child < count) }
 {
-    let text = places.text;
-    let count = places.count;
-    let table = &*places.table;
     let first = words::link(table, place, Half::First);
     if first == 0 {
         return None;
@@ -315,15 +319,12 @@ fn is_in_block(place: Place, i: u16, count: usize, table: &Table) -> bool
 
 // The child of a place at a step that is no field: a position in the block stands by its number, any other numbered
 // child is found in the search tree, the others from sibling to sibling.
-pub fn child_at(places: &Places<'_, '_>, place: Place, step: Step) -> Option<Place>
-    requires here { place < places.now.count }
+pub fn child_at(text: &[u8], place: Place, step: Step, count: usize, table: &Table) -> Option<Place>
+    requires ready { Ready text.now table.now count place }
     requires no_field { code_of step ≢ field_code }
-    ensures found { result ≡ child_of (child_at places.now.text.now place step places.now.count places.now.table.now) }
-    ensures below { IfSome result (λ child. child < places.now.count) }
+    ensures found { result ≡ child_of (child_at text.now place step count table.now) }
+    ensures below { IfSome result (λ child. child < count) }
 {
-    let text = places.text;
-    let count = places.count;
-    let table = &*places.table;
     let code = step.code();
     if !is_numbered(code) {
         return find(text, place, code, count, table);

@@ -129,7 +129,8 @@ pub enum Part {
     Step(Step, usize),
 }
 
-// A value that is a primitive: whether it is null, its type and the offset behind it.
+// A value that is a primitive: whether it is null, its type and the offset behind it. Null is said beside the type, which is Null then,
+// for the type is met with the place's as a number: an Option would be turned into one.
 #[derive(Clone, Copy)]
 pub struct Leaf {
     pub null: bool,

@@ -6,6 +6,9 @@ use Rattle.words.specs.declared.Half.{Half}
 use Rattle.words.specs.declared.Half.TheVariants as H
 
 abbrev pub whole_number : Whole → ℕ
+whole_number W.Free0 = 0
+whole_number W.Free1 = 1
+whole_number W.Free2 = 2
 whole_number W.Kind = 3
 whole_number W.Null = 4
 whole_number W.Samples = 5

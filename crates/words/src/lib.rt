@@ -64,6 +64,10 @@ impl Place {
 // what it is as one of its parent's children, which whoever reads the parent's parts writes.
 #[derive(Clone, Copy)]
 pub enum Whole {
+    // These are free.
+    Free0 = 0,
+    Free1 = 1,
+    Free2 = 2,
     // Its kind (`shapes`).
     Kind = 3,
     // 1 where null was seen.
@@ -213,8 +217,8 @@ fn with_link(word: u32, field: Half, to: usize) -> u32
     }
 }
 
-// Stores a half of a word of a place.
-fn set_half(table: &mut Table, place: Place, field: Half, value: usize)
+// Stores a half of a word of a place, which may be any number of 16 bits.
+pub fn set_half(table: &mut Table, place: Place, field: Half, value: usize)
     requires { value < link_limit }
     ensures { table.new ≡ with_word table.old place (half_number field) value }
 {

@@ -31,8 +31,8 @@ module _ (text t : List ℕ) (n place : ℕ) (name : Name) (at : Option ℕ) (is
 pub new_field-requires-clause-absent : goal.new_field-requires-clause-absent
 new_field-requires-clause-absent c = search (absent, rules)
 
-pub invariant_of-places : goal.invariant_of-places
-invariant_of-places c =
+pub invariant_of-places-2 : goal.invariant_of-places-2
+invariant_of-places-2 c =
     let f = c.find_field.ensures in
     record { sound = sound _ _ _ _ _ _ f.found _ _ c.args.places.now.sound c.in-Some.is c.touch.ensures f.below }
 
