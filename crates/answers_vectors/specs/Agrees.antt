@@ -1,7 +1,7 @@
 -- When a stored question and the call agree: the model's answer, which the call gives, is the one that is stored, and what is left in the
 -- table and the buffers, in the parts that were lent and in the others, is what must be.
 use Rattle.std.specs.Prelude.{◌≡◌, Bool, ◌&&◌, List, ◌++◌, ℕ, min, eqb, leb, length, take, drop, replicate}
-use Rattle.logic.specs.Slices.{Slice, MutSlice, now_of}
+use Rattle.logic.specs.Slices.{MutSlice}
 use Rattle.text.specs.Name.{eq_name}
 use Rattle.files.specs.Bytes.{two_bytes, between}
 use Rattle.questions.specs.Question.{number_at, names_from, commands_in, text_in, records_in, names_in, question_end}
@@ -12,6 +12,7 @@ use Rattle.model.specs.Answer.{Batch, Buffers, Answer, answer}
 use Rattle.model.specs.Demand3.{batch}
 use Rattle.call.specs.Call.{lent, lent_in, left_in}
 use Rattle.fasthrom.specs.declared.Answer as R
+use Rattle.answers_vectors.specs.declared.Parts.{Parts}
 use Rattle.fasthrom.specs.Called.{said}
 
 -- ---- the call over a part of each buffer
@@ -95,12 +96,12 @@ agrees question =
 abbrev pub question_tally : List ℕ → Tally
 question_tally vectors = tally (length vectors) (question_end vectors) (λ at. agrees (between at (question_end vectors at) vectors))
 
--- ---- the same of slices, as contracts have them
--- the call, lent as much of the table and the buffers as a question says
-abbrev pub CalledOver : (question : List ℕ) (commands text : Slice) (table fields names : MutSlice) → R.Answer → Type 0
-CalledOver question commands text table fields names r =
+-- ---- the same of a question's parts, as contracts have them
+-- the call, lent as much of the table and the buffers as the question says
+abbrev pub CalledOver : Parts → (table fields names : MutSlice) → R.Answer → Type 0
+CalledOver parts table fields names r =
     said r (left_in table fields names)
-    ≡ answer_over question (handed question (now_of commands) (now_of text)) (lent_in table fields names)
+    ≡ answer_over parts.question.bytes.now (handed parts.question.bytes.now parts.commands.now parts.text.now) (lent_in table fields names)
 
-abbrev pub Met : (question : List ℕ) (commands text records names : Slice) → Type 0
-Met question commands text records names = Gives question (now_of commands) (now_of text) (now_of records) (now_of names)
+abbrev pub Met : Parts → Type 0
+Met parts = Gives parts.question.bytes.now parts.commands.now parts.text.now parts.records.now parts.names.now

@@ -10,69 +10,62 @@ ghost use Rattle.answers_vectors.specs.laws.Agrees.{question_is_end};
 ghost use Rattle.answers_vectors.specs.Agrees.{CalledOver, Met, agrees, question_tally};
 
 use fasthrom::Answer;
-use questions::{BYTE, HEADER, Question, ROOM, WORD};
+use questions::{BYTE, HEADER, Number, Question, ROOM, WORD};
 use replay::{Layout, Tally};
 
 // Words of the table, of which a question lends the first.
 const TABLE: usize = 16400;
 
-// The call over as much of the table and the buffers as the header lends.
-fn call(
-    question: &Question<'_>,
-    commands: &[u8],
-    text: &[u8],
-    table: &mut [u32],
-    fields: &mut [u8],
-    names: &mut [u8],
-) -> Answer
-    ensures { CalledOver question.now.bytes.now commands text table fields names result }
-{
-    let words = question.number(0).min(table.len());
-    let record_bytes = question.number(3).min(fields.len());
-    let name_bytes = question.number(4).min(names.len());
-    fasthrom::fasthrom_trace(
-        question.options(),
-        commands,
-        text,
-        &mut table[..words],
-        &mut fields[..record_bytes],
-        &mut names[..name_bytes],
-    )
+// A whole question, by its parts: what is handed to the call, and the field records and names that it must give.
+#[derive(Clone, Copy)]
+struct Parts<'a> {
+    question: Question<'a>,
+    commands: &'a [u8],
+    text: &'a [u8],
+    records: &'a [u8],
+    names: &'a [u8],
 }
 
-// Whether the call gives what the question says: these field records and names, or its refusal. Table and buffers are of fixed sizes, as
-// what the call is lent is.
-fn is_met(
-    question: &Question<'_>,
-    commands: &[u8],
-    text: &[u8],
-    records: &[u8],
-    names: &[u8],
-) -> bool
-    ensures { result ≡ true ↔ Met question.now.bytes.now commands text records names }
-{
-    let mut table = [WORD; TABLE];
-    let mut fields = [BYTE; ROOM];
-    let mut named = [BYTE; ROOM];
-    let answer = call(
-        question,
-        commands,
-        text,
-        &mut table,
-        &mut fields,
-        &mut named,
-    );
-    let answered = questions::Answer {
-        refusal: answer.refusal,
-        place: answer.place,
-        field_records: answer.field_records,
-        name_bytes: answer.name_bytes,
-        columns: answer.columns,
-    };
-    question.is_answered(answered)
-        && questions::is_written(&fields, records)
-        && questions::is_written(&named, names)
-        && questions::is_left(&table, answer.refusal)
+impl Parts<'_> {
+    // The call over as much of the table and the buffers as the header lends.
+    fn call(&self, table: &mut [u32], fields: &mut [u8], names: &mut [u8]) -> Answer
+        ensures { CalledOver self.now table fields names result }
+    {
+        let words = self.question.number(Number::Table).min(table.len());
+        let record_bytes = self.question.number(Number::Fields).min(fields.len());
+        let name_bytes = self.question.number(Number::Names).min(names.len());
+        fasthrom::fasthrom_trace(
+            self.question.options(),
+            self.commands,
+            self.text,
+            &mut table[..words],
+            &mut fields[..record_bytes],
+            &mut names[..name_bytes],
+        )
+    }
+
+    // Whether the call gives what the question says: these field records and names, or its refusal. Table and buffers are of fixed
+    // sizes, as what the call is lent is.
+    fn is_met(&self) -> bool
+        ensures { result ≡ true ↔ Met self.now }
+    {
+        let mut table = [WORD; TABLE];
+        let mut fields = [BYTE; ROOM];
+        let mut names = [BYTE; ROOM];
+        let answer = self.call(&mut table, &mut fields, &mut names);
+        // Both types are other crates', so a `From` could not stand here.
+        let answered = questions::Answer {
+            refusal: answer.refusal,
+            place: answer.place,
+            field_records: answer.field_records,
+            name_bytes: answer.name_bytes,
+            columns: answer.columns,
+        };
+        self.question.is_answered(answered)
+            && questions::is_written(&fields, self.records)
+            && questions::is_written(&names, self.names)
+            && questions::is_left(&table, answer.refusal)
+    }
 }
 
 // A question: the header, the commands, the text, and the field records and names of the answer.
@@ -82,19 +75,20 @@ fn agrees(bytes: &[u8]) -> bool
     let Some(question) = Question::new(bytes) else {
         return false;
     };
-    let text = HEADER + question.number(1);
-    let records = text + question.number(2);
-    let names = records + question.number(7) * 8;
+    let text = HEADER + question.number(Number::Commands);
+    let records = text + question.number(Number::Text);
+    let names = records + question.number(Number::FieldRecords) * 8;
     if bytes.len() < names {
         return false;
     }
-    is_met(
-        &question,
-        &bytes[HEADER..text],
-        &bytes[text..records],
-        &bytes[records..names],
-        &bytes[names..],
-    )
+    let parts = Parts {
+        question,
+        commands: &bytes[HEADER..text],
+        text: &bytes[text..records],
+        records: &bytes[records..names],
+        names: &bytes[names..],
+    };
+    parts.is_met()
 }
 
 // How questions lie in a file: each to its own end, with all of it handed on.

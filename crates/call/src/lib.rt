@@ -65,7 +65,8 @@ fn is_long(commands: &[u8], text: &[u8]) -> bool
 }
 
 // The counts of field records, name bytes and columns; or why there is no schema, and the place. Refusals 1 to 3 are tested in order,
-// before anything is read. Only the places' words are lent further, so that those past them are left alone.
+// before anything is read. Only the places' words are lent further, so that those past them are left alone. What is lent comes one
+// by one, here and above, as the C interface has it.
 pub fn trace(
     options: u16,
     commands: &[u8],

@@ -11,7 +11,7 @@ use Rattle.chrono.specs.Scan.{skip, scan}
 use Rattle.chrono.specs.Fixed.{two_digits, joined_digits, fixed_date, fixed_time, fixed_datetime}
 use Rattle.chrono.specs.Text.{date_texts, first_fit}
 use Rattle.chrono.proofs.Exact.{apart, time_last}
-use Rattle.chrono.proofs.Reading.{is_time, dated, date_ends, zoned, unzoned}
+use Rattle.chrono.proofs.Reading.{no_begin, is_time, dated, date_ends, zoned, unzoned}
 
 -- what `scan` gives, one law for each way
 then_next : {m : Option (List ℕ)} (g h : Grammar) (s u : List ℕ) → Some u ≡ scan g s → m ≡ scan h u → m ≡ scan (g then h) s
@@ -176,3 +176,5 @@ module _ (s : List ℕ) where
         (λ date at separated timed.
         zoned (drop 10 s) string (omega (arith, length-drop 10 s)) (drop 11 s) separated (drop 19 s) timed true (omega (arith, length-drop 19 s)) (rw (← zone, ends)) ∙
         dated s (drop 10 s) string date)
+
+pub ruleset forms = (no_begin, date_form, time_form, naive_form, utc_form)

@@ -251,6 +251,7 @@ fn fixed_datetime(s: &[u8]) -> bool
 }
 
 // The type of a text that begins with a date, by what is left after the date, where there is such a type.
+#[tactic(auto, using(crate::proofs::Reading::date_ends, crate::proofs::Reading::no_separator, crate::proofs::Reading::no_time_then))]
 fn type_after_date(s: &[u8]) -> Option<DataType>
     ensures { (string : ℕ) → type_or result string ≡ after_date s.now string }
 {
@@ -277,6 +278,7 @@ fn read_type(s: &[u8], options: TracingOptions) -> DataType
 }
 
 // The first fit, else a string. Most dates and times have one of the fixed forms, which their lengths tell; any other text is read.
+#[tactic(auto, using(crate::proofs::Fixed::forms))]
 fn guessed_type(s: &[u8], options: TracingOptions) -> DataType
     ensures { code_of result ≡ first_fit date_texts s.now (string_type options.word) }
 {
@@ -293,6 +295,7 @@ fn guessed_type(s: &[u8], options: TracingOptions) -> DataType
 }
 
 // The type that a text observes: with guess_dates the first fit wins.
+#[tactic(auto, using(logic::specs::laws::Test::chosen, logic::specs::laws::Test::other), unfolding(crate::specs::Text::text_type))]
 pub fn text_type(s: &[u8], options: TracingOptions) -> DataType
     ensures { code_of result ≡ text_type options.word s.now }
 {

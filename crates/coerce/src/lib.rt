@@ -105,6 +105,7 @@ fn number_joint(a: DataType, b: DataType) -> DataType
 }
 
 // Unequal number types meet: the switch is asked, then the edition, then the table.
+#[tactic(auto, using(logic::specs::laws::Test::choice), unfolding(crate::specs::Joint::joint_of_numbers))]
 fn joint_of_numbers(a: DataType, b: DataType, options: TracingOptions) -> Option<DataType>
     requires first { is_number (code_of a) ≡ true }
     requires second { is_number (code_of b) ≡ true }
@@ -117,6 +118,7 @@ fn joint_of_numbers(a: DataType, b: DataType, options: TracingOptions) -> Option
 }
 
 // A string type meets another type.
+#[tactic(auto, using(logic::specs::laws::Test::choice), unfolding(crate::specs::Joint::joint_with_string))]
 fn joint_with_string(string: DataType, other: DataType, options: TracingOptions) -> Option<DataType>
     ensures { codes_of result ≡ joint_with_string options.word (code_of string) (code_of other) }
 {
@@ -124,6 +126,7 @@ fn joint_with_string(string: DataType, other: DataType, options: TracingOptions)
 }
 
 // Timestamps meet, or types that have no joint. Equal zones stay, unequal ones give string.
+#[tactic(auto, using(logic::specs::laws::Test::choice), unfolding(crate::specs::Joint::joint_of_timestamps))]
 fn joint_of_timestamps(prev: DataType, curr: DataType, options: TracingOptions) -> Option<DataType>
     ensures { codes_of result ≡ joint_of_timestamps options.word (code_of prev) (code_of curr) }
 {
@@ -138,6 +141,7 @@ fn joint_of_timestamps(prev: DataType, curr: DataType, options: TracingOptions) 
 }
 
 // Unequal types meet, neither of them Null.
+#[tactic(auto, using(logic::specs::laws::Test::choice), unfolding(crate::specs::Joint::joint_of_unequal))]
 fn joint_of_unequal(prev: DataType, curr: DataType, options: TracingOptions) -> Option<DataType>
     ensures { codes_of result ≡ joint_of_unequal options.word (code_of prev) (code_of curr) }
 {
@@ -156,6 +160,7 @@ fn joint_of_unequal(prev: DataType, curr: DataType, options: TracingOptions) -> 
 // The type of a place that had `prev` and meets `curr`, or none where they have no joint (refusal 10). Equal types come first,
 // since most values of a place repeat. Two types are compared by their codes, as the definitions do: of the derived `==` at two
 // unknown types the proof did not close.
+#[tactic(auto, using(logic::specs::laws::Test::choice), unfolding(crate::specs::Joint::joint))]
 pub fn coerce_primitive_type(
     prev: DataType,
     curr: DataType,

@@ -2,9 +2,10 @@
 use Rattle.std.specs.Prelude.{◌≡◌, List, ℕ, ◌+◌, ◌*◌, ◌≤◌, eqb, leb, T}
 use Rattle.std.proofs.Common.{arith, leb→le, eqb-true}
 use Rattle.std.proofs.lemmas.Bool.{eqb-false}
-use Rattle.logic.specs.laws.Test.{told, cases}
+use Rattle.logic.specs.laws.Test.{told, cases, if_passed, if_failed}
 use Rattle.commands.specs.declared.Command.{Command}
 use Rattle.commands.specs.Commands.{form_of, operands, made}
+use Rattle.commands.specs.laws.Counted.{among_is}
 
 -- the operands of a known byte have room for one that starts behind so many bytes
 pub room : (byte k at size n : ℕ) → byte ≡ k → at + 2 * operands (form_of byte) ≤ n → T (leb size (2 * operands (form_of k))) → at + size ≤ n
@@ -26,3 +27,6 @@ pub counts_both : (byte k count : ℕ) → k ≤ byte → byte ≤ k + 1 → cou
 counts_both byte k count low high e f =
     cases (eqb byte k) (λ q. counts byte k count (eqb-true byte k q) e)
     (λ q. let d : (byte ≡ k → ⊥) = eqb-false byte k q in let s : byte ≡ k + 1 = omega arith in counts byte (k + 1) count s f)
+
+-- what reading goes by: its tests, and the name among counted operands
+pub ruleset readings = (if_passed, if_failed, among_is)

@@ -229,6 +229,7 @@ impl Due {
 }
 
 // Whether a name is no part of the text, or not UTF-8 (refusal 5).
+#[tactic(auto, unfolding(crate::specs::Commands::bad_name))]
 fn is_bad_name(name: Name, text: &[u8]) -> bool
     ensures { result ≡ bad_name text.now (some name) }
 {
@@ -237,6 +238,7 @@ fn is_bad_name(name: Name, text: &[u8]) -> bool
 
 // The same of the name among so many operands, which start at an offset: two are a name, one is a tuple's count,
 // and more are a variant number and then a name.
+#[tactic(auto, using(logic::specs::laws::Test::choice), unfolding(crate::specs::Counted::name_among, crate::specs::Commands::bad_name))]
 fn has_bad_name(commands: &[u8], text: &[u8], at: usize, operands: u8) -> bool
     requires { at + 2 * operands ≤ length commands.now }
     ensures { result ≡ bad_name text.now (name_among operands commands.now at) }
@@ -299,7 +301,9 @@ fn command_of(byte: u8, commands: &[u8], at: usize) -> Command
     }
 }
 
-// The command at an offset. At one command refusal 4 is tested before 5, and 5 before 6.
+// The command at an offset. At one command refusal 4 is tested before 5, and 5 before 6. Commands, text and offset come one by one, here
+// and in most of `shapes`: `leaves::Batch`, which holds the first two, stands above, with options that these do not read.
+#[tactic(auto, using(crate::proofs::Forms::readings), unfolding(crate::specs::Commands::read_command, crate::specs::Commands::bad_command))]
 pub fn read_command(
     commands: &[u8],
     text: &[u8],

@@ -3,7 +3,7 @@ use Rattle.equality.specs.laws.census.View.{view_census, Distinct, census_distin
 use Rattle.equality.specs.laws.emission.InOrder.{ascends, ascend_below, plain_field, plain_fields, fit_more, more_fits, steps_canons, canons_in_order, arranged_plain, Off, field_arranged, struct_loose, fit_in_order}
 use Rattle.equality.specs.laws.emission.Fields.{plain_same, kind_at, root_field, root_end}
 use Rattle.std.specs.Prelude.{◌≡◌, refl, true, false, not, ◌||◌, List, ℕ, suc, ◌+◌, ◌-◌, eqb}
-use Rattle.std.proofs.Common.{ap, ap₂, sym, ◌∙◌}
+use Rattle.std.proofs.Common.{ap, ap₂, sym, ◌∙◌, arith}
 use Rattle.logic.specs.Test.{when◌then◌else◌}
 use Rattle.logic.specs.laws.Test.{cases, both}
 use Rattle.options.specs.Word.{allow_to_string}
@@ -83,10 +83,8 @@ pub same_root : (options end end' : ℕ) (c d : Place) (fs : Fields) → Off opt
 same_root options end end' (shown a k ps) (shown b l qs) fs o f g u w z e h =
     let p = root_field end (type_of options k) a (strategy_of k) 0 root_name (arranged k (fields_of options k 0 ps)) fs (rw (field_arranged options root_name 0 a k ps o) at e) in
     let q = root_field end' (type_of options l) b (strategy_of l) 0 root_name (arranged l (fields_of options l 0 qs)) fs (rw (field_arranged options root_name 0 b l qs o) at h) in
-    let n : a ≡ b = p.0 ∙ sym q.0 in
-    let m = p.2 ∙ sym q.2 in
     let t : field_of options root_name 0 (shown a k ps) ≡ field_of options root_name 0 (shown b l qs) =
-    field_arranged options root_name 0 a k ps o ∙ (λ i. mk (type_of options (z i)) (n i) (strategy_of (z i)) 0 root_name (m i)) ∙ sym (field_arranged options root_name 0 b l qs o) in
+    grind (arith, p, q, z, field_arranged options root_name 0 a k ps o, field_arranged options root_name 0 b l qs o) in
     (same_field options root_name root_name 0 0 (shown a k ps) (shown b l qs) o f g u w t).0
 
 -- roots with one canon have one schema

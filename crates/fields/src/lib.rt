@@ -30,11 +30,10 @@ fn count_with(kind: u32, table: &Table, child: Place, count: u32) -> u32
 fn count_children(table: &Table, kind: u32, place: Place) -> u32
     ensures { result ≡ count_below table.now kind place }
 {
-    let mut count: u32 = 0;
-    for child in Children::new(table, false, kind, place) {
-        count = count_with(kind, table, child, count);
-    }
-    count
+    Children::new(table, false, kind, place).fold(
+        0,
+        |count, child| count_with(kind, table, child, count),
+    )
 }
 
 // How many fields a place's field has: the entries of a map, the slots of a union up to the highest seen, else its

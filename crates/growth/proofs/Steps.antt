@@ -4,7 +4,7 @@ use Rattle.refusal.specs.declared.Refusal.{Refusal}
 use Rattle.shapes.specs.declared.Step.{Step}
 use Rattle.places.specs.declared.Places.{Places}
 use Rattle.places.specs.Places.{Same}
-use Rattle.growth.specs.Growth.{found, counted, making, ensured, made_one, made_all, EnsuredAs, MadeAs}
+use Rattle.growth.specs.Growth.{making, ensured, made_one, made_all, EnsuredAs, MadeAs}
 use Rattle.growth.specs.laws.Growth.{made_first, made_stops}
 
 pub still : (o p : Places) (place : ℕ) → Same o p → place < o.count → place < p.count

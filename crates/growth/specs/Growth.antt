@@ -1,5 +1,5 @@
 -- How places come to the table: a new last child, the child at a step found or made, samples counted, and the children of a container.
-use Rattle.std.specs.Prelude.{◌≡◌, ℕ, zero, suc, ◌+◌, ◌%◌, ◌^◌, ◌<◌, not, ◌&&◌, List, [], ◌∷◌, ◌==◌, nat_le, Result, Ok, Err, IfOk}
+use Rattle.std.specs.Prelude.{◌≡◌, ℕ, zero, suc, ◌+◌, ◌%◌, ◌^◌, ◌<◌, not, ◌&&◌, List, [], ◌∷◌, ◌==◌, nat_le, Result, Ok, Err, IfOk, Option, Some, None}
 use Rattle.logic.specs.Test.{when◌then◌else◌}
 use Rattle.refusal.specs.declared.Refusal.{Refusal}
 use Rattle.refusal.specs.declared.Refusal.TheVariants as F
@@ -15,6 +15,7 @@ use Rattle.shapes.specs.declared.Step.TheVariants as S
 use Rattle.shapes.specs.Steps.{code_of, no_name, name_of, packed_name, unpacked_name}
 use Rattle.places.specs.declared.Places.{Places}
 use Rattle.places.specs.Places.{Same}
+use Rattle.places.specs.Reading.{link_at}
 use Rattle.places.specs.Layout.{kind_word, samples_word, first_word, last_word, block_word, next_word, parent_word, step_word, name_word, held_word, mark_word, tag_word, position_word, Sound}
 use Rattle.search.specs.Tree.{is_numbered, seek}
 use Rattle.search.specs.Search.{child_at}
@@ -44,6 +45,25 @@ appended place code name child t = described place code name child (lengthened p
 -- the position that a new child gets among its siblings: one behind the last's
 unfoldable pub position_in : ℕ → List ℕ → ℕ
 position_in place t = when word t place first_word == 0 then 0 else onward (word t (word t place last_word) position_word)
+
+-- ---- the same by the last child before: none where a place has no children
+unfoldable pub last_child : ℕ → List ℕ → Option ℕ
+last_child place t = when word t place first_word == 0 then None else Some (link_at t place last_word)
+
+abbrev pub linked_behind : ℕ → Option ℕ → ℕ → List ℕ → List ℕ
+linked_behind place (Some last) child t = with_word t last next_word child
+linked_behind place None child t = with_word t place first_word child
+
+-- the child is described before it is linked
+abbrev pub appended_behind : ℕ → ℕ → Name → ℕ → List ℕ → List ℕ
+appended_behind place code name child t =
+    with_word
+    (linked_behind place (last_child place (described place code name child t)) child (described place code name child t))
+    place last_word child
+
+abbrev pub position_behind : Option ℕ → List ℕ → ℕ
+position_behind (Some last) t = onward (word t last position_word)
+position_behind None t = 0
 
 -- what the search for fields goes by: the tag of its name, and how many siblings stand before it
 unfoldable pub tagged : List ℕ → Name → ℕ → ℕ → List ℕ → List ℕ

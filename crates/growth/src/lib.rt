@@ -3,19 +3,18 @@
 #![tactic(auto)]
 
 ghost use Rattle.std.specs.Prelude.{◌≡◌, ℕ, ◌<◌, ◌&&◌, [], ◌∷◌, ◌==◌, ◌≢◌};
-ghost use Rattle.words.specs.Word.{word, IsRow};
 ghost use Rattle.shapes.specs.Steps.{field_code, code_of, name_of, Good};
-ghost use Rattle.places.specs.Layout.{last_word};
 ghost use Rattle.search.specs.Search.{Comparable};
-ghost use Rattle.growth.specs.Growth.{linked, described, appended, confirmed, counted, ensured_by, ensured, EnsuredAs, touched};
-ghost use Rattle.growth.specs.Growth.{sampled, made_all, positions_from, appended_from, positions_made, made, MadeAs, position_in, entered};
+ghost use Rattle.growth.specs.Growth.{last_child, linked_behind, described, appended_behind, position_behind, entered};
+ghost use Rattle.growth.specs.Growth.{confirmed, counted, ensured_by, ensured, EnsuredAs, touched, sampled};
+ghost use Rattle.growth.specs.Growth.{made_all, positions_from, appended_from, positions_made, made, MadeAs};
 ghost use Rattle.model.specs.Kinds.{tuple_kind};
 ghost use Rattle.datatype.specs.Codes.{null};
 ghost use Rattle.shapes.specs.declared.Step.TheVariants.{Key, Value};
 
 use places::Places;
 use refusal::Refusal;
-use shapes::Step;
+use shapes::{Container, Step};
 use text::Name;
 use words::{Half, Place, Table, Whole};
 
@@ -32,17 +31,25 @@ fn enter(place: Place, code: u32, child: Place, table: &mut Table)
     words::set_link(table, slot.place, slot.field, child);
 }
 
-// The link to a new last child: from the place where it is the first, else from the last before it. 0 is no child, as the table has it.
-#[tactic(auto, using(logic::specs::laws::Test::chosen, logic::specs::laws::Test::other), unfolding(crate::specs::Growth::linked))]
-fn link(place: Place, child: Place, table: &mut Table)
-    requires { IsRow (word table.old place last_word) }
-    ensures { table.new ≡ linked place child table.old }
+// The last child of a place, if it has any. 0 is no child, as the table has it.
+#[tactic(auto, using(logic::specs::laws::Test::chosen, logic::specs::laws::Test::other), unfolding(crate::specs::Growth::last_child))]
+fn last_child(place: Place, table: &Table) -> Option<Place>
+    ensures { result ≡ last_child place table.now }
 {
     if words::link(table, place, Half::First) == 0 {
-        words::set_link(table, place, Half::First, child);
+        None
     } else {
-        let last = Place::new(words::link(table, place, Half::Last));
-        words::set_link(table, last, Half::Next, child);
+        Some(places::link(table, place, Half::Last))
+    }
+}
+
+// The link to a new last child: from the last before it, else from the place whose first it is.
+fn link(place: Place, child: Place, table: &mut Table)
+    ensures { table.new ≡ linked_behind place (last_child place table.old) child table.old }
+{
+    match last_child(place, table) {
+        Some(sibling) => words::set_link(table, sibling, Half::Next, child),
+        None => words::set_link(table, place, Half::First, child),
     }
 }
 
@@ -59,8 +66,7 @@ fn describe(place: Place, code: u32, name: Name, child: Place, table: &mut Table
 // A new place as the last child. It is described first: behind these stores the compiler loads the place's links again, and need
 // not keep them while the search for a field runs.
 fn append(place: Place, code: u32, name: Name, child: Place, table: &mut Table)
-    requires { IsRow (word table.old place last_word) }
-    ensures { table.new ≡ appended place code name child table.old }
+    ensures { table.new ≡ appended_behind place code name child table.old }
 {
     describe(place, code, name, child, table);
     link(place, child, table);
@@ -68,6 +74,7 @@ fn append(place: Place, code: u32, name: Name, child: Place, table: &mut Table)
 }
 
 // The child that was found, whose name must be the one given (a variant's number has one name); else refusal 9.
+#[tactic(auto, using(logic::specs::laws::Test::chosen, logic::specs::laws::Test::other), unfolding(crate::specs::Growth::confirmed))]
 fn confirm(text: &[u8], name: Name, child: Place, table: &Table) -> Result<Place, Refusal>
     requires { Comparable text.now table.now name child }
     ensures { (n : ℕ) → counted result n ≡ confirmed text.now name child n table.now }
@@ -80,16 +87,13 @@ fn confirm(text: &[u8], name: Name, child: Place, table: &Table) -> Result<Place
 }
 
 // The position that a new child gets among its siblings: one behind the last's.
-#[tactic(auto, using(logic::specs::laws::Test::chosen, logic::specs::laws::Test::other), unfolding(crate::specs::Growth::position_in))]
 fn next_position(place: Place, table: &Table) -> u32
-    requires { IsRow (word table.now place last_word) }
-    ensures { result ≡ position_in place table.now }
+    ensures { result ≡ position_behind (last_child place table.now) table.now }
 {
-    if words::link(table, place, Half::First) == 0 {
-        return 0;
+    match last_child(place, table) {
+        Some(sibling) => words::get(table, sibling, Whole::Position).wrapping_add(1),
+        None => 0,
     }
-    let last = Place::new(words::link(table, place, Half::Last));
-    words::get(table, last, Whole::Position).wrapping_add(1)
 }
 
 // A new last child, at a step where the place has none, if there is room; else refusal 11. The step comes as its code and its name: a
@@ -120,7 +124,9 @@ pub fn add(
     Ok(child)
 }
 
-// The child of a place at a step that is no field: found, or made where there is room.
+// The child of a place at a step that is no field: found, or made where there is room. A field is found by its name
+// (`search::find_field`), which is not asked to be UTF-8 unless it is new; the others are told by their codes (`search::child_at`). `Step`
+// has fields all the same, for a place's words tell every step: an enum without them would be a second one beside it.
 pub fn ensure(places: &mut Places<'_, '_>, place: Place, step: Step) -> Result<Place, Refusal>
     requires here { place < places.old.count }
     requires good { Good places.old.text.now (name_of step) }
@@ -159,6 +165,7 @@ pub fn sample(place: Place, kind: u32, table: &mut Table)
 }
 
 // A map's key and value.
+#[tactic(auto, using(shapes::specs::laws::Shapes::no_name_good))]
 fn make_pair(places: &mut Places<'_, '_>, place: Place) -> Result<(), Refusal>
     requires { place < places.old.count }
     ensures { MadeAs (made_all places.old.text.now place (Key ∷ Value ∷ []) places.old.count places.old.table.now)
@@ -170,6 +177,7 @@ fn make_pair(places: &mut Places<'_, '_>, place: Place) -> Result<(), Refusal>
 }
 
 // All positions of a tuple at a place that has children.
+#[tactic(auto, using(shapes::specs::laws::Shapes::no_name_good))]
 fn seek_positions(places: &mut Places<'_, '_>, place: Place, positions: u16) -> Result<(), Refusal>
     requires { place < places.old.count }
     ensures { MadeAs (made_all places.old.text.now place (positions_from 0 positions) places.old.count places.old.table.now)
@@ -202,7 +210,8 @@ fn append_position(places: &mut Places<'_, '_>, place: Place, i: u16) -> Result<
     Ok(())
 }
 
-// All positions of a tuple at a place that has no children.
+// All positions of a tuple at a place that has no children. The loop is that of `seek_positions` but for what it calls: handed over, that
+// would need clauses of its own, which is no plainer.
 fn append_positions(
     places: &mut Places<'_, '_>,
     place: Place,
@@ -239,26 +248,27 @@ fn is_first_tuple(kind: u32, before: u32) -> bool
 }
 
 // The children that a container makes at its own command. A tuple makes its positions where the place was unknown.
+#[tactic(auto, using(shapes::specs::laws::Shapes::no_name_good))]
 pub fn make(
     places: &mut Places<'_, '_>,
     place: Place,
-    kind: u32,
-    positions: u16,
+    container: Container,
     before: u32,
 ) -> Result<(), Refusal>
     requires { place < places.old.count }
-    ensures { MadeAs (made places.old.text.now place kind positions before places.old.count places.old.table.now)
+    ensures { MadeAs
+        (made places.old.text.now place container.kind container.positions before places.old.count places.old.table.now)
         places.old places.new result }
 {
-    if kind == shapes::SEQUENCE {
+    if container.kind == shapes::SEQUENCE {
         ensure(places, place, Step::Element)?;
         return Ok(());
     }
-    if kind == shapes::MAP {
+    if container.kind == shapes::MAP {
         return make_pair(places, place);
     }
-    if is_first_tuple(kind, before) {
-        return make_positions(places, place, positions);
+    if is_first_tuple(container.kind, before) {
+        return make_positions(places, place, container.positions);
     }
     Ok(())
 }

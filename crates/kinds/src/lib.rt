@@ -60,6 +60,7 @@ fn is_too_deep(levels: usize, kind: u32) -> bool
 
 // A place of the first kind meets a value of the second, with so many levels left. Mostly the kinds are equal, or the
 // first is still unknown. The kind that they give, or refusal 7, 8 or 10.
+#[tactic(auto, using(crate::proofs::Meets::tests), unfolding(crate::specs::Meeting::meeting))]
 pub fn meet(options: TracingOptions, levels: usize, kind: u32, other: u32) -> Result<u32, Refusal>
     ensures { result ≡ meeting options.word levels kind other }
 {

@@ -47,6 +47,7 @@ fn is_mark(byte: u8) -> bool
 }
 
 // The place is nullable where the mark is `some`.
+#[tactic(auto, using(logic::specs::laws::Test::choice), unfolding(crate::specs::Marks::marked))]
 fn mark(byte: u8, place: Place, table: &mut Table)
     ensures { table.new ≡ marked byte place table.old }
 {
@@ -56,7 +57,8 @@ fn mark(byte: u8, place: Place, table: &mut Table)
 }
 
 // Marks the place nullable for each `some`, and gives the offset of the first command that is neither 10 nor 11. Offsets are
-// gone through, and no slice: commands are read by `read_byte` alone.
+// gone through, and no slice: commands are read by `read_byte` alone (docs/DECISIONS.md).
+#[tactic(auto, using(crate::specs::laws::Marks::past_cut, crate::specs::laws::Marks::past_mark, crate::specs::laws::Marks::past_other))]
 pub fn past_marks(commands: &[u8], at: usize, place: Place, table: &mut Table) -> usize
     ensures { Chain.chain result table.new ≡ past_marks commands.now at place table.old }
 {
@@ -71,6 +73,7 @@ pub fn past_marks(commands: &[u8], at: usize, place: Place, table: &mut Table) -
 }
 
 // The place has that kind, and null was seen there if so.
+#[tactic(auto, using(logic::specs::laws::Test::choice), unfolding(crate::specs::Leaves::stored))]
 fn store(null: bool, kind: u32, place: Place, table: &mut Table)
     ensures { table.new ≡ stored null kind place table.old }
 {
@@ -89,6 +92,7 @@ fn is_known(null: bool, before: u32, kind: u32) -> bool
 }
 
 // A primitive at a place: the offset behind it.
+#[tactic(auto, using(crate::specs::laws::Leaves::observe_known), unfolding(crate::specs::Leaves::observed))]
 pub fn observe(
     options: TracingOptions,
     leaf: Leaf,
@@ -122,6 +126,7 @@ fn is_same(commands: &[u8], at: usize, place: Place, table: &Table) -> bool
 
 // The offset behind a primitive that is null or of the type that is there. Most values are: what stands before them and how
 // kinds meet need not be asked, and types of one byte are told without asking what command it is.
+#[tactic(auto, using(crate::specs::laws::Quick::quick_same, crate::specs::laws::Quick::quick_other))]
 pub fn past_quick(
     commands: &[u8],
     text: &[u8],

@@ -5,7 +5,7 @@
 ghost use Rattle.std.specs.Prelude.{◌≡◌, ◌+◌, ◌<◌, ◌≤◌, ℕ, length, slice_index};
 ghost use Rattle.listing.specs.Levels.{level_after, one_fewer, next_level, next_due};
 
-// The line of a field record: level, type, nullable, strategy, variant, children, name.
+// The line of a field record: level, type, nullable, strategy, variant, children, name. The name is any bytes, and so no `Display`.
 fn print_record(rt: &impl Print, level: usize, record: &[u8; 8], name: &[u8]) {
     let [data_type, nullable, strategy, variant, ..] = *record;
     let children = files::two_bytes(record, 6);
@@ -20,12 +20,12 @@ struct Levels {
     // An array, and no Vec: `print_records` cannot fail, and so must not run out of memory.
     due: [u16; 8193],
     level: usize,
+    ghost within: { level < 8193 },
 }
 
 impl Levels {
     // The lowest level from the one in hand up at which more than the record in hand are due, or 0.
     fn open(&self) -> usize
-        requires { self.now.level < 8193 }
         ensures within { result ≤ self.now.level }
         ensures more { 0 < result → 1 < slice_index self.now.due result }
         ensures none { (k : ℕ) → result < k → k ≤ self.now.level → slice_index self.now.due k ≤ 1 }
@@ -39,7 +39,6 @@ impl Levels {
     // To the record after one that has no children: at its own level while others are due there, else at that of the
     // nearest record above it after which one is.
     fn climb(&mut self)
-        requires { self.old.level < 8193 }
         ensures level { self.new.level ≡ level_after self.old.due self.old.level }
         ensures due { self.new.due ≡ one_fewer self.old.due self.new.level }
         ensures above { self.new.level ≤ self.old.level }
@@ -52,6 +51,7 @@ impl Levels {
     }
 
     // To the record after one with so many children.
+    #[tactic(auto, using(crate::specs::laws::Levels::next))]
     fn pass(&mut self, children: u16)
         requires { self.old.level < 8192 }
         ensures level { self.new.level ≡ next_level self.old.due self.old.level children }

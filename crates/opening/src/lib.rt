@@ -11,7 +11,7 @@ ghost use Rattle.opening.specs.Opening.{held, container_made, variant_held, fiel
 use options::TracingOptions;
 use places::Places;
 use refusal::Refusal;
-use shapes::Step;
+use shapes::{Container, Step};
 use text::Name;
 use words::{Place, Whole};
 
@@ -32,20 +32,20 @@ pub fn hold(places: &mut Places<'_, '_>, place: Place, step: Step) -> Result<Pla
 pub fn open_container(
     places: &mut Places<'_, '_>,
     options: TracingOptions,
-    kind: u32,
-    positions: u16,
+    container: Container,
     levels: usize,
     place: Place,
 ) -> Result<(), Refusal>
     requires { place < places.old.count }
     ensures { MadeAs
-        (container_made places.old.text.now options.word levels kind positions place places.old.count places.old.table.now)
+        (container_made places.old.text.now options.word levels container.kind container.positions place
+        places.old.count places.old.table.now)
         places.old places.new result }
 {
     let before = words::get(places.table, place, Whole::Kind);
-    let joint = kinds::meet(options, levels, before, kind)?;
+    let joint = kinds::meet(options, levels, before, container.kind)?;
     growth::sample(place, joint, places.table);
-    growth::make(places, place, kind, positions, before)
+    growth::make(places, place, container, before)
 }
 
 // A variant meets what the place is and is one more sample there, which holds the variant's place.
@@ -106,6 +106,7 @@ fn hold_field(
 }
 
 // The field that stands at an offset: its place, or `None` where the end stands there.
+#[tactic(auto, using(shapes::specs::laws::Field::field_inside))]
 pub fn open_field(
     places: &mut Places<'_, '_>,
     commands: &[u8],

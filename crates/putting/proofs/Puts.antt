@@ -4,33 +4,26 @@ use mathlib.Core.Path.{◌≡◌, refl, ◌∙◌, ap}
 use mathlib.Core.List.{List}
 use Prim.Native.Nat.{ℕ, ◌+◌, ◌-◌, ◌<◌, ◌≤◌}
 use native.Mathlib.Omega.{arith}
-use lib.ListN.{length}
+use Rattle.std.proofs.Common.{append_assoc, take, drop, length}
+use Rattle.std.proofs.Math.Seq.{take-length}
+use Rattle.std.proofs.lemmas.Slice.{put_mid-paste}
+use borrow.Rule.Slice.PartMut.{put_mid}
 use Rattle.logic.specs.Test.{when◌then◌else◌}
 use Rattle.logic.specs.Buffer.{written}
+use Rattle.logic.specs.laws.Test.{if_passed, if_failed}
 use Rattle.logic.specs.laws.Buffer.{length_written}
+use Rattle.places.specs.laws.Reading.{field_inside, variant_inside}
 use Rattle.putting.specs.Put.{Put, put, put_bytes, Writing, writing, as_writing, with_record, with_name, both}
 
--- `n` is how many bytes there are
-module _ (bytes buffer : List ℕ) (at n : ℕ) (e : n ≡ length bytes) (h : at ≤ length buffer) where
-  pub no_room : length buffer - at < n → (put at buffer ≡ put_bytes bytes buffer at) × (at ≤ length buffer)
-  unfolding put_bytes when◌then◌else◌
-  no_room l = (rw (← e, lt-ltb (length buffer - at) n l), h)
+pub copied : (bytes names part : List ℕ) (at : ℕ) → part ≡ bytes → put_mid at (at + length bytes - at) names part ≡ written names at bytes
+copied bytes names part at e =
+    rw (put_mid-paste at (at + length bytes - at) names part bytes (length bytes) e (omega arith) refl, take-length bytes)
+    (append_assoc (take at names) bytes (drop (at + length bytes) names))
 
-  pub with_room : (r : ℕ) (out : List ℕ) → n ≤ length buffer - at → r ≡ at + length bytes → out ≡ written buffer at bytes → (put r out ≡ put_bytes bytes buffer at) × (r ≤ length out)
-  unfolding put_bytes when◌then◌else◌
-  with_room r out l p q =
-      let s : at + length bytes ≤ length buffer = omega arith in
-      (rw (p, q, ← e, le-ltb (length buffer - at) n l), omega (arith, ap length q, length_written buffer at bytes s))
+-- bytes are put where there is room for them, and a name that the text gave ends inside it
+pub ruleset in_room = (if_passed, if_failed, length_written, copied)
 
--- ---- both buffers: what a record or a name alone gives, and both one after the other
-module _ (i j : ℕ) (fields names : List ℕ) where
-  pub recorded : (bytes said : List ℕ) (r : ℕ) (out : List ℕ) → bytes ≡ said → put r out ≡ put_bytes bytes fields i → writing r j out names ≡ with_record said (writing i j fields names)
-  unfolding with_record
-  recorded bytes said r out e p = rw (← e, ← p)
-
-  pub named : (name : List ℕ) (r : ℕ) (out : List ℕ) → put r out ≡ put_bytes name names j → writing i r fields out ≡ with_name name (writing i j fields names)
-  unfolding with_name
-  named name r out p = rw (← p)
+pub ruleset names_end = (field_inside, variant_inside)
 
 -- the record's part of what was written
 pub record_part : (bytes : List ℕ) (i j a b : ℕ) (fields names out kept : List ℕ) → writing a b out kept ≡ with_record bytes (writing i j fields names) →
@@ -54,3 +47,5 @@ record_then_name bytes name (writing i j fields names) = go (put_bytes bytes fie
   where
     go : (p : Put) → put_bytes bytes fields i ≡ p → with_name name (as_writing p (put j names)) ≡ as_writing p (put_bytes name names j)
     go (put x y) q = refl
+
+pub ruleset entries = (if_passed, if_failed, record_then_name)

@@ -15,7 +15,8 @@ use words::{Place, Table};
 // The fields of a map's entries.
 const ENTRIES_FIELDS: u32 = 2;
 
-// What a field record says: among it the code of its type, the length of its name in bytes, and how many fields stand below it.
+// What a field record says: among it the code of its type, the length of its name in bytes, and how many fields stand below it. Type and
+// strategy are bytes, which any may be: enums would ask more of callers, who have a type from a place's kind, which is any word.
 #[derive(Clone, Copy)]
 pub struct Record {
     pub kind: u8,
@@ -38,6 +39,7 @@ pub struct Output<'f, 'n> {
 }
 
 // Bytes, where there is room for them; the first walk has seen that there is.
+#[tactic(auto, using(crate::proofs::Puts::in_room), unfolding(crate::specs::Put::put_bytes))]
 fn put_bytes(bytes: &[u8], buffer: &mut [u8], at: usize) -> usize
     requires { at ≤ length buffer.old }
     ensures { Puts bytes.now buffer at result }
@@ -88,6 +90,7 @@ impl<'f, 'n> Output<'f, 'n> {
     }
 
     // One field record.
+    #[tactic(auto, unfolding(crate::specs::Put::with_record))]
     pub fn put_record(&mut self, field: Record)
         ensures { Writes (with_record (record_bytes field)) self.old self.new }
     {
@@ -95,6 +98,7 @@ impl<'f, 'n> Output<'f, 'n> {
     }
 
     // A name.
+    #[tactic(auto, unfolding(crate::specs::Put::with_name))]
     fn put_text(&mut self, name: &[u8])
         ensures { Writes (with_name name.now) self.old self.new }
     {
@@ -102,6 +106,7 @@ impl<'f, 'n> Output<'f, 'n> {
     }
 
     // A position in decimal, which is its name.
+    #[tactic(auto, using(crate::proofs::Puts::in_room), unfolding(crate::specs::Put::put_bytes, crate::specs::Put::with_name))]
     fn put_position(&mut self, i: u16)
         ensures { Writes (with_name (decimal i)) self.old self.new }
     {
@@ -112,6 +117,7 @@ impl<'f, 'n> Output<'f, 'n> {
     }
 
     // The name of a child. A `walk::Source` would ask for options, which a name does not need.
+    #[tactic(auto, using(crate::proofs::Puts::names_end), unfolding(places::specs::Reading::child_name))]
     pub fn put_name(&mut self, text: &[u8], table: &Table, child: Place)
         requires settled { Settled text.now table.now }
         ensures { Writes (with_name (child_name text.now table.now child)) self.old self.new }
@@ -143,6 +149,7 @@ impl<'f, 'n> Output<'f, 'n> {
     }
 
     // The entries of a map.
+    #[tactic(auto, using(crate::proofs::Puts::entries), unfolding(crate::specs::Put::entries_in))]
     pub fn put_entries(&mut self, kind: u32)
         ensures { Writes (entries_in kind) self.old self.new }
     {

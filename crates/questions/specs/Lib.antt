@@ -1,3 +1,4 @@
 pub mod Question
+pub mod Numbers
 pub mod Left
 pub mod laws

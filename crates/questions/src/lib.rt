@@ -1,6 +1,6 @@
 // Stored questions to the whole call: how one is laid out in its file, and whether what a call left is what it says.
 // A question is a header, the commands, the text, and the field records and names of the answer. The header is the options
-// word and ten numbers of three bytes.
+// word and ten numbers of three bytes (`Number`).
 
 #![tactic(auto)]
 
@@ -8,6 +8,7 @@ ghost use Rattle.std.specs.Prelude.{◌≡◌, true, ◌↔◌, ◌≤◌, ◌<�
 ghost use Rattle.std.specs.List.{list_all};
 ghost use Rattle.files.specs.Bytes.{two_bytes};
 ghost use Rattle.questions.specs.Question.{header_bytes, number_at, question_size, question_end};
+ghost use Rattle.questions.specs.Numbers.{index_of};
 ghost use Rattle.questions.specs.Left.{lent_bytes, early, left_table, written_over, Answered};
 
 pub const HEADER: usize = 32;
@@ -19,6 +20,32 @@ pub const ROOM: usize = 16384;
 pub const BYTE: u8 = 0xA5;
 
 pub const WORD: u32 = 0xA5A5A5A5;
+
+// The numbers of a header, in the order in which they stand there.
+#[derive(Clone, Copy)]
+pub enum Number {
+    // Of the question: words of the table that are lent, bytes of the commands and of the text, and bytes of both buffers that are lent.
+    Table = 0,
+    Commands = 1,
+    Text = 2,
+    Fields = 3,
+    Names = 4,
+    // Of the answer.
+    Refusal = 5,
+    Place = 6,
+    FieldRecords = 7,
+    NameBytes = 8,
+    Columns = 9,
+}
+
+impl Number {
+    fn index(self) -> usize
+        ensures value { result ≡ index_of self }
+        ensures range { result < 10 }
+    {
+        self as usize
+    }
+}
 
 // The five numbers that a question says a call answers. The call has a struct of them, but what reads questions need not link the call.
 #[derive(Clone, Copy, PartialEq, Eq)]
@@ -56,12 +83,11 @@ impl<'a> Question<'a> {
     }
 
     // A number of the header.
-    pub fn number(&self, index: usize) -> usize
-        requires { index < 10 }
-        ensures value { result ≡ number_at self.now.bytes.now index }
+    pub fn number(&self, which: Number) -> usize
+        ensures value { result ≡ number_at self.now.bytes.now (index_of which) }
         ensures range { result < 16777216 }
     {
-        files::three_bytes(self.bytes, 2 + index * 3)
+        files::three_bytes(self.bytes, 2 + which.index() * 3)
     }
 
     // How many bytes it has.
@@ -69,7 +95,11 @@ impl<'a> Question<'a> {
         ensures value { result ≡ question_size self.now.bytes.now }
         ensures range { (header_bytes ≤ result) × (result < 268435456) }
     {
-        HEADER + self.number(1) + self.number(2) + self.number(7) * 8 + self.number(8)
+        HEADER
+            + self.number(Number::Commands)
+            + self.number(Number::Text)
+            + self.number(Number::FieldRecords) * 8
+            + self.number(Number::NameBytes)
     }
 
     // The five numbers are those of the header.
@@ -79,11 +109,11 @@ impl<'a> Question<'a> {
     {
         answer
             == Answer {
-                refusal: self.number(5) as u32,
-                place: self.number(6) as u32,
-                field_records: self.number(7) as u32,
-                name_bytes: self.number(8) as u32,
-                columns: self.number(9) as u32,
+                refusal: self.number(Number::Refusal) as u32,
+                place: self.number(Number::Place) as u32,
+                field_records: self.number(Number::FieldRecords) as u32,
+                name_bytes: self.number(Number::NameBytes) as u32,
+                columns: self.number(Number::Columns) as u32,
             }
     }
 }
@@ -117,7 +147,7 @@ fn is_all<T: PartialEq + Drop>(items: &[T], one: T) -> bool
     items.iter().all(|item| *item == one)
 }
 
-// Tested before the commands are read: 1 to 3.
+// Tested before the commands are read: 1 to 3. A number, as the call answers it, which C reads: 0 is no refusal.
 fn is_early(refusal: u32) -> bool
     ensures { result ≡ early refusal }
 {

@@ -12,7 +12,7 @@ use Rattle.places.specs.Layout.{Sound, Ready}
 use Rattle.growth.specs.Growth as G
 use Rattle.growth.specs.Growth.{found, count_of}
 use Rattle.opening.specs.Opening as O
-use Rattle.leaves.specs.Leaves.{counted, traced_to, Out, out, observed}
+use Rattle.leaves.specs.Leaves.{counted, traced_to, out, observed}
 use Rattle.leaves.specs.Marks.{chain, past_marks}
 use Rattle.leaves.specs.Quick.{quick_at}
 use Rattle.leaves.specs.laws.Quick.{quick_none}

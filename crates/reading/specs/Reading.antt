@@ -85,8 +85,8 @@ variant_by text options levels inner number name contents here at place n t =
 abbrev pub at_shape : List ℕ → List ℕ → ℕ → ℕ → Readers → ℕ → ℕ → ℕ → ℕ → List ℕ → Shape → Out
 at_shape commands text options levels inner here behind place n t (H.Leaf null kind) =
     observed options null kind levels here behind place n t
-at_shape commands text options levels inner here behind place n t (H.Parts kind positions) =
-    container_by commands text options levels inner kind positions here behind place n t
+at_shape commands text options levels inner here behind place n t (H.Parts container) =
+    container_by commands text options levels inner container.kind container.positions here behind place n t
 at_shape commands text options levels inner here behind place n t (H.Variant number name contents) =
     variant_by text options levels inner number name contents here behind place n t
 at_shape commands text options levels inner here behind place n t H.NoValue = out (refused_at F.BadCommand here) t

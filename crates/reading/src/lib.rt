@@ -1,6 +1,7 @@
 // Reads the values of a batch and traces each at its place (from_samples/mod.rs). A container's contents are read by a
 // call on itself, with the levels left falling from 20: a level for each step down, and one for each dot of its name. That the
-// batch and the places speak of one text is asked of each reader: a struct round both, for that alone, is no plainer.
+// batch and the places speak of one text is asked of each reader: of a struct round both each would have to promise that it leaves the
+// batch as it was, which is no plainer.
 
 #![tactic(auto)]
 
@@ -9,13 +10,13 @@ ghost use Rattle.model.specs.Kinds.{sequence_kind, map_kind, tuple_kind, is_stru
 ghost use Rattle.shapes.specs.Steps.{Unnamed, Inside, Good};
 ghost use Rattle.shapes.specs.Shapes.{is_parted};
 ghost use Rattle.reading.specs.Reading.{dots_in, value_at, parted};
-ghost use Rattle.reading.specs.Promises.{named, container, variant, inside, parts, part, Reads};
+ghost use Rattle.reading.specs.Promises.{named, container as container_at, variant, inside, parts, part, Reads};
 
 use commands::{Due, byte};
 use leaves::{Batch, Site};
 use places::Places;
 use refusal::{Refusal, Refused};
-use shapes::{Contents, Leaf, Part, Shape, Step};
+use shapes::{Container, Contents, Leaf, Part, Shape, Step};
 use text::Name;
 
 // The levels left below a step.
@@ -76,6 +77,7 @@ fn read_named(
 // A value past its marks: a container or a variant, or what cannot stand there. Whoever calls this has seen that it is no
 // primitive, but the contract does not ask it.
 #[cycle(readers)]
+#[tactic(auto, using(crate::specs::laws::Sound::struct_parted, crate::specs::laws::Sound::sequence_parted))]
 fn read_parted(
     batch: &Batch<'_>,
     here: usize,
@@ -87,14 +89,10 @@ fn read_parted(
     ensures { Reads batch.entry.now here site places.old places.new parted result }
 {
     if shapes::begins_at(batch.commands, byte::STRUCT, here) {
-        let kind = shapes::STRUCT;
-        let at = here + 1;
-        return read_container(batch, kind, 0, here, at, site, places);
+        return read_container(batch, Container::STRUCT, here, here + 1, site, places);
     }
     if shapes::begins_at(batch.commands, byte::SEQUENCE, here) {
-        let kind = shapes::SEQUENCE;
-        let at = here + 1;
-        return read_container(batch, kind, 0, here, at, site, places);
+        return read_container(batch, Container::SEQUENCE, here, here + 1, site, places);
     }
     let (command, next) = commands::read_command(batch.commands, batch.text, here, Due::Value)?;
     match shapes::shape_of(command, batch.text, batch.options) {
@@ -102,7 +100,7 @@ fn read_parted(
             let leaf = Leaf { null, kind, next };
             leaves::observe(batch.options, leaf, here, site, places.table)
         }
-        Shape::Parts(kind, n) => { read_container(batch, kind, n, here, next, site, places) }
+        Shape::Parts(container) => read_container(batch, container, here, next, site, places),
         Shape::Variant(number, name, contents) => read_variant(
             batch, number, name, contents, here, next, site, places,
         ),
@@ -116,8 +114,7 @@ fn read_parted(
 #[inline(always)]
 fn read_container(
     batch: &Batch<'_>,
-    kind: u32,
-    positions: u16,
+    container: Container,
     here: usize,
     at: usize,
     site: Site,
@@ -125,21 +122,14 @@ fn read_container(
 ) -> Result<usize, Refused>
     requires here { site.place < places.old.count }
     requires same_text { places.old.text.now ≡ batch.now.text.now }
-    requires kind_value { is_parted kind ≡ true }
-    ensures { Reads batch.entry.now at site places.old places.new (container kind positions here) result }
+    requires kind_value { is_parted container.kind ≡ true }
+    ensures { Reads batch.entry.now at site places.old places.new (container_at container.kind container.positions here) result }
 {
-    let made = opening::open_container(
-        places,
-        batch.options,
-        kind,
-        positions,
-        site.levels,
-        site.place,
-    );
+    let made = opening::open_container(places, batch.options, container, site.levels, site.place);
     made.map_err(|refusal| refusal.at(here))?;
     let levels = site.levels - 1;
     let below = Site { levels, ..site };
-    read_parts(batch, kind, positions, at, below, places)
+    read_parts(batch, container, at, below, places)
 }
 
 // The parts of a container by its kind. The levels are those left below it. The loops stand apart: with those inlined where a
@@ -148,17 +138,17 @@ fn read_container(
 #[inline(never)]
 fn read_parts(
     batch: &Batch<'_>,
-    kind: u32,
-    positions: u16,
+    container: Container,
     start: usize,
     site: Site,
     places: &mut Places<'_, '_>,
 ) -> Result<usize, Refused>
     requires here { site.place < places.old.count }
     requires same_text { places.old.text.now ≡ batch.now.text.now }
-    requires kind_value { is_parted kind ≡ true }
-    ensures { Reads batch.entry.now start site places.old places.new (parts kind positions) result }
+    requires kind_value { is_parted container.kind ≡ true }
+    ensures { Reads batch.entry.now start site places.old places.new (parts container.kind container.positions) result }
 {
+    let kind = container.kind;
     if kinds::is_struct(kind) {
         return read_fields(batch, kind, start, site, places);
     }
@@ -168,7 +158,7 @@ fn read_parts(
     if kind == shapes::MAP {
         return read_entries(batch, start, site, places);
     }
-    read_positions(batch, positions, start, site, places)
+    read_positions(batch, container.positions, start, site, places)
 }
 
 // The fields of a struct, or of a map in map mode, up to the end. What the loop reads of the batch is taken out before: else wide
@@ -248,7 +238,7 @@ fn read_elements(
     }
 }
 
-// The keys and values of a map, by turns, up to the end. A `for` would end by a count, too, which the end comes before.
+// The keys and values of a map, by turns, up to the end. A `for` over `0..` would end by a count, too, which the end comes before.
 #[cycle(readers)]
 fn read_entries(
     batch: &Batch<'_>,
@@ -361,6 +351,7 @@ fn read_variant(
 
 // A variant's contents are as for the plain form, their command being the variant's.
 #[cycle(readers)]
+#[tactic(auto, using(crate::specs::laws::Sound::tuple_parted, crate::specs::laws::Sound::struct_parted))]
 fn read_contents(
     batch: &Batch<'_>,
     contents: Contents,
@@ -383,13 +374,13 @@ fn read_contents(
             leaves::observe(batch.options, leaf, here, site, places.table)
         }
         Contents::Value => read_value(batch, at, site, places),
-        Contents::Positions(n) => {
-            let kind = shapes::TUPLE;
-            read_container(batch, kind, n, here, at, site, places)
+        Contents::Positions(positions) => {
+            let tuple = Container {
+                kind: shapes::TUPLE,
+                positions,
+            };
+            read_container(batch, tuple, here, at, site, places)
         }
-        Contents::Fields => {
-            let kind = shapes::STRUCT;
-            read_container(batch, kind, 0, here, at, site, places)
-        }
+        Contents::Fields => read_container(batch, Container::STRUCT, here, at, site, places),
     }
 }

@@ -80,19 +80,21 @@ fn joint(first: DataType, second: DataType, options: TracingOptions) -> u8
 fn joint_agrees(record: &[u8]) -> bool
     ensures { result ≡ joint_agrees «record».now }
 {
-    if record.len() != 5 {
+    let [_, _, first, second, code] = *record else {
         return false;
-    }
+    };
     let options = TracingOptions::new(files::two_bytes(record, 0));
-    let Ok(first) = DataType::try_from(record[2]) else {
+    let Ok(first) = DataType::try_from(first) else {
         return false;
     };
-    let Ok(second) = DataType::try_from(record[3]) else {
+    let Ok(second) = DataType::try_from(second) else {
         return false;
     };
-    joint(first, second, options) == record[4]
+    joint(first, second, options) == code
 }
 
+// The contract of each closure says which check its file's tally is of. One function for the three, over the check, could name
+// none of them.
 fn main(rt: HostRuntime) {
     replay::replay_file(
         &rt,

@@ -1,19 +1,16 @@
 -- The tree that the words of the table say is the numbered tree, numbers and marks forgotten; so the outcome of the flat run is that of the walk.
 use Rattle.std.specs.Prelude.{◌≡◌, refl, List, Bool, true, false, ℕ, zero, suc, ◌+◌, ◌*◌, ◌≤◌, eqb}
-use Rattle.std.proofs.Common.{ap₂, ◌∙◌, arith, ne_eqb}
-use Rattle.words.specs.Word.{word, zeros}
-use Rattle.text.specs.Name.{bytes_of}
+use Rattle.std.proofs.Common.{arith}
+use Rattle.words.specs.Word.{zeros}
 use Rattle.model.specs.Result.{Result}
 use Rattle.model.specs.Kinds.{Step}
 use Rattle.model.specs.Reading.{values}
 use Rattle.model.specs.Tracing.{one, place_limit, Counted}
-use Rattle.shapes.specs.Steps.{unpacked_name}
 use Rattle.samples.specs.Samples.{from_samples}
 use Rattle.leaves.specs.Leaves.{Out}
-use Rattle.places.specs.Layout.{kind_word, null_word, samples_word, first_word, next_word, step_word, name_word, held_word}
 use Rattle.refine.specs.laws.numbered.Tree.{Spot, spot, Spots, no_spots, child, num, new_spot, walk_all}
-use Rattle.refine.specs.Tree.{step_by, step_at, tree_at, kids_at, tree_of, outcome}
-use Rattle.refine.specs.laws.reading.Steps.{step_code_of, name_in, step_back_lem}
+use Rattle.refine.specs.Tree.{step_at, tree_at, kids_at, tree_of, outcome}
+use Rattle.refine.specs.laws.reading.Steps.{step_back_lem}
 use Rattle.refine.specs.laws.numbered.Numbers.{first_of, Good, GoodIn, bounded, self}
 use Rattle.refine.specs.laws.words.Places.{Cell, Rep, RepIn}
 use Rattle.refine.specs.laws.numbered.Erased.{erase, erase_in, erased}
@@ -25,41 +22,21 @@ one_is true = refl
 one_is false = refl
 
 step_at_lem : {text t : List ℕ} {q x p : ℕ} {s : Step} {h m : ℕ} → Cell text t q x p s h m → step_at text t q ≡ s
-step_at_lem {text = text} {t = t} {q = q} {s = s} c =
-    let w : word t q step_word ≡ step_code_of s = c.row 2 (omega arith) in
-    let v : word t q name_word ≡ c.name = c.row 3 (omega arith) in
-    let n : bytes_of text (unpacked_name (word t q name_word)) ≡ name_in s = rw v c.says in
-    ap₂ step_by w n ∙ step_back_lem s
+step_at_lem {s = s} c = grind (arith, c.row 2, c.row 3, c.says, step_back_lem s)
 
 mutual
   unfolding tree_at
 
   tree_is : (f n : ℕ) (text t : List ℕ) (u : Spot) → 2 * n ≤ 2 * num u + f → Good n u → Rep text t u → tree_at f text t (num u) ≡ erase u
   tree_is zero n text t (spot p b k m ks) l g r = absurd (omega (arith, g.0))
-  tree_is (suc f) n text t (spot p b k m ks) l g r =
-      let e₀ : word t p kind_word ≡ k = r.0 0 (omega arith) in
-      let e₁ : word t p null_word ≡ one b = r.0 1 (omega arith) in
-      let e₂ : word t p samples_word ≡ m = r.0 2 (omega arith) in
-      let e₃ : word t p first_word ≡ first_of ks = r.0 3 (omega arith) in
-      rw (e₀, e₁, e₂, e₃, one_is b, kids_are f n text t p p ks (omega arith) g.2 r.1) refl
+  tree_is (suc f) n text t (spot p b k m ks) l g r = grind (arith, g.2, r.0 0, r.0 1, r.0 2, r.0 3, one_is b, kids_are f n text t p p ks)
 
   kids_are : (f n : ℕ) (text t : List ℕ) (p c : ℕ) (ks : Spots) → 2 * n ≤ 2 * c + f + 1 → GoodIn n c ks → RepIn text t p ks → kids_at f text t (first_of ks) ≡ erase_in ks
   kids_are zero n text t p c no_spots l g r = refl
   kids_are (suc f) n text t p c no_spots l g r = refl
   kids_are zero n text t p c (child s h x u ks) l g r = absurd (let b = bounded n (num u) u g.1 (self u) in omega (arith, g.0))
   kids_are (suc f) n text t p c (child s h x u ks) l g r =
-      let e₀ : word t (num u) next_word ≡ first_of ks = r.0.row 0 (omega arith) in
-      let e₄ : word t (num u) held_word ≡ h = r.0.row 4 (omega arith) in
-      rw (
-        ne_eqb (num u) 0 (omega (arith, g.0)),
-        kids_at,
-        step_at_lem r.0,
-        e₀,
-        e₄,
-        tree_is f n text t u (omega (arith, g.0)) g.1
-            r.1,
-        kids_are f n text t p (num u) ks (omega (arith, g.0)) g.3 r.2,
-      ) refl
+      grind (arith, g.0, g.1, g.3, r.1, r.2, r.0.row 0, r.0.row 4, step_at_lem r.0, tree_is f n text t u, kids_are f n text t p (num u) ks)
 
 -- the tree that a table says, from its root on
 pub tree_of_lem : (n : ℕ) (text t : List ℕ) (u : Spot) → n ≤ place_limit → num u ≡ 0 → Good n u → Rep text t u → tree_of text t ≡ erase u

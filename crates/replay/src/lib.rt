@@ -2,7 +2,7 @@
 
 #![tactic(auto)]
 
-ghost use Rattle.std.specs.Prelude.{◌≡◌, List, ℕ, Bool, ◌+◌, ◌-◌, ◌≤◌, ◌<◌, length};
+ghost use Rattle.std.specs.Prelude.{◌≡◌, List, ℕ, Bool, ◌+◌, ◌-◌, ◌^◌, ◌≤◌, ◌<◌, length};
 ghost use Rattle.std.specs.Iterator.{at_most};
 ghost use Rattle.logic.specs.Test.{when◌then◌else◌};
 ghost use Rattle.replay.specs.Records.{record_end, IsEnd};
@@ -56,23 +56,29 @@ pub struct Tally {
     pub differ: usize,
 }
 
+impl Tally {
+    // With one record more: a line names it where its answer is not the stored one. The first is record 0.
+    fn with(self, rt: &impl Print, agrees: bool) -> Tally
+        requires { (self.records < 2 ^ 63) × (self.differ ≤ self.records) }
+        ensures { result ≡ record { records = self.records + 1; differ = self.differ + (when agrees then 0 else 1) } }
+    {
+        let Tally { records, differ } = self;
+        if !agrees {
+            let _ = println!(rt; "record {records} differs");
+        }
+        Tally {
+            records: records + 1,
+            differ: differ + usize::from(!agrees),
+        }
+    }
+}
+
 // Where the record that begins at an offset ends: with the file, if that is cut off.
 pub fn end_of_record(vectors: &[u8], at: usize) -> usize
     requires { at < length vectors.now }
     ensures { (result ≡ record_end vectors.now at) × (at < result) × (result ≤ length vectors.now) }
 {
     files::end_of(vectors, at + 1, usize::from(vectors[at]))
-}
-
-// Names a record whose answer is not the stored one, and counts it: 1, or 0 where the two agree. The first is record 0.
-pub fn differs(rt: &impl Print, record: usize, agrees: bool) -> usize
-    ensures { (result ≡ (when agrees then 0 else 1)) × (result ≤ 1) }
-{
-    if agrees {
-        return 0;
-    }
-    let _ = println!(rt; "record {record} differs");
-    1
 }
 
 // The records of a file from an offset on, each without the bytes at its start that are not handed on.
@@ -121,8 +127,7 @@ pub fn replay<R: Print, L: Layout + Drop, F: Fn(&[u8]) -> bool + Drop>(
         at: 0,
     };
     for record in records {
-        tally.differ += differs(rt, tally.records, agrees(record));
-        tally.records += 1;
+        tally = tally.with(rt, agrees(record));
     }
     tally
 }

@@ -15,7 +15,7 @@ fn is_held(place: Place, child: Place, table: &Table) -> bool
     ensures { result ≡ is_held place child table.now }
 {
     !child.is_root()
-        && words::get(table, child, Whole::Step) == 0
+        && words::get(table, child, Whole::Step) == shapes::ELEMENT
         && words::get(table, child, Whole::Name) == 0
         && words::get(table, child, Whole::Mark) == words::get(table, place, Whole::Samples)
 }
@@ -24,7 +24,7 @@ fn is_held(place: Place, child: Place, table: &Table) -> bool
 const BLOCK: usize = 16;
 
 // Whether BLOCK commands, from an offset on, are that byte. All are looked at: the compiler takes them together. Offsets are
-// gone through, here and below, and no slice: commands are read by `read_byte` alone.
+// gone through, here and below, and no slice: commands are read by `read_byte` alone (docs/DECISIONS.md).
 fn are_all(commands: &[u8], byte: u8, at: usize) -> bool
     requires { at + block_length ≤ length commands.now }
     ensures { result ≡ are_all commands.now byte at block_length }
@@ -38,6 +38,7 @@ fn are_all(commands: &[u8], byte: u8, at: usize) -> bool
 // An offset from which the run of one byte ends where it does from this one. How far it goes is its own choice: by BLOCK
 // commands at a time, which is quick. A `for` in steps of BLOCK would have to stop where less than a block is left, too, and
 // `as_chunks` would read commands otherwise than by `read_byte`.
+#[tactic(auto, using(crate::specs::laws::Runs::run_block))]
 fn past_blocks(commands: &[u8], byte: u8, at: usize) -> usize
     ensures { behind_run commands.now byte result ≡ behind_run commands.now byte at }
 {
@@ -59,6 +60,7 @@ fn past_run(commands: &[u8], byte: u8, at: usize) -> usize
 }
 
 // The offset behind the values of a type, where they are of one byte.
+#[tactic(auto, using(logic::specs::laws::Test::choice, crate::specs::laws::Runs::own_fits), unfolding(crate::specs::Runs::past_held))]
 fn past_held(commands: &[u8], kind: u32, at: usize) -> usize
     ensures { result ≡ past_held commands.now kind at }
 {
@@ -70,6 +72,7 @@ fn past_held(commands: &[u8], kind: u32, at: usize) -> usize
 }
 
 // The offset behind elements that change nothing: the present sample holds one already, of their type.
+#[tactic(auto, using(logic::specs::laws::Test::choice), unfolding(crate::specs::Runs::past_same))]
 pub fn past_same(commands: &[u8], at: usize, place: Place, table: &Table) -> usize
     requires { IsRow (word table.now place first_word) }
     ensures { result ≡ past_same commands.now at place table.now }

@@ -34,7 +34,8 @@ fn read_records(batch: &Batch<'_>, places: &mut Places<'_, '_>) -> Result<usize,
     Ok(at)
 }
 
-// Tracer::from_samples. The text is looked at once, so that where it is ASCII no text in it is tested for UTF-8.
+// Tracer::from_samples. The text is looked at once, so that where it is ASCII no text in it is tested for UTF-8. What is lent comes one by
+// one, as from the C interface, and the table is handed over whole.
 pub fn from_samples(
     commands: &[u8],
     text: &[u8],

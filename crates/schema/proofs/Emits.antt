@@ -1,25 +1,22 @@
 -- The ways through the second walk: what the definitions give where the code's tests came out so.
-use borrow.Author.Tests.{ne_eqb}
-use mathlib.Core.Path.{◌≡◌, refl, sym, ◌∙◌}
-use mathlib.Core.Bool.{Bool, true, false, not, ◌||◌, true≢false}
+use Rattle.std.proofs.Math.Dec.{eqb-suc-zero}
+use Rattle.std.proofs.Math.Bool.{or-true}
+use mathlib.Core.Path.{◌≡◌, refl}
+use mathlib.Core.Bool.{Bool, true, false, not, ◌||◌}
 use mathlib.Core.List.{List, [], ◌∷◌}
-use Prim.Native.Nat.{ℕ, zero, suc, ◌-◌, ◌%◌, ◌≤◌}
+use Prim.Native.Nat.{ℕ, zero, suc, ◌-◌, ◌≤◌}
 use native.Mathlib.Omega.{arith}
 use lib.Dec.{eqb}
 use Rattle.logic.specs.Test.{when◌then◌else◌}
-use Rattle.logic.specs.laws.Test.{neither}
 use Rattle.words.specs.Word.{word}
 use Rattle.model.specs.Kinds.{is_container}
 use Rattle.places.specs.Layout.{kind_word, null_word}
-use Rattle.places.specs.Reading.{variant_at, next_child}
+use Rattle.places.specs.Reading.{next_child}
 use Rattle.places.specs.Children.{children_from}
-use Rattle.walk.specs.Walk.{gaps_at, slot_behind}
-use Rattle.putting.specs.Put.{Writing, gaps_in}
-use Rattle.fields.specs.Fields.{is_dictionary, is_leaf, lacking_at}
+use Rattle.walk.specs.Walk.{slot_behind}
+use Rattle.putting.specs.Put.{Writing}
+use Rattle.fields.specs.Fields.{is_leaf}
 use Rattle.schema.specs.Emit.{Writer, field_at, child_in, fields_from, fields_below, emitted_by, emitted_at}
-
-some : (m : ℕ) → eqb (suc m) 0 ≡ false
-some m = ne_eqb (suc m) 0 (λ z. omega arith)
 
 -- ---- over the children as a list
 abbrev pub fields_over : List ℕ → Writer → ℕ → ℕ → ℕ → List ℕ → Writing → Writing
@@ -35,36 +32,25 @@ module _ (t : List ℕ) (inner : Writer) (kind place : ℕ) where
   same_fields zero slot child w = refl
   same_fields (suc left) slot zero w = refl
   same_fields (suc left) slot (suc m) w =
-      rw (children_from, fields_from, some m)
+      rw (children_from, fields_from, eqb-suc-zero m)
       (same_fields left (slot_behind t (suc m)) (next_child t true kind place (suc m)) (child_in t inner kind place slot (suc m) w))
-
--- ---- a child, after the slots before it
-pub in_child : (t : List ℕ) (inner : Writer) (kind place slot child count number : ℕ) (lacking : Bool) (before behind w : Writing) →
-    count ≡ gaps_at kind t slot child → behind ≡ gaps_in slot count before → number ≡ variant_at t child → lacking ≡ lacking_at t kind place child →
-    w ≡ inner child lacking (number % 256) behind → w ≡ child_in t inner kind place slot child before
-unfolding child_in
-in_child t inner kind place slot child count number lacking before behind w c p n l e = rw (← c, ← n, ← l, ← p) e
 
 -- ---- a place, by whether anything is emitted below it
 module _ (options : ℕ) (t : List ℕ) (place : ℕ) (is : Bool) where
   pub some_level : (levels : ℕ) → is ≡ is_leaf options t (eqb levels 0) place → is ≡ false → 1 ≤ levels
   unfolding is_leaf
-  some_level zero e f =
-      neither (not (is_container (word t place kind_word)) || true) (is_dictionary options t place) (sym e ∙ f)
-      (λ g h. neither (not (is_container (word t place kind_word))) true g (λ x y. absurd (true≢false y)))
+  some_level zero e f = grind (arith, or-true (not (is_container (word t place kind_word))))
   some_level (suc m) e f = omega arith
 
   module _ (text : List ℕ) (lacking nullable : Bool) (number : ℕ) (own w : Writing) (n : nullable ≡ (lacking || eqb (word t place null_word) 1))
       (o : own ≡ field_at options text t place nullable number w) where
     pub leaf : (levels : ℕ) → is ≡ is_leaf options t (eqb levels 0) place → is ≡ true → own ≡ emitted_at options text t levels place lacking number w
     unfolding emitted_at emitted_by when◌then◌else◌
-    leaf zero e p = rw (sym e ∙ p, ← n) o
-    leaf (suc m) e p = rw (sym (rw (some m) at e) ∙ p, ← n) o
+    leaf zero e p = grind arith
+    leaf (suc m) e p = grind (arith, eqb-suc-zero m)
 
     pub opened : (levels kind : ℕ) (after : Writing) → is ≡ is_leaf options t (eqb levels 0) place → is ≡ false → kind ≡ word t place kind_word →
         after ≡ fields_below t (emitted_at options text t (levels - 1)) kind place own → after ≡ emitted_at options text t levels place lacking number w
     unfolding emitted_at emitted_by when◌then◌else◌
-    opened zero kind after e p k a = absurd (let h : 1 ≤ 0 = some_level zero e p in omega arith)
-    opened (suc m) kind after e p k a =
-        let l : suc m - 1 ≡ m = omega arith in
-        rw (sym (rw (some m) at e) ∙ p, ← n, ← o, ← k) (rw l at a)
+    opened zero kind after e p k a = absurd (omega (arith, some_level zero e p))
+    opened (suc m) kind after e p k a = grind (arith, eqb-suc-zero m)

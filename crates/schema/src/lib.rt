@@ -23,7 +23,8 @@ const RECORD: usize = 8;
 // More than the tree is deep: a place's number is above its parent's.
 const LEVELS: usize = places::PLACES;
 
-// The record and the name of a place, with nothing below it.
+// The record and the name of a place, with nothing below it. What is read and what is written come apart, here and below: of a struct of
+// both each function would have to promise that it leaves the source as it was, which is no plainer.
 fn put_field(source: &Source, place: Place, nullable: bool, number: u8, out: &mut Output)
     ensures { Writes (over field_at source.now place nullable number) out.old out.new }
 {
@@ -128,7 +129,8 @@ fn finish(
 }
 
 // The schema of what was traced, so many places whose root is place 0: the counts of field records, name bytes and columns, or a
-// refusal (12 to 18). Their children are put in order first.
+// refusal (12 to 18). Their children are put in order first. What is lent comes one by one, as from the C interface, and the table is
+// handed over whole.
 pub fn to_schema(
     options: TracingOptions,
     text: &[u8],

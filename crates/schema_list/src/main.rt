@@ -40,47 +40,39 @@ fn trace(options: u16, commands: &[u8], text: &[u8], fields: &mut [u8], names: &
     fasthrom::fasthrom_trace(options, commands, text, &mut table, fields, names)
 }
 
-// The buffers are of fixed sizes, as what the call is lent is.
-fn list(rt: &impl Print, options: u16, commands: &[u8], text: &[u8]) {
-    let mut fields = [0u8; 65536];
-    let mut names = [0u8; 65536];
-    let answer = trace(options, commands, text, &mut fields, &mut names);
-    print_answer(rt, answer, &fields, &names);
+// The three files of a return.
+#[derive(Clone, Copy)]
+struct Paths<'a> {
+    options: &'a [u8],
+    commands: &'a [u8],
+    text: &'a [u8],
 }
 
-// The options word, the commands and the text of the return in three files. An options word is two bytes: a third would be
-// read, and turned down.
-fn load_return<R: Files + Eprint + Alloc>(
-    rt: &R,
-    options_path: &[u8],
-    commands_path: &[u8],
-    text_path: &[u8],
-) -> Option<(u16, Vec<u8, R::A>, Vec<u8, R::A>)> {
-    let options = files::load(rt, options_path, 3)?;
-    if options.len() != 2 {
-        let path = str::from_utf8(options_path).unwrap_or("");
-        let _ = eprintln!(rt; "{path}: not two bytes long");
-        return None;
+impl Paths<'_> {
+    // The options word, the commands and the text. An options word is two bytes: a third would be read, and turned down.
+    fn load<R: Files + Eprint + Alloc>(
+        &self,
+        rt: &R,
+    ) -> Option<(u16, Vec<u8, R::A>, Vec<u8, R::A>)> {
+        let options = files::load(rt, self.options, 3)?;
+        if options.len() != 2 {
+            let path = str::from_utf8(self.options).unwrap_or("");
+            let _ = eprintln!(rt; "{path}: not two bytes long");
+            return None;
+        }
+        let commands = files::load(rt, self.commands, MOST)?;
+        let text = files::load(rt, self.text, MOST)?;
+        Some((files::two_bytes(&options, 0), commands, text))
     }
-    let commands = files::load(rt, commands_path, MOST)?;
-    let text = files::load(rt, text_path, MOST)?;
-    Some((files::two_bytes(&options, 0), commands, text))
-}
 
-// Lists the return in three files, if all can be read.
-fn list_return<R: Files + Print + Eprint + Alloc>(
-    rt: &R,
-    options_path: &[u8],
-    commands_path: &[u8],
-    text_path: &[u8],
-) {
-    if let Some((options, commands, text)) = load_return(
-        rt,
-        options_path,
-        commands_path,
-        text_path,
-    ) {
-        list(rt, options, &commands, &text);
+    // Lists the return, if all of them can be read. The buffers are of fixed sizes, as what the call is lent is.
+    fn list<R: Files + Print + Eprint + Alloc>(&self, rt: &R) {
+        if let Some((options, commands, text)) = self.load(rt) {
+            let mut fields = [0u8; 65536];
+            let mut names = [0u8; 65536];
+            let answer = trace(options, &commands, &text, &mut fields, &mut names);
+            print_answer(rt, answer, &fields, &names);
+        }
     }
 }
 
@@ -88,7 +80,7 @@ fn list_return<R: Files + Print + Eprint + Alloc>(
 // of them. Nor does one that is longer than a path.
 fn arguments<R: Env + Alloc>(rt: &R) -> Result<Vec<Vec<u8, R::A>, R::A>, AllocError> {
     let mut all = Vec::new(rt.alloc());
-    for i in 1..usize::MAX {
+    for i in 1.. {
         let mut argument = vec![in rt.alloc(); 0u8; PATH]?;
         match rt.arg(i, &mut argument) {
             Ok(bytes) => argument.truncate(bytes),
@@ -101,12 +93,23 @@ fn arguments<R: Env + Alloc>(rt: &R) -> Result<Vec<Vec<u8, R::A>, R::A>, AllocEr
 }
 
 fn main(rt: HostRuntime) -> Result<(), AllocError> {
-    let paths = arguments(&rt)?;
-    if paths.is_empty() {
-        list_return(&rt, b"options.bin", b"commands.bin", b"text.bin");
+    let given = arguments(&rt)?;
+    if given.is_empty() {
+        let paths = Paths {
+            options: b"options.bin",
+            commands: b"commands.bin",
+            text: b"text.bin",
+        };
+        paths.list(&rt);
     }
-    for three in paths.chunks_exact(3) {
-        list_return(&rt, &three[0], &three[1], &three[2]);
+    let (returns, _) = given.as_chunks::<3>();
+    for [options, commands, text] in returns {
+        let paths = Paths {
+            options,
+            commands,
+            text,
+        };
+        paths.list(&rt);
     }
     Ok(())
 }

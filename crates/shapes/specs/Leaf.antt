@@ -33,7 +33,7 @@ leaf_of is_null kind behind = Some (record { null = is_null; kind = kind; next =
 -- a shape as a leaf
 abbrev pub leaf_by : ℕ → Shape → Option Leaf
 leaf_by behind (H.Leaf is_null kind) = leaf_of is_null kind behind
-leaf_by behind (H.Parts kind n) = None
+leaf_by behind (H.Parts container) = None
 leaf_by behind (H.Variant number name contents) = None
 leaf_by behind H.NoValue = None
 

@@ -21,6 +21,10 @@ use Rattle.shapes.specs.declared.Part.{Part}
 use Rattle.shapes.specs.declared.Part.TheVariants as P
 
 -- ---- what a command begins
+-- the parts of a container of that kind, with so many positions
+abbrev pub parts_of : ℕ → ℕ → Shape
+parts_of kind positions = H.Parts (record { kind = kind; positions = positions })
+
 abbrev pub map_kind_of : ℕ → ℕ
 map_kind_of options = when map_as_struct options then map_mode_kind else map_kind
 
@@ -43,10 +47,10 @@ shape_at options text C.Bytes = H.Leaf false (binary_type options)
 shape_at options text C.None = H.Leaf true null
 shape_at options text C.Some = H.NoValue
 shape_at options text C.NewtypeStruct = H.NoValue
-shape_at options text C.Sequence = H.Parts sequence_kind 0
-shape_at options text (C.Tuple n) = H.Parts tuple_kind n
-shape_at options text C.Map = H.Parts (map_kind_of options) 0
-shape_at options text C.Struct = H.Parts struct_kind 0
+shape_at options text C.Sequence = parts_of sequence_kind 0
+shape_at options text (C.Tuple n) = parts_of tuple_kind n
+shape_at options text C.Map = parts_of (map_kind_of options) 0
+shape_at options text C.Struct = parts_of struct_kind 0
 shape_at options text (C.Field name) = H.NoValue
 shape_at options text C.End = H.NoValue
 shape_at options text (C.UnitVariant k name) = H.Variant k name N.Unit

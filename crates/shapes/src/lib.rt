@@ -53,6 +53,13 @@ pub enum Step {
     Variant(u16, Name),
 }
 
+// The codes of the steps that have no number of their own.
+pub const ELEMENT: u32 = 0;
+
+pub const KEY: u32 = 1;
+
+pub const VALUE: u32 = 2;
+
 pub const FIELD: u32 = 3;
 
 impl Step {
@@ -61,16 +68,16 @@ impl Step {
         ensures { result ≡ code_of self }
     {
         match self {
-            Step::Element => 0,
-            Step::Key => 1,
-            Step::Value => 2,
+            Step::Element => ELEMENT,
+            Step::Key => KEY,
+            Step::Value => VALUE,
             Step::Field(_) => FIELD,
             Step::Position(i) => 4 + 2 * (i as u32),
             Step::Variant(number, _) => 5 + 2 * (number as u32),
         }
     }
 
-    // The name that goes with it, empty where there is none.
+    // The name that goes with it, empty where there is none: the word of the table that has it is 0 there.
     pub fn name(self) -> Name
         ensures { result ≡ name_of self }
     {
@@ -86,7 +93,8 @@ impl Step {
 
 // A name in one word, so that names given by the same part of the text are equal words. No `From`: it is the work table that
 // has names so, and the word's own name says which word it is. Commands and words hold a name without its text, so that what is
-// asked of a name, that it lies inside the text, stands in contracts and not in its type.
+// asked of a name, that it lies inside the text (`Inside`), and of one that is stored that it is UTF-8 too (`Good`), stands in
+// contracts and not in its type.
 pub fn packed(name: Name) -> u32
     ensures { result ≡ packed_name name }
 {
@@ -111,18 +119,38 @@ pub enum Contents {
     Fields,
 }
 
+// What a container is: its kind, and how many positions a tuple has, else 0. Any kind may come with any count, as for `growth::make`: of an
+// enum only a tuple would have one, which would ask more of callers.
+#[derive(Clone, Copy)]
+pub struct Container {
+    pub kind: u32,
+    pub positions: u16,
+}
+
+impl Container {
+    pub const SEQUENCE: Container = Container {
+        kind: SEQUENCE,
+        positions: 0,
+    };
+
+    pub const STRUCT: Container = Container {
+        kind: STRUCT,
+        positions: 0,
+    };
+}
+
 // What a command begins: a primitive and whether it is null, the parts of a container, a variant. 10 and 11 are passed
 // before, and 16 and 17 begin no value: the fourth of four cases, which an Option around three would say no plainer.
 #[derive(Clone, Copy)]
 pub enum Shape {
     Leaf(bool, u32),
-    Parts(u32, u16),
+    Parts(Container),
     Variant(u16, Name, Contents),
     NoValue,
 }
 
 // What stands before a part of a container: its end and the offset behind it, or the step to the part and the offset of its
-// value. Not an Option: the definition of a part (`part_at`) has both offsets, and for fields the step and the offset are read.
+// value. Not an Option: the end has an offset, too.
 #[derive(Clone, Copy)]
 pub enum Part {
     Ended(usize),
@@ -139,6 +167,7 @@ pub struct Leaf {
 }
 
 // The kind of a map.
+#[tactic(auto, using(logic::specs::laws::Test::chosen, logic::specs::laws::Test::other))]
 fn map_kind(options: TracingOptions) -> u32
     ensures { result ≡ map_kind_of options.word }
 {
@@ -197,10 +226,16 @@ pub fn shape_of(command: Command, text: &[u8], options: TracingOptions) -> Shape
         Command::Text(name) => Shape::Leaf(false, text_kind(name, text, options)),
         Command::Bytes => primitive(options.binary_type()),
         Command::Some | Command::NewtypeStruct | Command::Field(_) | Command::End => Shape::NoValue,
-        Command::Sequence => Shape::Parts(SEQUENCE, 0),
-        Command::Tuple(n) => Shape::Parts(TUPLE, n),
-        Command::Map => Shape::Parts(map_kind(options), 0),
-        Command::Struct => Shape::Parts(STRUCT, 0),
+        Command::Sequence => Shape::Parts(Container::SEQUENCE),
+        Command::Tuple(positions) => Shape::Parts(Container {
+            kind: TUPLE,
+            positions,
+        }),
+        Command::Map => Shape::Parts(Container {
+            kind: map_kind(options),
+            positions: 0,
+        }),
+        Command::Struct => Shape::Parts(Container::STRUCT),
         Command::UnitVariant(number, name) => Shape::Variant(number, name, Contents::Unit),
         Command::NewtypeVariant(number, name) => Shape::Variant(number, name, Contents::Value),
         Command::TupleVariant(number, name, n) => Shape::Variant(
@@ -247,6 +282,7 @@ fn is_named(commands: &[u8], text: &[u8], byte: u8, at: usize) -> bool
 }
 
 // The type of a value before text, by its byte: the byte itself, but a char is a UInt32.
+#[tactic(auto, using(logic::specs::laws::Test::chosen, logic::specs::laws::Test::other), unfolding(crate::specs::Leaf::plain_kind))]
 fn plain_kind(byte: u8) -> u32
     ensures { result ≡ plain_kind byte }
 {
@@ -326,6 +362,7 @@ pub fn leaf_at(commands: &[u8], text: &[u8], options: TracingOptions, at: usize)
 }
 
 // The byte that opens a field: 16 in a struct, and that of a text in map mode.
+#[tactic(auto, using(logic::specs::laws::Test::chosen, logic::specs::laws::Test::other))]
 fn opener(kind: u32) -> u8
     ensures { result ≡ opener_of kind }
 {
@@ -335,7 +372,8 @@ fn opener(kind: u32) -> u8
     }
 }
 
-// What is due where a field can stand.
+// What is due where a field can stand. It asks what `opener` asks, but the two are never wanted together.
+#[tactic(auto, using(logic::specs::laws::Test::chosen, logic::specs::laws::Test::other))]
 fn due_in(kind: u32) -> Due
     ensures { result ≡ due_of kind }
 {
@@ -396,6 +434,7 @@ pub fn element_part(commands: &[u8], text: &[u8], at: usize) -> Result<Part, Ref
 }
 
 // A key or a value of a map, by turns.
+#[tactic(auto, using(logic::specs::laws::Test::chosen, logic::specs::laws::Test::other), unfolding(crate::specs::Shapes::part_at))]
 pub fn entry_part(commands: &[u8], text: &[u8], i: usize, at: usize) -> Result<Part, Refused>
     ensures { result ≡ part_at commands.now text.now map_kind 0 i at }
 {

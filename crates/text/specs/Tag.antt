@@ -46,7 +46,7 @@ unfoldable pub short_tag : List ℕ → ℕ → ℕ
 short_tag bytes n = when eqb n 0 then 0 else joined_of n (get_or bytes 0 0) (get_or bytes (n / 2) 0) (get_or bytes (n - 1) 0)
 
 -- of four to twelve, which all are among the first four, the middle four and the last four
-unfoldable pub middle_tag : List ℕ → ℕ → ℕ
+abbrev pub middle_tag : List ℕ → ℕ → ℕ
 middle_tag bytes n =
     tag_bits (four_of bytes 0 * first_mixer + four_of bytes (n / 2 - 2) * middle_mixer + four_of bytes (n - 4) * last_mixer)
 

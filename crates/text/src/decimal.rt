@@ -6,6 +6,7 @@ ghost use Rattle.text.specs.Decimal.{decimal};
 use itoa::Buffer;
 
 // How many digits a number has.
+#[tactic(auto, using(crate::specs::laws::Decimal::length_logarithm))]
 pub fn decimal_length(n: u16) -> usize
     ensures { result ≡ length (decimal n) }
 {
@@ -13,6 +14,7 @@ pub fn decimal_length(n: u16) -> usize
 }
 
 // Writes the number in decimal, and answers the offset behind it.
+#[tactic(auto, using(crate::specs::laws::Decimal::decimal_written))]
 pub fn put_decimal(out: &mut [u8], at: usize, n: u16) -> usize
     requires { at + length (decimal n) ≤ length out.old }
     ensures { (result ≡ at + length (decimal n)) × (out.new ≡ written out.old at (decimal n)) }

@@ -40,6 +40,7 @@ fn mixed(state: u32, more: u32) -> u32
 }
 
 // The tag of a name over twelve bytes: eight a step in two lanes, the last eight once more.
+#[tactic(auto, using(crate::proofs::Chunks::array_four), unfolding(crate::specs::Tag::lane_of, crate::specs::Tag::long_tag))]
 fn long_tag(bytes: &[u8]) -> u32
     requires eight { 8 ≤ length bytes.now }
     requires counted { length bytes.now < tag_limit }
@@ -61,6 +62,7 @@ fn long_tag(bytes: &[u8]) -> u32
 // A name's tag. Equal names have equal tags, and unequal ones nearly never. Up to twelve bytes are all among the first four, the
 // middle four and the last four. A name over twelve bytes is mixed whole, so that names which differ in one byte, wherever it
 // stands, mostly have different tags, and finding a field costs one reading of its name.
+#[tactic(auto, using(logic::specs::laws::Test::choice), unfolding(crate::specs::Tag::tag_of, crate::specs::Tag::short_tag))]
 pub fn tag_of(bytes: &[u8]) -> u32
     requires { length bytes.now < tag_limit }
     ensures { result ≡ tag_of bytes.now }

@@ -4,6 +4,7 @@ ghost use Rattle.text.specs.Utf8.{is_utf8};
 ghost use Rattle.text.specs.Block.{is_ascii};
 
 // Whether all bytes are below 80: then each part of them is UTF-8.
+#[tactic(auto, using(crate::proofs::Library::ascii_bytes))]
 pub fn is_ascii(bytes: &[u8]) -> bool
     ensures { result ≡ is_ascii bytes.now }
 {
@@ -11,6 +12,7 @@ pub fn is_ascii(bytes: &[u8]) -> bool
 }
 
 // Whether the bytes are sequences of the table, one after another. Most are all below 80, which is quicker to see.
+#[tactic(auto, using(crate::proofs::Library::tables_utf8))]
 pub fn is_utf8(bytes: &[u8]) -> bool
     ensures { result ≡ is_utf8 bytes.now }
 {

@@ -1,18 +1,16 @@
 -- The ways through the walk: what the definitions give where the code's tests came out so.
-use Rattle.std.proofs.Common.{◌≡◌, Ok, Err, ℕ, zero, suc, ◌-◌, ◌<◌, ◌≤◌, Bool, true, false, not, ◌&&◌, eqb, List, [], ◌∷◌, sym, refl, ◌∙◌, arith, eq-eqb, ne_eqb, le-leb}
-use borrow.Author.Tests.{lt-leb, not-true, not-false}
+use Rattle.std.proofs.Common.{◌≡◌, Ok, Err, ℕ, zero, suc, ◌-◌, Bool, true, false, eqb, List, [], ◌∷◌, sym, refl, ◌∙◌, arith, ne_eqb}
 use Rattle.logic.specs.Test.{when◌then◌else◌}
-use Rattle.datatype.specs.Codes.{null}
-use Rattle.options.specs.Word.{allow_null_fields, enums_without_data_as_strings}
+use Rattle.logic.specs.laws.Test.{cases}
 use Rattle.refusal.specs.declared.Refusal.{Refusal}
 use Rattle.refusal.specs.declared.Refusal.TheVariants as F
 use Rattle.words.specs.Word.{word}
-use Rattle.model.specs.Kinds.{sequence_kind, union_kind}
+use Rattle.model.specs.Kinds.{is_container}
 use Rattle.places.specs.Layout.{kind_word}
 use Rattle.walk.specs.declared.Counts.{Counts}
 use Rattle.places.specs.Reading.{next_child}
 use Rattle.places.specs.Children.{children_from as listed}
-use Rattle.walk.specs.Walk.{Walked, counts, counts_with, with_child, dataless_at, slot_behind, is_beyond, children_from, children_below, walked_by, walked}
+use Rattle.walk.specs.Walk.{Walked, counts, counts_with, with_child, slot_behind, is_beyond, children_from, walked_by, walked}
 
 -- ---- over the children as a list
 abbrev pub walk_over : List ℕ → List ℕ → (ℕ → Walked) → ℕ → Counts → ℕ → List ℕ → Walked
@@ -70,64 +68,16 @@ module _ (text t : List ℕ) (inner : ℕ → Walked) (kind slot : ℕ) (so_far 
         further ≡ slot_behind t child → walk_over text t inner kind after further more ≡ whole
     next answer below after further f a e p s = rw (p, s) (rw (n, walk_over, sym b ∙ f, sym a ∙ e) at w)
 
--- ---- a place, by its kind
-module _ (options : ℕ) (text t : List ℕ) (place kind : ℕ) (k : kind ≡ word t place kind_word) where
-  module _ (u : kind ≡ null) (allowed : Bool) (a : allowed ≡ allow_null_fields options) where
-    pub unknown : (levels : ℕ) → allowed ≡ true → Ok (counts 0 0 0) ≡ walked options text t levels place
-    unfolding walked walked_by when◌then◌else◌
-    unknown zero p = rw (← k, eq-eqb kind null u, sym a ∙ p)
-    unknown (suc m) p = rw (← k, eq-eqb kind null u, sym a ∙ p)
+pub ruleset turns = (same_walk, beyond, refused, next)
 
-    pub null_field_lem : (levels : ℕ) → allowed ≡ false → Err F.NullField ≡ walked options text t levels place
-    unfolding walked walked_by when◌then◌else◌
-    null_field_lem zero p = rw (← k, eq-eqb kind null u, sym a ∙ p)
-    null_field_lem (suc m) p = rw (← k, eq-eqb kind null u, sym a ∙ p)
+-- ---- a place: that no level is left is one test more, for then nothing below it is looked at
+flat_alike : (options : ℕ) (text t : List ℕ) (inner other : ℕ → Walked) (place : ℕ) → walked_by options text t true inner place ≡ walked_by options text t true other place
+unfolding walked_by when◌then◌else◌
+flat_alike options text t inner other place = cases (is_container (word t place kind_word)) (λ e. rw e) (λ e. rw e)
 
-  module _ (u : kind ≡ null → ⊥) where
-    pub primitive : (levels : ℕ) → kind < sequence_kind → Ok (counts 0 0 0) ≡ walked options text t levels place
-    unfolding walked walked_by when◌then◌else◌
-    primitive zero h = rw (← k, ne_eqb kind null u, lt-leb sequence_kind kind h)
-    primitive (suc m) h = rw (← k, ne_eqb kind null u, lt-leb sequence_kind kind h)
-
-    module _ (h : sequence_kind ≤ kind) where
-      pub no_level : (levels : ℕ) → levels ≡ 0 → Ok (counts 0 0 0) ≡ walked options text t levels place
-      unfolding walked walked_by when◌then◌else◌
-      no_level zero e = rw (← k, ne_eqb kind null u, le-leb sequence_kind kind h)
-      no_level (suc m) e = absurd (omega arith)
-
-      module _ (x : kind ≡ union_kind) (flat : Bool) (d : flat ≡ dataless_at t place) (f : flat ≡ true) (strings : Bool) (s : strings ≡ enums_without_data_as_strings options) where
-        pub as_strings : (levels : ℕ) → (levels ≡ 0 → ⊥) → strings ≡ true → Ok (counts 0 0 0) ≡ walked options text t levels place
-        unfolding walked walked_by when◌then◌else◌
-        as_strings zero n p = absurd (n refl)
-        as_strings (suc m) n p = rw (← k, ne_eqb kind null u, le-leb sequence_kind kind h, eq-eqb kind union_kind x, sym d ∙ f, sym s ∙ p)
-
-        pub dataless_union_lem : (levels : ℕ) (allowed : Bool) → (levels ≡ 0 → ⊥) → strings ≡ false → allowed ≡ allow_null_fields options →
-            not allowed ≡ true → Err F.DatalessUnion ≡ walked options text t levels place
-        unfolding walked walked_by when◌then◌else◌
-        dataless_union_lem zero allowed n p a q = absurd (n refl)
-        dataless_union_lem (suc m) allowed n p a q = rw (← k, ne_eqb kind null u, le-leb sequence_kind kind h, eq-eqb kind union_kind x, sym d ∙ f, sym s ∙ p, sym a ∙ not-true allowed q)
-
--- no union, or one with data, or one that is emitted with its children all the same
-abbrev pub Opens : ℕ → List ℕ → ℕ → ℕ → Type 0
-Opens options t kind place =
-    ((eqb kind union_kind && dataless_at t place && enums_without_data_as_strings options) ≡ false) × ((eqb kind union_kind && dataless_at t place && not (allow_null_fields options)) ≡ false)
-
-module _ (options : ℕ) (t : List ℕ) (kind place : ℕ) where
-  pub no_union : (kind ≡ union_kind → ⊥) → Opens options t kind place
-  no_union n = (rw (ne_eqb kind union_kind n), rw (ne_eqb kind union_kind n))
-
-  pub with_data : (flat : Bool) → kind ≡ union_kind → flat ≡ dataless_at t place → flat ≡ false → Opens options t kind place
-  with_data flat x d f = (rw (eq-eqb kind union_kind x, sym d ∙ f), rw (eq-eqb kind union_kind x, sym d ∙ f))
-
-  pub null_children : (flat strings allowed : Bool) → kind ≡ union_kind → flat ≡ dataless_at t place → flat ≡ true →
-      strings ≡ enums_without_data_as_strings options → strings ≡ false → allowed ≡ allow_null_fields options → not allowed ≡ false → Opens options t kind place
-  null_children flat strings allowed x d f s p a q =
-      (rw (eq-eqb kind union_kind x, sym d ∙ f, sym s ∙ p), rw (eq-eqb kind union_kind x, sym d ∙ f, sym a ∙ not-false allowed q))
-
-  pub opened : (text : List ℕ) (levels : ℕ) (answer : Walked) → kind ≡ word t place kind_word → (kind ≡ null → ⊥) → sequence_kind ≤ kind → (levels ≡ 0 → ⊥) → Opens options t kind place →
-      answer ≡ children_below text t (walked options text t (levels - 1)) kind place → answer ≡ walked options text t levels place
-  unfolding walked walked_by when◌then◌else◌
-  opened text zero answer k u h n o e = absurd (n refl)
-  opened text (suc m) answer k u h n o e =
-      let l : suc m - 1 ≡ m = omega arith in
-      rw (← k, ne_eqb kind null u, le-leb sequence_kind kind h, o.0, o.1) (rw l at e)
+pub by_levels : (options : ℕ) (text t : List ℕ) (levels place : ℕ) → walked options text t levels place ≡ walked_by options text t (eqb levels 0) (walked options text t (levels - 1)) place
+unfolding walked
+by_levels options text t zero place = flat_alike options text t _ _ place
+by_levels options text t (suc m) place =
+    let l : suc m - 1 ≡ m = omega arith in
+    rw (l, ne_eqb (suc m) 0 (λ e. omega arith)) refl

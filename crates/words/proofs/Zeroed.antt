@@ -4,7 +4,7 @@ use mathlib.Core.Bool.{Bool, ◌&&◌}
 use mathlib.Core.List.{List}
 use Prim.Native.Nat.{ℕ, ◌+◌, ◌-◌, ◌*◌, ◌/◌, ◌%◌, ◌<◌, ◌≤◌}
 use native.Mathlib.Omega.{arith}
-use borrow.Author.Tests.{lt-ltb, le-ltb, le-leb, lt-leb, ltb-true, ltb-false, eqb-true, eqb-false, eq-eqb, ne_eqb}
+use borrow.Author.Tests.{lt-ltb, le-ltb, le-leb, lt-leb, ltb-true, ltb-false, eqb-true, eqb-false}
 use lib.Dec.{eqb, leb, ltb}
 use lib.ListN.{length, get_or}
 use borrow.Author.Rules.{rules}
@@ -13,7 +13,7 @@ use Rattle.std.proofs.lemmas.List.{length-replicate, places}
 use Rattle.std.specs.Prelude.{replicate}
 use Rattle.logic.specs.Test.{when◌then◌else◌}
 use Rattle.logic.specs.laws.Test.{cases}
-use Rattle.words.specs.Word.{table_places, table_words, row_words, plane_words, gap_words, IsTable, row_word, zeros, zeroed_where, orders_from, orders_end, cleared_in, cleared_to}
+use Rattle.words.specs.Word.{table_places, row_words, plane_words, IsTable, row_word, zeros, zeroed_where, orders_from, orders_end, cleared_in, cleared_to}
 use Rattle.words.specs.laws.Word.{where_length, where_at, where_is}
 
 -- ---- those from one index up to another
@@ -38,25 +38,6 @@ unfolding zeros
 all_filled t filled n e = rw (e, n) refl
 
 -- ---- gap by gap, each with the plane behind it
--- how many words of it: the planes 7 and 8, behind the gaps 6 and 7, are those with links that putting children in order stores
-module _ (k n : ℕ) (m : n ≤ table_places) (b : k < row_words) where
-  pub in_last : k ≡ row_words - 1 → (gap_words ≡ cleared_in k n) × (k * plane_words + gap_words ≤ table_words)
-  unfolding cleared_in when◌then◌else◌
-  in_last e = (rw (eq-eqb k (row_words - 1) e) refl, omega arith)
-
-  module _ (e : k ≡ row_words - 1 → ⊥) where
-    pub in_orders : 6 ≤ k → k < 8 → (plane_words ≡ cleared_in k n) × (k * plane_words + plane_words ≤ table_words)
-    unfolding cleared_in row_word when◌then◌else◌
-    in_orders c d = (rw (ne_eqb k (row_words - 1) e, le-leb 7 (k + 1) (omega arith), lt-ltb (k + 1) 9 (omega arith)) refl, omega (arith, e))
-
-    pub in_before : k < 6 → (gap_words + n ≡ cleared_in k n) × (k * plane_words + (gap_words + n) ≤ table_words)
-    unfolding cleared_in row_word when◌then◌else◌
-    in_before c = (rw (ne_eqb k (row_words - 1) e, lt-leb 7 (k + 1) (omega arith)) refl, omega (arith, e))
-
-    pub in_behind : 8 ≤ k → (gap_words + n ≡ cleared_in k n) × (k * plane_words + (gap_words + n) ≤ table_words)
-    unfolding cleared_in row_word when◌then◌else◌
-    in_behind c = (rw (ne_eqb k (row_words - 1) e, le-leb 7 (k + 1) (omega arith), le-ltb (k + 1) 9 (omega arith)) refl, omega (arith, e))
-
 in_inside : (k n : ℕ) → n ≤ table_places → cleared_in k n ≤ plane_words
 unfolding cleared_in when◌then◌else◌
 in_inside k n l =

@@ -145,6 +145,7 @@ const LAST_GAP: usize = 15;
 const LINK_LIMIT: u32 = 65536;
 
 // Where a word of the row stands.
+#[tactic(auto, using(logic::specs::laws::Test::choice), unfolding(crate::specs::Word::plane_index))]
 fn plane_index(row: usize, place: Place) -> usize
     requires { row < row_words }
     ensures { (result ≡ plane_index row place) × (result < table_words) }
@@ -156,6 +157,7 @@ fn plane_index(row: usize, place: Place) -> usize
 }
 
 // Where a whole word stands. Behind the links numbers run ahead, for two links share a word.
+#[tactic(auto, using(logic::specs::laws::Test::choice), unfolding(crate::specs::Word::row_word))]
 fn whole_index(place: Place, field: Whole) -> usize
     ensures { (result ≡ index_of place (whole_number field)) × (result < table_words) }
 {
@@ -167,6 +169,7 @@ fn whole_index(place: Place, field: Whole) -> usize
 }
 
 // Where the word stands that has a link in it.
+#[tactic(auto, using(crate::specs::laws::Word::link_from, crate::specs::laws::Word::link_end, crate::specs::laws::Word::link_row))]
 fn link_index(place: Place, field: Half) -> usize
     ensures { (result ≡ index_of place (half_number field)) × (result < table_words) }
 {
@@ -174,6 +177,7 @@ fn link_index(place: Place, field: Half) -> usize
 }
 
 // A whole word of a place.
+#[tactic(auto, using(crate::proofs::There::there), unfolding(crate::specs::Word::word, crate::specs::Word::part_of))]
 pub fn get(table: &Table, place: Place, field: Whole) -> u32
     ensures { result ≡ word table.now place (whole_number field) }
 {
@@ -181,6 +185,7 @@ pub fn get(table: &Table, place: Place, field: Whole) -> u32
 }
 
 // Stores a whole word of a place.
+#[tactic(auto, using(crate::proofs::There::there), unfolding(crate::specs::Word::with_word, crate::specs::Word::with_part))]
 pub fn set(table: &mut Table, place: Place, field: Whole, value: u32)
     ensures { table.new ≡ with_word table.old place (whole_number field) value }
 {
@@ -188,6 +193,7 @@ pub fn set(table: &mut Table, place: Place, field: Whole, value: u32)
 }
 
 // The link that is a half of a word.
+#[tactic(auto, using(logic::specs::laws::Test::choice), unfolding(crate::specs::Word::part_of))]
 fn link_in(word: u32, field: Half) -> usize
     ensures { (result ≡ part_of (half_number field) word) × (result < link_limit) }
 {
@@ -199,6 +205,7 @@ fn link_in(word: u32, field: Half) -> usize
 }
 
 // A link of a place.
+#[tactic(auto, using(crate::proofs::There::there), unfolding(crate::specs::Word::word))]
 pub fn link(table: &Table, place: Place, field: Half) -> usize
     ensures { (result ≡ word table.now place (half_number field)) × (result < link_limit) }
 {
@@ -206,6 +213,7 @@ pub fn link(table: &Table, place: Place, field: Half) -> usize
 }
 
 // The word with one of its links stored, the other as it was.
+#[tactic(auto, using(logic::specs::laws::Test::choice), unfolding(crate::specs::Word::with_part))]
 fn with_link(word: u32, field: Half, to: usize) -> u32
     requires { to < link_limit }
     ensures { result ≡ with_part (half_number field) word to }
@@ -218,6 +226,7 @@ fn with_link(word: u32, field: Half, to: usize) -> u32
 }
 
 // Stores a half of a word of a place, which may be any number of 16 bits.
+#[tactic(auto, using(crate::proofs::There::there), unfolding(crate::specs::Word::with_word))]
 pub fn set_half(table: &mut Table, place: Place, field: Half, value: usize)
     requires { value < link_limit }
     ensures { table.new ≡ with_word table.old place (half_number field) value }
@@ -241,6 +250,7 @@ pub fn set_block(table: &mut Table, place: Place, positions: u16)
 }
 
 // Whether one of so many places, from one on, has that value as that word. All are looked at: the compiler takes several at a time.
+#[tactic(auto, unfolding(crate::specs::Word::has_among))]
 pub fn has(table: &Table, from: usize, count: usize, field: Whole, value: u32) -> bool
     requires { from + count ≤ table_places }
     ensures { result ≡ has_among table.now from count (whole_number field) value }
@@ -253,6 +263,7 @@ pub fn has(table: &Table, from: usize, count: usize, field: Whole, value: u32) -
 }
 
 // Zeroes every word.
+#[tactic(auto, using(crate::proofs::Zeroed::all_filled))]
 pub fn clear(table: &mut Table)
     ensures { table.new ≡ zeros }
 {
@@ -261,6 +272,7 @@ pub fn clear(table: &mut Table)
 
 // How many words are zeroed with the places below `count` from where a gap starts: the gap, and those places of the plane behind
 // it, but all where putting children in order stores links, for it is not shown to keep to those places. Behind the last gap is no plane.
+#[tactic(auto, using(logic::specs::laws::Test::choice), unfolding(crate::specs::Word::cleared_in, crate::specs::Word::row_word))]
 fn cleared_in(gap: usize, count: usize) -> usize
     requires { (gap < row_words) × (count ≤ table_places) }
     ensures { (result ≡ cleared_in gap count) × (gap * plane_words + result ≤ table_words) }

@@ -1,16 +1,14 @@
 -- `trace` tests 1, 2 and 3 in order, and lends the places' words.
 use borrow.Author.Rules.{rules}
 use borrow.Author.Tests.{lt-ltb, le-ltb}
-use mathlib.Core.Path.{◌≡◌, refl, sym, ◌∙◌}
+use mathlib.Core.Path.{◌≡◌, refl}
 use mathlib.Core.Bool.{Bool, true, false, ◌||◌}
 use mathlib.Core.List.{List, ◌++◌}
 use Prim.Native.Nat.{ℕ, ◌<◌, ◌≤◌}
 use lib.Dec.{ltb}
 use lib.ListN.{length, take, drop}
 use Rattle.std.proofs.lemmas.List.{take-append-drop}
-use borrow.Author.Tests.{ltb-false}
 use Rattle.logic.specs.Test.{when◌then◌else◌}
-use Rattle.logic.specs.laws.Test.{neither}
 use Rattle.options.specs.Word.{unknown_bit}
 use Rattle.refusal.specs.declared.Refusal.TheVariants as F
 use Rattle.words.specs.Word.{table_words}
@@ -21,9 +19,6 @@ use Rattle.std.specs.Prelude.{Err}
 use Rattle.call.specs.Call.{refused_at, Outcome, lent, answer_by}
 use Rattle.call.specs.laws.Call.{lent_is_answer}
 use Rattle.call.proofs.trace.Goals as goal
-
-short_enough : (commands text : List ℕ) (long : Bool) → long ≡ (ltb input_limit (length commands) || ltb input_limit (length text)) → long ≡ false → length commands ≤ input_limit
-short_enough commands text long e f = neither (ltb input_limit (length commands)) (ltb input_limit (length text)) (sym e ∙ f) λ p q. ltb-false input_limit (length commands) p
 
 module _ (options word : ℕ) (commands text t fields names : List ℕ) (made : word ≡ options) (unknown : Bool) (u : unknown ≡ unknown_bit word) where
   abbrev given : M.Answer
@@ -63,9 +58,6 @@ returns-in_default c = search (short_table_lem, rules)
 
 pub returns-then-is_long : goal.returns-then-is_long
 returns-then-is_long c = let part = c.in-Some.ensures.cases in search (kept, part.enough, part.same, rules)
-
-pub trace_part-requires : goal.trace_part-requires
-trace_part-requires c = search (short_enough, rules)
 
 pub returns : goal.returns
 returns c = let part = c.in-Some.ensures.cases in search (traced, part.enough, part.same, rules)

@@ -5,17 +5,17 @@ use Rattle.std.proofs.Math.Bool.{true, false}
 use Rattle.std.proofs.Math.Option.{none}
 use Rattle.std.proofs.Common.{arith}
 use Rattle.std.proofs.Math.Dec.{ltb}
+use Rattle.std.proofs.lemmas.Grind.{common_steps}
 use Rattle.std.proofs.Math.ListN.{length}
-use borrow.Author.Tests.{eqb-true, ltb-false}
+use borrow.Author.Tests.{ltb-false}
 use Rattle.logic.specs.Test.{when◌then◌else◌}
 use Rattle.logic.specs.laws.Test.{cases, neither}
 use Rattle.datatype.specs.Codes.{null, struct}
 use Rattle.refusal.specs.declared.Refusal.TheVariants as F
 use Rattle.words.specs.Word.{word}
-use Rattle.model.specs.Kinds.{struct_kind, union_kind, tuple_kind, map_mode_kind, is_container, is_struct}
+use Rattle.model.specs.Kinds.{union_kind, is_container}
 use Rattle.model.specs.Tracing.{one, place_limit}
 use Rattle.model.specs.Emission.{place_of, places_of, walk, Field, mk, Fields, emits_struct, field_of, root_fields, count_in, records_in, names_in}
-use Rattle.equality.specs.laws.Base.{or_cases}
 use Rattle.equality.specs.laws.emission.Records.{length_records}
 use Rattle.places.specs.Layout.{kind_word, null_word}
 use Rattle.refine.specs.laws.numbered.Tree.{Spot, spot, num}
@@ -32,10 +32,7 @@ use Rattle.emission.specs.laws.secondwalk.Walk.{root_written}
 use Rattle.emission.specs.Emits.{Finishes}
 
 root_container : (k : ℕ) → emits_struct k ≡ true → (is_container k ≡ true) × (eqb k union_kind ≡ false)
-root_container k e =
-    or_cases (is_struct k) (eqb k tuple_kind) e
-    (λ a. or_cases (eqb k struct_kind) (eqb k map_mode_kind) a (λ b. rw (eqb-true k struct_kind b) (refl, refl)) (λ b. rw (eqb-true k map_mode_kind b) (refl, refl)))
-    (λ a. rw (eqb-true k tuple_kind a) (refl, refl))
+root_container k e = (grind (arith, common_steps), grind (arith, common_steps))
 
 module _ (options : ℕ) (text t : List ℕ) (fields names : List ℕ) (end records bytes columns : ℕ) where
   finish_by : (b : Bool) (type k strategy number : ℕ) (name : List ℕ) (fs : Fields) → word t 0 null_word ≡ one b → word t 0 kind_word ≡ k → eqb type null ≡ eqb k null → eqb type struct ≡ emits_struct k

@@ -4,7 +4,7 @@ use Rattle.std.proofs.Math.Path.{refl}
 use Rattle.std.proofs.Common.{ap, sym, ◌∙◌, le_refl}
 use Rattle.std.proofs.lemmas.Bool.{false≢true}
 use native.Mathlib.Omega.{arith}
-use borrow.Author.Tests.{eqb-true, eqb-false, ne_eqb}
+use borrow.Author.Tests.{eqb-true, eqb-false, ne_eqb, lt-ltb}
 use Rattle.logic.specs.Test.{when◌then◌else◌}
 use Rattle.logic.specs.laws.Test.{cases}
 use Rattle.logic.specs.laws.Flag.{if_either}
@@ -21,7 +21,8 @@ use Rattle.model.specs.Tracing.{place_limit}
 use Rattle.shapes.specs.declared.Step.{Step}
 use Rattle.shapes.specs.Steps.{field_code, name_of, packed_name, unpacked_name, Inside, Good}
 use Rattle.places.specs.Layout.{kind_word, samples_word, first_word, last_word, block_word, next_word, parent_word, step_word, name_word, held_word, mark_word, tag_word, position_word, Linked, Siblings, Sound, Ready}
-use Rattle.growth.specs.Growth.{Found, linked, lengthened, described, appended, tagged, Ensured, Made, Ensuring, ensuring, confirmed, ensured_by, ensured, touched, sampled, Making, making, of_ensuring, made_one, then_made, made_all, appended_from, positions_made, made, SoundEnsured, SoundMade, entered}
+use Rattle.growth.specs.Growth.{Found, linked, last_child, linked_behind, appended_behind, position_in, position_behind, lengthened, described, appended, tagged, Ensured, Made, Ensuring, ensuring, confirmed, ensured_by, ensured, touched, sampled, Making, making, of_ensuring, made_one, then_made, made_all, appended_from, positions_made, made, SoundEnsured, SoundMade, entered}
+use Rattle.places.specs.Reading.{link_at}
 use Rattle.search.specs.Search.{child_at}
 use Rattle.search.specs.laws.Tree.{seek_ends}
 use Rattle.search.specs.Tree.{is_numbered}
@@ -406,3 +407,23 @@ last_small text t n place r =
     let m : n ≤ place_limit = r.sound.linked.most in
     let l : word t place last_word < n = last_below text t n place _ r.sound r.here refl in
     omega arith
+
+-- the last child is the one that the definitions read
+module _ (place : ℕ) (t : List ℕ) (row : IsRow (word t place last_word)) where
+  last_is : link_at t place last_word ≡ word t place last_word
+  unfolding link_at when◌then◌else◌
+  last_is = rw (lt-ltb (word t place last_word) place_limit row) refl
+
+  pub position_last : position_behind (last_child place t) t ≡ position_in place t
+  unfolding last_child position_in when◌then◌else◌
+  position_last = cases (word t place first_word == 0) (λ z. rw z refl) (λ z. rw (z, last_is) refl)
+
+  linked_last : (child : ℕ) → linked_behind place (last_child place t) child t ≡ linked place child t
+  unfolding last_child linked when◌then◌else◌
+  linked_last child = cases (word t place first_word == 0) (λ z. rw z refl) (λ z. rw (z, last_is) refl)
+
+pub appended_last : (place code child : ℕ) (name : Name) (t : List ℕ) → IsRow (word t place last_word) → appended_behind place code name child t ≡ appended place code name child t
+appended_last place code child name t row =
+    ap (λ (v : List ℕ). with_word v place last_word child)
+    (linked_last place (described place code name child t) (rw (described_last place code child name t) row) child)
+    ∙ described_first place code child name t

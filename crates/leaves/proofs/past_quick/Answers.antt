@@ -1,17 +1,11 @@
 -- `past_quick`: a law for each of its answers, and what is passed is a leaf, which ends behind where it begins.
 use Rattle.std.proofs.Common.{rules}
 use Rattle.shapes.specs.laws.Leaf.{leaf_there, leaf_above}
-use Rattle.leaves.specs.laws.Quick.{same_fits, quick_same, quick_other, quick_null, quick_known, quick_changes}
+use Rattle.leaves.specs.laws.Quick.{same_fits, quick_null, quick_known, quick_changes}
 use Rattle.leaves.proofs.past_quick.Goals as goal
 
 pub overflow_add-result : goal.overflow_add-result
 overflow_add-result c = record { fits = search (same_fits, rules) }
-
-pub returns-then-is_same-clause-value : goal.returns-then-is_same-clause-value
-returns-then-is_same-clause-value c = search (quick_same, rules)
-
-pub returns-in_err-leaf-clause-value : goal.returns-in_err-leaf-clause-value
-returns-in_err-leaf-clause-value c = rw c.from_residual.ensures (search (quick_other, rules))
 
 pub returns-then-leaf-clause-value : goal.returns-then-leaf-clause-value
 returns-then-leaf-clause-value c = quick_null _ _ _ _ _ _ _ c.leaf_at.ensures _ _ _ c.in_ok-leaf.was _ c.if-leaf.true c.set.ensures

@@ -62,3 +62,6 @@ next_child_lem due level children some = rw (if_failed (level_after due level) (
 pub due_child : (due : List ℕ) (level children : ℕ) → (children ≡ 0 → ⊥) → set due (level + 1) children ≡ next_due due level children
 unfolding next_due
 due_child due level children some = rw (if_failed (one_fewer due (level_after due level)) (ne_eqb children 0 some))
+
+-- what `pass` goes by
+pub ruleset next = (next_after, due_after, next_child_lem, due_child)

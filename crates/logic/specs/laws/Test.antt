@@ -13,6 +13,8 @@ pub if_failed : {A : Type 0} {t : Bool} (a : A) {b : A} → t ≡ false → (whe
 unfolding when◌then◌else◌
 if_failed a e = rw e
 
+pub ruleset choice = (if_passed, if_failed)
+
 -- the same from a flag that holds the test
 pub chosen : {A : Type 0} (flag test : Bool) (a b : A) → flag ≡ test → flag ≡ true → a ≡ (when test then a else b)
 chosen flag test a b e p = sym (if_passed b (sym e ∙ p))

@@ -1,17 +1,17 @@
 -- The readers call one another in a circle, with the levels left falling.
-use Rattle.std.proofs.Common.{rules, arith, sym, ◌∙◌}
+use Rattle.std.proofs.Common.{rules, arith, ◌∙◌}
 use mathlib.Core.Path.{refl}
 use native.Mathlib.Nat.{le_refl, le_trans}
 use Rattle.logic.specs.laws.Flag.{flagged}
 use Rattle.shapes.specs.laws.Shapes.{text_inside, variant_good, parts_parted}
 use Rattle.reading.specs.laws.Readers.{contents_unit, contents_value, contents_positions, contents_fields, value_leaf, value_parted, named_parted, unnamed, part_child, part_refused, begun_fits, parted_sequence, parted_struct, parted_refused, parted_leaf, parted_parts, parted_variant, parted_none, container_parts, container_refused, variant_child, variant_refused}
-use Rattle.reading.specs.laws.Quick.{quick_read, quick_sound}
+use Rattle.reading.specs.laws.Quick.{quick_read}
 use Rattle.leaves.specs.laws.Quick.{quick_none}
 use Rattle.reading.specs.laws.Runs.{elements_same}
 use Rattle.runs.specs.laws.Runs.{same_above}
 use Rattle.reading.specs.laws.Loops.{parts_end, parts_refused, parts_stopped, parts_more, parts_less, parts_counted, count_fits, element_part, elements_more, part_unnamed, element_unnamed, position_unnamed, entry_unnamed, position_part, positions_end, whole_fits, name_fits, name_whole, name_inside, end_fits_lem, fields_ended, fields_refused, fields_stopped, fields_more, fields_less, by_fields, by_elements, by_entries, by_positions}
-use Rattle.reading.specs.laws.Sound.{opened_left, chosen_left, falls_parts, falls_contents, falls_named, sequence_parted, struct_parted, tuple_parted}
-use Rattle.std.specs.Prelude.{◌≡◌, ◌<◌, Ok, Err, Some, None}
+use Rattle.reading.specs.laws.Sound.{opened_left, chosen_left, falls_parts, falls_contents}
+use Rattle.std.specs.Prelude.{◌≡◌, ◌<◌, Ok, Some, None}
 use Rattle.shapes.specs.declared.Part.TheVariants as P
 use Rattle.reading.proofs.Placed.{placed_ok}
 use Rattle.reading.proofs.Steps.{was_next, was_stopped, was_refused_at, was_child, was_no_child, child_here, was_made, was_not_made, was_field, was_end, ended_count, was_no_field, field_here, same_on, below_more, seen_sound, past_sound, quick_kept}
@@ -51,12 +51,6 @@ read_container-returns t c =
 pub read_contents-invariant_of-places : goal.read_contents-invariant_of-places
 read_contents-invariant_of-places t c =
     record { sound = seen_sound _ _ _ _ c.args.places.now.sound c.requires.here _ _ _ _ _ _ _ _ (c.observe.ensures _) }
-
-pub read_contents-read_container-requires : goal.read_contents-read_container-requires
-read_contents-read_container-requires t c = (search rules, (c.requires.here, (c.requires.same_text, tuple_parted)))
-
-pub read_contents-read_container-requires-in-Fields : goal.read_contents-read_container-requires-in-Fields
-read_contents-read_container-requires-in-Fields t c = (search rules, (c.requires.here, (c.requires.same_text, struct_parted)))
 
 pub read_contents-returns-in-Unit : goal.read_contents-returns-in-Unit
 read_contents-returns-in-Unit t c =
@@ -110,9 +104,6 @@ pub read_named-invariant_of-places-in-None : goal.read_named-invariant_of-places
 read_named-invariant_of-places-in-None t c =
     record { sound = past_sound _ _ _ _ c.args.places.now.sound c.requires.here _ _ _ _ c.past_marks-here.ensures }
 
-pub read_named-read_parted-requires : goal.read_named-read_parted-requires
-read_named-read_parted-requires t c = (search (falls_named, rules), (c.requires.here, c.requires.same_text))
-
 pub read_named-returns-in-Some : goal.read_named-returns-in-Some
 read_named-returns-in-Some t c =
     record {
@@ -139,11 +130,6 @@ read_part-returns-in_err-place t c =
       same = c.hold-held.ensures.same;
     }
 
-pub read_part-read_value-requires : goal.read_part-read_value-requires
-read_part-read_value-requires t c =
-    let held = placed_ok _ _ _ c.map_err.ensures.cases _ c.in_ok-place.was in
-    (search rules, (child_here _ _ _ held c.hold-held.ensures.here, c.hold-held.ensures.same.text ∙ c.requires.same_text))
-
 pub read_part-returns : goal.read_part-returns
 read_part-returns t c =
     let held = placed_ok _ _ _ c.map_err.ensures.cases _ c.in_ok-place.was in
@@ -154,17 +140,11 @@ read_part-returns t c =
       same = same_on _ _ _ c.hold-held.ensures.same s.text s.table s.grows;
     }
 
-pub read_parted-overflow_add-at : goal.read_parted-overflow_add-at
-read_parted-overflow_add-at t c = search (begun_fits, rules)
+pub read_parted-overflow_add-here : goal.read_parted-overflow_add-here
+read_parted-overflow_add-here t c = search (begun_fits, rules)
 
-pub read_parted-overflow_add-at-then-begins_at-2 : goal.read_parted-overflow_add-at-then-begins_at-2
-read_parted-overflow_add-at-then-begins_at-2 t c = search (begun_fits, rules)
-
-pub read_parted-read_container-requires : goal.read_parted-read_container-requires
-read_parted-read_container-requires t c = (search rules, (c.requires.here, (c.requires.same_text, struct_parted)))
-
-pub read_parted-read_container-requires-then-begins_at-2 : goal.read_parted-read_container-requires-then-begins_at-2
-read_parted-read_container-requires-then-begins_at-2 t c = (search rules, (c.requires.here, (c.requires.same_text, sequence_parted)))
+pub read_parted-overflow_add-here-then-begins_at-2 : goal.read_parted-overflow_add-here-then-begins_at-2
+read_parted-overflow_add-here-then-begins_at-2 t c = search (begun_fits, rules)
 
 pub read_parted-returns-then-begins_at : goal.read_parted-returns-then-begins_at
 read_parted-returns-then-begins_at t c =
@@ -209,7 +189,7 @@ pub read_parted-returns-in-Parts : goal.read_parted-returns-in-Parts
 read_parted-returns-in-Parts t c =
     let read : c.read_command.result ≡ Ok (c.in_ok-command.command, c.in_ok-command.next) = search rules in
     let r = c.read_container-in-Parts.ensures in
-    record { read = parted_parts _ _ _ _ _ _ _ _ _ c.read_command.ensures _ _ read _ c.shape_of.ensures _ _ _ c.in-Parts.is r.read; same = r.same }
+    record { read = parted_parts _ _ _ _ _ _ _ _ _ c.read_command.ensures _ _ read _ c.shape_of.ensures _ _ c.in-Parts.is r.read; same = r.same }
 
 pub read_parted-returns-in-Variant : goal.read_parted-returns-in-Variant
 read_parted-returns-in-Variant t c =

@@ -152,7 +152,7 @@ module _ (commands text : List ℕ) (inner : Readers) (on : On (length commands)
   shape_on : (options levels here low behind place n : ℕ) (t : List ℕ) → low ≤ behind → behind ≤ length commands → (shape : Shape) →
       Moved low (length commands) (at_shape commands text options levels inner here behind place n t shape)
   shape_on options levels here low behind place n t p q (H.Leaf is_null kind) = observed_on options is_null kind levels here low behind (length commands) place n t p q
-  shape_on options levels here low behind place n t p q (H.Parts kind positions) = moved_from behind low (length commands) p _ (container_on options levels kind positions here behind place n t q)
+  shape_on options levels here low behind place n t p q (H.Parts container) = moved_from behind low (length commands) p _ (container_on options levels container.kind container.positions here behind place n t q)
   shape_on options levels here low behind place n t p q (H.Variant number name contents) = moved_from behind low (length commands) p _
       (variant_on options levels number name contents here behind place n t q)
   shape_on options levels here low behind place n t p q H.NoValue = stopped low (length commands) (record { refusal = F.BadCommand; place = here }) t

@@ -17,6 +17,7 @@ use Rattle.model.specs.Kinds.{sequence_kind, struct_kind, tuple_kind}
 use Rattle.shapes.specs.declared.Step.{Step}
 use Rattle.shapes.specs.declared.Contents.{Contents}
 use Rattle.shapes.specs.declared.Contents.TheVariants as N
+use Rattle.shapes.specs.declared.Container.{Container}
 use Rattle.shapes.specs.declared.Shape.{Shape}
 use Rattle.shapes.specs.declared.Shape.TheVariants as H
 use Rattle.shapes.specs.Steps.{no_name, name_of, Unnamed, Good}
@@ -187,10 +188,10 @@ module _ (commands text : List ℕ) (options levels here place n : ℕ) (t : Lis
         pub parted_leaf : (is_null : Bool) (kind : ℕ) → shape ≡ H.Leaf is_null kind → o ≡ observed options is_null kind levels here next place n t → o ≡ parted commands text options levels here place n t
         parted_leaf is_null kind e p = p ∙ (rw e at shape_is)
 
-        pub parted_parts : (kind positions : ℕ) → shape ≡ H.Parts kind positions →
-            o ≡ container_by commands text options levels (inner_of commands text options levels) kind positions here next place n t →
+        pub parted_parts : (container : Container) → shape ≡ H.Parts container →
+            o ≡ container_by commands text options levels (inner_of commands text options levels) container.kind container.positions here next place n t →
             o ≡ parted commands text options levels here place n t
-        parted_parts kind positions e p = p ∙ (rw e at shape_is)
+        parted_parts container e p = p ∙ (rw e at shape_is)
 
         pub parted_variant : (number : ℕ) (name : Name) (contents : Contents) → shape ≡ H.Variant number name contents →
             o ≡ variant_by text options levels (inner_of commands text options levels) number name contents here next place n t →

@@ -40,14 +40,17 @@ module _ (word a b code : ℕ) (x : Result DataType UnknownCode) (dx : x ≡ dec
     unfolding is_joint
     both second answer given two f t o g = rw (sym dx ∙ e, sym dy ∙ f, g, o, t)
 
-pub returns-then-record-ne5 : goal.returns-then-record-ne5
-returns-then-record-ne5 c = search (other, rules)
-
 pub returns-in_default : goal.returns-in_default
-returns-in_default c = whole _ _ (search rules) (search (no_first, rules))
+returns-in_default c = search (other, rules)
+
+pub returns-in_default-2 : goal.returns-in_default-2
+returns-in_default-2 c = search (other, rules)
 
 pub returns-in_default-try_from : goal.returns-in_default-try_from
-returns-in_default-try_from c = whole _ _ (search rules) (search (no_second, rules))
+returns-in_default-try_from c = whole _ _ (search rules) (search (no_first, rules))
+
+pub returns-in_default-try_from-2 : goal.returns-in_default-try_from-2
+returns-in_default-try_from-2 c = whole _ _ (search rules) (search (no_second, rules))
 
 pub returns : goal.returns
 returns c = whole _ _ (search rules) (search (both, rules))

@@ -50,7 +50,7 @@ batch_sim options commands text bytes (suc f) at n t u y e z h =
         → {x : Result (Counted Spot)} {y : Out} {o : Option ℕ} → Agrees text commands t n u (at + 1) x y o
         → Ends text (x >>= λ r. walk_all options (elim o [ none ↦ [] | some b ↦ records_from f options commands text b ]) r.places r.what)
         (after (λ s. turns (record_turn commands text options) record_stop (suc f) s) (after_part 0 y))
-    go ih (went {a = a} {n' = n'} {t' = t'} {u' = u'} i y₁ c) = ih a n' t' u' i y₁ (c.same ∙ z) c.fits
+    go ih (went i y₁ c) = ih _ _ _ _ i y₁ (c.same ∙ z) c.fits
     go ih balked = turned_down_lem
 
 -- a table of zeros says a tree of one unseen place

@@ -1,4 +1,5 @@
 -- A child is sought, and appended.
+use Rattle.std.proofs.lemmas.Grind.{common_steps}
 use Rattle.std.specs.Prelude.{◌≡◌, List, [], ◌∷◌, Bool, length, replicate, eqb}
 use Rattle.std.proofs.Math.Path.{refl}
 use Rattle.std.proofs.Common.{ap, sym, subst, ◌∙◌, arith}
@@ -6,7 +7,6 @@ use Rattle.std.proofs.Math.Bool.{true, false}
 use Rattle.std.proofs.lemmas.Bool.{false≢true}
 use Prim.Native.Nat.{ℕ, zero, suc, ◌+◌, ◌<◌, ◌≤◌}
 use Rattle.std.proofs.Math.ListN.{get_or}
-use Rattle.std.proofs.lemmas.List.{get_or-replicate, length-replicate}
 use borrow.Author.Tests.{eqb-true, eqb-false, ne_eqb}
 use Rattle.logic.specs.Test.{when◌then◌else◌}
 use Rattle.logic.specs.laws.Test.{cases}
@@ -61,10 +61,7 @@ pub record Picked (text t : List ℕ) (s : Step) (ks : Spots) : Type 0 where
 module _ (text t : List ℕ) (f : Flat.Step) (s : Step) (st : Stands text f s) where
   is_at_lem : (q x p : ℕ) (r : Step) (h m : ℕ) → Cell text t q x p r h m → is_at text (code_of f) (name_of f) q t ≡ near s r
   unfolding is_at
-  is_at_lem q x p r h m c =
-      let w : word t q step_word ≡ step_code_of r = c.row 2 (omega arith) in
-      let v : word t q name_word ≡ c.name = c.row 3 (omega arith) in
-      rw (w, v, c.says, st.code, st.bytes) (test_is s r)
+  is_at_lem q x p r h m c = grind (arith, c.row 2, c.row 3, c.says, test_is s r)
 
   further : (r : Step) (h m : ℕ) (u : Spot) (ks : Spots) (c : ℕ) → near s r ≡ false → Sought text t s ks c → Sought text t s (child r h m u ks) c
   unfolding near_in has clashes steps_s spot_at when◌then◌else◌
@@ -141,7 +138,7 @@ still_has r s n (child q h m u ks) e = or_cases (same r q) (has r (steps_s ks)) 
 pub still_at : (r s : Step) (n : ℕ) (ks : Spots) → has r (steps_s ks) ≡ true → spot_at r (add_s s n ks) ≡ spot_at r ks
 unfolding add_s has steps_s spot_at when◌then◌else◌
 still_at r s n no_spots e = absurd (false≢true e)
-still_at r s n (child q h m u ks) e = cases (same r q) (λ d. rw d refl) (λ d. let e' : has r (steps_s ks) ≡ true = rw d at e in rw d (still_at r s n ks e'))
+still_at r s n (child q h m u ks) e = grind (arith, common_steps, still_at r s n ks)
 
 pub still_first : (r s : Step) (n : ℕ) (ks : Spots) → has r (steps_s ks) ≡ true → first_of (add_s s n ks) ≡ first_of ks
 unfolding add_s has steps_s
@@ -230,7 +227,7 @@ linked_is text t n p s b k m (child r x y u ks) h =
     })
 
 pub zero_row : (t : List ℕ) (n base k : ℕ) → base + k ≤ place_words → ((f : ℕ) → f < place_words → word t n f ≡ 0) → Row t n base (replicate k 0)
-zero_row t n base k i z f l = let l' : f < k = rw (length-replicate {A = ℕ} k 0) at l in z (base + f) (omega arith) ∙ sym (get_or-replicate k f 0 0 l')
+zero_row t n base k i z f l = grind (arith, common_steps)
 
 -- A new last child, in a table that does not yet have it in the search tree nor in the block: what `After` says but for these, and the words
 -- that they read.
@@ -265,15 +262,15 @@ append_grown text t n p x s b k m ks st far h i =
     let z₃ : length t₃ ≡ length t = length_with t₂ n step_word c ∙ z₂ in
     let z₄ : length t₄ ≡ length t = length_with t₃ n name_word nm ∙ z₃ in
     let last_below : (q : ℕ) → within_in q ks ≡ true → q < n = λ q e. bounded_in n p q ks h.good.2 e in
-    let all : (q f : ℕ) → f < place_words → (q ≡ n → f ≡ parent_word → ⊥) → (q ≡ n → f ≡ step_word → ⊥) → (q ≡ n → f ≡ name_word → ⊥) →
-    (q ≡ p → f ≡ first_word → ⊥) → (q ≡ p → f ≡ last_word → ⊥) → (within_in q ks ≡ true → q ≡ last_from 0 ks → f ≡ next_word → ⊥) →
-    word t₄ q f ≡ word t q f
-    = λ q f l a₆ a₇ a₈ a₃ a₄ a₅.
-    word_other t₃ n name_word nm q f a₈
-    ∙ word_other t₂ n step_word c q f a₇
-    ∙ word_other t₁ n parent_word p q f a₆
-    ∙ word_other t₀ p last_word n q f a₄
-    ∙ k₀.rest q f l a₃ a₅ in
+    let behind : (q f : ℕ) → (q ≡ n → parent_word ≤ f → f ≤ name_word → ⊥) → word t₄ q f ≡ word t₁ q f
+    = λ q f a.
+    word_other t₃ n name_word nm q f (λ e d. a e (omega arith) (omega arith))
+    ∙ word_other t₂ n step_word c q f (λ e d. a e (omega arith) (omega arith))
+    ∙ word_other t₁ n parent_word p q f (λ e d. a e (omega arith) (omega arith)) in
+    let all : (q f : ℕ) → f < place_words → (q ≡ n → parent_word ≤ f → f ≤ name_word → ⊥) → (q ≡ p → first_word ≤ f → f ≤ last_word → ⊥) →
+    (within_in q ks ≡ true → q ≡ last_from 0 ks → f ≡ next_word → ⊥) → word t₄ q f ≡ word t q f
+    = λ q f l a b d.
+    behind q f a ∙ word_other t₀ p last_word n q f (λ e g. b e (omega arith) (omega arith)) ∙ k₀.rest q f l (λ e g. b e (omega arith) (omega arith)) d in
     let zeros₀ : (f : ℕ) → f < place_words → word t₁ n f ≡ 0
     = λ f j. word_other t₀ p last_word n n f (λ e _. omega arith) ∙ k₀.rest n f j (λ d _. omega arith) (λ e d _. let y = last_below n e in omega arith) ∙ h.zeros n f (omega arith) i j in
     let cell_row : Row t₄ n next_word (cell_words 0 p c nm 0 0)
@@ -287,46 +284,38 @@ append_grown text t n p x s b k m ks st far h i =
       inside = subst (λ (y : Name). Inside text y) (sym (unpacked (name_of x) st.short)) st.inside;
       says = ap (bytes_of text) (unpacked (name_of x) st.short) ∙ st.bytes;
     } in
-    let fresh : (f : ℕ) → f < place_words → (f ≡ parent_word → ⊥) → (f ≡ step_word → ⊥) → (f ≡ name_word → ⊥) → word t₄ n f ≡ 0
-    = λ f j a₆ a₇ a₈. word_other t₃ n name_word nm n f (λ _. a₈) ∙ word_other t₂ n step_word c n f (λ _. a₇) ∙ word_other t₁ n parent_word p n f (λ _. a₆) ∙ zeros₀ f j in
+    let fresh : (f : ℕ) → f < place_words → (parent_word ≤ f → f ≤ name_word → ⊥) → word t₄ n f ≡ 0
+    = λ f j a. behind n f (λ _. a) ∙ zeros₀ f j in
     let own : Row t₄ n kind_word (own_words false 0 0 no_spots)
-    = row_other t₃ n kind_word n name_word nm (own_words false 0 0 no_spots) (λ g l d e. omega arith)
-    (row_other t₂ n kind_word n step_word c (own_words false 0 0 no_spots) (λ g l d e. omega arith)
-    (row_other t₁ n kind_word n parent_word p (own_words false 0 0 no_spots) (λ g l d e. omega arith) (zero_row t₁ n kind_word 5 (omega arith) zeros₀))) in
+    = λ f l. behind n (kind_word + f) (λ _ a _. omega arith) ∙ zero_row t₁ n kind_word 5 (omega arith) zeros₀ f l in
     let parent : Row t₄ p kind_word (own_words b k m (add_s s n ks))
-    = subst (λ (x : ℕ). Row t₄ p kind_word (k ∷ one b ∷ m ∷ first_of (add_s s n ks) ∷ x ∷ [])) (sym (last_add 0 s n ks))
-    (row_other t₃ p kind_word n name_word nm (k ∷ one b ∷ m ∷ first_of (add_s s n ks) ∷ n ∷ []) (λ g l d e. omega arith)
-    (row_other t₂ p kind_word n step_word c (k ∷ one b ∷ m ∷ first_of (add_s s n ks) ∷ n ∷ []) (λ g l d e. omega arith)
-    (row_other t₁ p kind_word n parent_word p (k ∷ one b ∷ m ∷ first_of (add_s s n ks) ∷ n ∷ []) (λ g l d e. omega arith)
-    (row_set t₀ p kind_word 4 n (k ∷ one b ∷ m ∷ first_of (add_s s n ks) ∷ last_from 0 ks ∷ []) (omega arith) (omega arith) (omega arith) (in_each (omega arith)) (omega arith)
-    k₀.row)))) in
+    = λ f l. cc (
+      last_add 0 s n ks,
+      behind p (kind_word + f) (λ e _ _. omega arith),
+      row_set t₀ p kind_word 4 n (k ∷ one b ∷ m ∷ first_of (add_s s n ks) ∷ last_from 0 ks ∷ []) (omega arith) (omega arith) (omega arith) (in_each (omega arith))
+          (omega arith) k₀.row f l,
+    ) in
     record {
       rep = (
         parent,
         add_rep text t t₄ n p s cell (
           own,
           tt,
-          no_block (word t₄ n block_word) no_spots
-              (fresh block_word (omega arith) (λ e. omega arith) (λ e. omega arith) (λ e. omega arith)),
+          no_block (word t₄ n block_word) no_spots (fresh block_word (omega arith) (λ e _. omega arith)),
         ) 0 p ks h.good.2 h.rep.1
-            (λ e. let y = last_of 0 ks e in let y' = last_below (last_from 0 ks) y in
-            word_other t₃ n name_word nm (last_from 0 ks) next_word (λ a _. omega arith) ∙ word_other t₂ n step_word c (last_from 0 ks) next_word
-            (λ a _. omega arith) ∙ word_other t₁ n parent_word p (last_from 0 ks) next_word (λ a _. omega arith) ∙ word_other t₀ p last_word n
-            (last_from 0 ks) next_word (λ _ a. omega arith) ∙ k₀.link e)
+            (λ e. let y = last_below (last_from 0 ks) (last_of 0 ks e) in
+            behind (last_from 0 ks) next_word (λ a _ _. omega arith) ∙ word_other t₀ p last_word n (last_from 0 ks) next_word (λ _ a. omega arith) ∙ k₀.link e)
             (λ q f l e d. let y = last_below q e in
-            all q f l (λ a _. omega arith) (λ a _. omega arith) (λ a _. omega arith) (λ a _. not_both (within_in q ks) e (rw a h.good.1))
-            (λ a _. not_both (within_in q ks) e (rw a h.good.1)) (λ _ a c. d a c)),
-        same_block t t₄ p (add_s s n ks)
-            (all p block_word (omega arith) (λ a _. omega arith) (λ a _. omega arith) (λ a _. omega arith) (λ _ a. omega arith) (λ _ a. omega arith)
-            (λ _ _ a. omega arith)) (block_add (word t p block_word) s n ks h.rep.2),
+            all q f l (λ a _ _. omega arith) (λ a _ _. not_both (within_in q ks) e (rw a h.good.1)) (λ _ a c. d a c)),
+        same_block t t₄ p (add_s s n ks) (all p block_word (omega arith) (λ a _ _. omega arith) (λ _ _ a. omega arith) (λ _ _ a. omega arith))
+            (block_add (word t p block_word) s n ks h.rep.2),
       );
       good = (omega arith, has_add_old p s n ks pn ∙ h.good.1, add_good n p s ks pn far h.good.2);
       size = z₄;
-      words = λ q f l j d e. all q f j (λ a _. omega arith) (λ a _. omega arith) (λ a _. omega arith) (λ a c. let y = d a in omega arith) (λ a c. let y = d a in omega arith) e;
-      root = fresh root_word (omega arith) (λ e. omega arith) (λ e. omega arith) (λ e. omega arith);
-      left = fresh left_word (omega arith) (λ e. omega arith) (λ e. omega arith) (λ e. omega arith);
-      right = fresh right_word (omega arith) (λ e. omega arith) (λ e. omega arith) (λ e. omega arith);
+      words = λ q f l j d e. all q f j (λ a _ _. omega arith) (λ a _ c. let y = d a in omega arith) e;
+      root = fresh root_word (omega arith) (λ e _. omega arith);
+      left = fresh left_word (omega arith) (λ e _. omega arith);
+      right = fresh right_word (omega arith) (λ e _. omega arith);
       step = cell.row 2 (omega arith);
-      zeros = λ q f l v j. all q f j (λ d _. omega arith) (λ d _. omega arith) (λ d _. omega arith) (λ d _. omega arith) (λ d _. omega arith)
-          (λ e d _. let y = last_below q e in omega arith) ∙ h.zeros q f (omega arith) v j;
+      zeros = λ q f l v j. all q f j (λ d _ _. omega arith) (λ d _ _. omega arith) (λ e d _. let y = last_below q e in omega arith) ∙ h.zeros q f (omega arith) v j;
     }

@@ -1,7 +1,7 @@
 -- A new child in the search tree of its place, or in its block, or with no number; and the search for a numbered child.
-use Rattle.std.specs.Prelude.{◌≡◌, List, Bool, true, false, ◌||◌, ℕ, suc, ◌+◌, ◌*◌, ◌<◌, ◌≤◌, length, eqb, ltb}
+use Rattle.std.specs.Prelude.{◌≡◌, List, Bool, true, false, ◌||◌, ℕ, suc, ◌+◌, ◌*◌, ◌<◌, ◌≤◌, length, eqb}
 use Rattle.std.proofs.Math.Path.{refl}
-use Rattle.std.proofs.Common.{ap, sym, subst, ◌∙◌, arith, eqb-true, eq-eqb, lt-ltb, ltb-true, ltb-false}
+use Rattle.std.proofs.Common.{sym, subst, ◌∙◌, arith, eqb-true, eq-eqb, lt-ltb, ltb-true, ltb-false}
 use Rattle.std.proofs.Math.Bool.{or-false, or_assoc}
 use Rattle.std.proofs.lemmas.Bool.{false≢true, eqb-false}
 use Rattle.logic.specs.Test.{when◌then◌else◌}
@@ -16,34 +16,27 @@ use Rattle.equality.specs.laws.Base.{same_true, or_cases}
 use Rattle.shapes.specs.declared.Step as Flat
 use Rattle.shapes.specs.Steps.{field_code, code_of, name_of}
 use Rattle.search.specs.Tree.{Slot}
-use Rattle.places.specs.Layout.{kind_word, root_word, block_word, left_word, next_word, step_word, right_word, tag_word, position_word}
+use Rattle.places.specs.Layout.{kind_word, root_word, block_word, left_word, step_word, right_word, tag_word, position_word}
 use Rattle.search.specs.Tree.{is_numbered, follow, slot, seek}
 use Rattle.growth.specs.Growth.{appended, position_in, tagged, entered}
 use Rattle.refine.specs.laws.numbered.Tree.{Spot, spot, Spots, no_spots, child, num, steps_s, spot_at, add_s}
-use Rattle.refine.specs.laws.reading.Steps.{near, near_codes, near_number, step_code_of, Stands}
-use Rattle.refine.specs.laws.numbered.Numbers.{last_from, within, within_in, near_in, GoodIn, or_left, or_right, not_both, bounded, bounded_in, self, child_good, has_add_old, add_found}
+use Rattle.refine.specs.laws.reading.Steps.{near_codes, near_number, step_code_of, Stands}
+use Rattle.refine.specs.laws.numbered.Numbers.{last_from, within_in, near_in, GoodIn, or_left, or_right, not_both, bounded, bounded_in, self, child_good, has_add_old, add_found}
 use Rattle.refine.specs.laws.words.SearchTree.{num_in, Links, at_root, at_left, at_right, Apart, Index, same_follow, null_follow, in_tree, end_known, end_link, end_child, seek_other, seek_same, index_none, indexes_frame_in, add_nums, indexes_add}
 use Rattle.refine.specs.laws.words.Places.{Block, RepIn, same_block, frame_in, Fits, After}
 use Rattle.refine.proofs.words.Child.{far_has, Sought, absent, picked, still_at, Grown, append_grown}
+use Rattle.std.proofs.lemmas.Grind.{common_steps}
 
 -- ---- links
 -- a link that stands in the table
 full_follow : (t : List ℕ) (q f n v : ℕ) → word t q f ≡ v → q < v → v < n → follow q f n t ≡ v
 unfolding follow when◌then◌else◌
-full_follow t q f n v e l i = rw (e, lt-ltb q v l, lt-ltb v n i)
+full_follow t q f n v e l i = grind (arith, common_steps)
 
 -- links to places below n are those that a search with n places follows
 narrow_follow : (t : List ℕ) (q f n m : ℕ) → n ≤ m → ((follow q f m t ≡ 0 → ⊥) → follow q f m t < n) → follow q f n t ≡ follow q f m t
 unfolding follow when◌then◌else◌
-narrow_follow t q f n m l k =
-    let w : ℕ = word t q f in
-    cases (ltb q w)
-    (λ a. cases (ltb w n)
-    (λ b. rw (a, b, lt-ltb w m (let i = ltb-true w n b in omega arith)) refl)
-    (λ b. cases (ltb w m)
-    (λ c. let k' : (w ≡ 0 → ⊥) → w < n = rw (a, c) at k in absurd (false≢true (sym b ∙ lt-ltb w n (k' (λ z. let i = ltb-true q w a in omega arith)))))
-    (λ c. rw (a, b, c) refl)))
-    (λ a. rw a refl)
+narrow_follow t q f n m l k = grind (arith, common_steps)
 
 module _ (n p : ℕ) (ks : Spots) (pn : p < n) (g : GoodIn n p ks) where
   links_below : (q f : ℕ) → Links p ks q f → q < n
@@ -57,6 +50,12 @@ links_word F a b c p ks q f at_root = a
 links_word F a b c p ks q f (at_left _ e) = b
 links_word F a b c p ks q f (at_right _ e) = c
 
+-- so a link is none of a place's other words, nor of those of a child's cell
+is_link : {p : ℕ} {ks : Spots} {q f : ℕ} → Links p ks q f → (root_word ≤ f) × (f ≤ right_word) × (f ≡ block_word → ⊥)
+is_link l =
+    links_word (λ f. (root_word ≤ f) × (f ≤ right_word) × (f ≡ block_word → ⊥)) (omega arith, omega arith, λ e. omega arith)
+    (omega arith, omega arith, λ e. omega arith) (omega arith, omega arith, λ e. omega arith) _ _ _ _ l
+
 -- ---- the steps and numbers of children, one of them new
 has_added : (r s : Step) (n : ℕ) (ks : Spots) → has r (steps_s (add_s s n ks)) ≡ (has r (steps_s ks) || same r s)
 unfolding add_s has steps_s
@@ -66,27 +65,23 @@ has_added r s n (child q h m u ks) = rw (has_added r s n ks) (sym (or_assoc (sam
 last_num : (c q : ℕ) (ks : Spots) → within_in q ks ≡ true → num_in (last_from c ks) ks ≡ true
 last_num c q no_spots e = absurd (false≢true e)
 last_num c q (child r h m u no_spots) e = rw (eq-eqb (num u) (num u) refl) refl
-last_num c q (child r h m u (child r' h' m' u' ks)) e = or_right (eqb (last_from (num u') ks) (num u)) _
-    (last_num (num u) (num u') (child r' h' m' u' ks) (or_left (within (num u') u') (within_in (num u') ks) (self u')))
+last_num c q (child r h m u (child r' h' m' u' ks)) e = grind (arith, common_steps, last_num (num u) (num u') (child r' h' m' u' ks), self u')
 
 -- ---- the search for a child that is not there
 near_in_lem : (text t : List ℕ) (p c : ℕ) (s : Step) (ks : Spots) → RepIn text t p ks → num_in c ks ≡ true → word t c step_word ≡ step_code_of s → field_code < step_code_of s → near_in s ks ≡ true
 unfolding near_in
 near_in_lem text t p c s no_spots r e w l = absurd (false≢true e)
-near_in_lem text t p c s (child q h m u ks) r e w l =
-    or_cases (eqb c (num u)) (num_in c ks) e
-    (λ a. let d : c ≡ num u = eqb-true c (num u) a in let v : word t (num u) step_word ≡ step_code_of q = r.0.row 2 (omega arith) in
-    or_left (near s q) (near_in s ks) (near_number s q (sym (rw d at w) ∙ v) l))
-    (λ a. or_right (near s q) (near_in s ks) (near_in_lem text t p c s ks r.2 a w l))
+near_in_lem text t p c s (child q h m u ks) r e w l = grind (arith, common_steps, r.0.row 2, near_number s q, near_in_lem text t p c s ks r.2)
 
 seek_far : (text t : List ℕ) (p : ℕ) (ks : Spots) → Index t p ks → RepIn text t p ks → (s : Step) → near_in s ks ≡ false → field_code < step_code_of s → (seek p (step_code_of s) place_limit t).child ≡ 0
 seek_far text t p ks x r s far l =
-    let c : ℕ = (seek p (step_code_of s) place_limit t).child in
-    cases (eqb c 0) (λ e. eqb-true c 0 e) λ e.
-    let z : c ≡ 0 → ⊥ = eqb-false c 0 e in
-    let k = end_known place_limit t t p ks x.leads (λ q f _ _. refl) (λ q _. refl) (step_code_of s) x.here in
-    let i = end_child place_limit t t p ks x.leads (λ q f _ _. refl) (λ q _. refl) (step_code_of s) x.here z in
-    absurd (not_both (near_in s ks) (near_in_lem text t p c s ks r i (k.at z) l) far)
+    grind (
+      arith,
+      x.here,
+      end_known place_limit t t p ks x.leads (λ q f _ _. refl) (λ q _. refl) (step_code_of s),
+      end_child place_limit t t p ks x.leads (λ q f _ _. refl) (λ q _. refl) (step_code_of s),
+      near_in_lem text t p (seek p (step_code_of s) place_limit t).child s ks r,
+    )
 
 -- ---- the search tree with a new child
 module _ (t t' : List ℕ) (p : ℕ) (s : Step) (n : ℕ) (ks : Spots) (x : Index t p ks)
@@ -95,9 +90,13 @@ module _ (t t' : List ℕ) (p : ℕ) (s : Step) (n : ℕ) (ks : Spots) (x : Inde
   -- those that were found are found
   still_found : (code : ℕ) → ((seek p code place_limit t).child ≡ 0 → ⊥) → seek p code place_limit t' ≡ seek p code place_limit t
   still_found code z =
-      let k = end_known place_limit t t' p ks x.leads nexts steps code x.here in
-      let l = end_link place_limit t t' p ks x.leads nexts steps code x.here in
-      seek_same place_limit t t' p ks x.leads nexts steps code x.here (nexts _ _ l (rw k.leads at z) ∙ sym k.leads)
+      grind (
+        arith,
+        nexts,
+        end_known place_limit t t' p ks x.leads nexts steps code x.here,
+        end_link place_limit t t' p ks x.leads nexts steps code x.here,
+        seek_same place_limit t t' p ks x.leads nexts steps code x.here,
+      )
 
   pub index_add : ((q f : ℕ) → Links p ks q f → (follow q f place_limit t' ≡ 0 → ⊥) → num_in (follow q f place_limit t') (add_s s n ks) ≡ true)
       → follow n left_word place_limit t' ≡ 0 → follow n right_word place_limit t' ≡ 0
@@ -108,9 +107,8 @@ module _ (t t' : List ℕ) (p : ℕ) (s : Step) (n : ℕ) (ks : Spots) (x : Inde
     here = x.here;
     leads = go;
     found = λ r e b. or_cases (has r (steps_s ks)) (same r s) (sym (has_added r s n ks) ∙ e)
-        (λ a. let i = x.found r a (apart (step_code_of r) b) in
-        ap (λ (y : Slot). y.child) (still_found (step_code_of r) (λ z. known r a (sym i ∙ z))) ∙ i ∙ sym (ap num (still_at r s n ks a)))
-        (λ a. let d : r ≡ s = same_true r s a in let b' : Apart (word t' p block_word) (step_code_of s) = rw d at b in rw d (new b' ∙ sym (ap num (add_found s n ks free))));
+        (λ a. grind (arith, x.found r a (apart (step_code_of r) b), still_found (step_code_of r), known r a, still_at r s n ks a))
+        (λ a. let d : r ≡ s = same_true r s a in let b' : Apart (word t' p block_word) (step_code_of s) = rw d at b in grind (arith, new b', add_found s n ks free));
   }
     where
       go : (q f : ℕ) → Links p (add_s s n ks) q f → (follow q f place_limit t' ≡ 0 → ⊥) → num_in (follow q f place_limit t') (add_s s n ks) ≡ true
@@ -131,10 +129,7 @@ module _ (text t : List ℕ) (n p : ℕ) (b : Bool) (k m : ℕ) (ks : Spots) (h 
 
   -- the words that the search tree reads are as they were
   kept : (q f : ℕ) → Links p ks q f → word t₄ q f ≡ word t q f
-  kept q f l =
-      grown.words q f (links_below n p ks h.good.0 h.good.2 q f l) (links_word (λ f. f < place_words) (omega arith) (omega arith) (omega arith) p ks q f l)
-      (λ _. links_word (λ f. root_word ≤ f) (omega arith) (omega arith) (omega arith) p ks q f l)
-      (λ _ _. links_word (λ f. f ≡ next_word → ⊥) (λ e. omega arith) (λ e. omega arith) (λ e. omega arith) p ks q f l)
+  kept q f l = let w = is_link l in grown.words q f (links_below n p ks h.good.0 h.good.2 q f l) (omega arith) (λ _. w.0) (λ _ _ e. omega arith)
 
   kept_step : (q : ℕ) → num_in q ks ≡ true → word t₄ q step_word ≡ word t q step_word
   kept_step q e = grown.words q step_word (below q e) (omega arith) (λ d. absurd (not_place q e d)) (λ _ _ d. omega arith)
@@ -188,9 +183,7 @@ module _ (text t : List ℕ) (n p : ℕ) (b : Bool) (k m : ℕ) (ks : Spots) (h 
       → ((code : ℕ) → Apart (word t₅ p block_word) code → Apart (word t p block_word) code) → (Apart (word t₅ p block_word) (step_code_of s) → ⊥) → Index t₅ p (add_s s n ks)
   index_beside t₅ w apart none =
       let follows : (q f : ℕ) → Links p ks q f → follow q f place_limit t₅ ≡ follow q f place_limit t
-      = λ q f l. same_follow t t₅ q f place_limit
-      (w q f (links_word (λ f. f < place_words) (omega arith) (omega arith) (omega arith) p ks q f l)
-      (λ _. links_word (λ f. f ≡ block_word → ⊥) (λ e. omega arith) (λ e. omega arith) (λ e. omega arith) p ks q f l) ∙ kept q f l) in
+      = λ q f l. let i = is_link l in same_follow t t₅ q f place_limit (w q f (omega arith) (λ _. i.2) ∙ kept q f l) in
       index_add t t₅ p s n ks h.index.0 (λ q f l _. follows q f l) (λ q e. w q step_word (omega arith) (λ _ d. omega arith) ∙ kept_step q e)
       (λ q f l z. let e = follows q f l in
       add_nums (follow q f place_limit t₅) s n ks ∙ or_left (num_in (follow q f place_limit t₅) ks) _ (rw e (h.index.0.leads q f l (rw e at z))))
@@ -216,7 +209,7 @@ module _ (text t : List ℕ) (n p : ℕ) (b : Bool) (k m : ℕ) (ks : Spots) (h 
     place_below = links_below n p ks h.good.0 h.good.2 end.place end.field end_at
 
     field_small : end.field < place_words
-    field_small = links_word (λ f. f < place_words) (omega arith) (omega arith) (omega arith) p ks end.place end.field end_at
+    field_small = let w = is_link end_at in omega arith
 
     follow_kept : (q f : ℕ) → Links p ks q f → follow q f place_limit t₄ ≡ follow q f place_limit t
     follow_kept q f l = same_follow t t₄ q f place_limit (kept q f l)
@@ -228,8 +221,7 @@ module _ (text t : List ℕ) (n p : ℕ) (b : Bool) (k m : ℕ) (ks : Spots) (h 
         seek_other n t t₄ p ks h.index.0.leads
         (λ q f l z. let d = follow_kept q f l in narrow_follow t₄ q f n place_limit (omega arith) (λ _. rw d (below (follow q f place_limit t) (h.index.0.leads q f l z))) ∙ d)
         kept_step (step_code_of s) h.index.0.here 0
-        (narrow_follow t₄ end.place end.field n place_limit (omega arith) (λ z. absurd (z e)) ∙ e)
-        (λ z. absurd (z refl))
+        (narrow_follow t₄ end.place end.field n place_limit (omega arith) (λ z. absurd (z e)) ∙ e) (λ z. absurd (z refl))
 
     abbrev t₅ : List ℕ
     t₅ = with_word t₄ end.place end.field n
@@ -255,22 +247,21 @@ module _ (text t : List ℕ) (n p : ℕ) (b : Bool) (k m : ℕ) (ks : Spots) (h 
 
     nexts : (q f : ℕ) → Links p ks q f → (follow q f place_limit t ≡ 0 → ⊥) → follow q f place_limit t₅ ≡ follow q f place_limit t
     nexts q f l z =
-        same_follow t₄ t₅ q f place_limit (elsewhere q f (links_word (λ f. f < place_words) (omega arith) (omega arith) (omega arith) p ks q f l) (λ y e. z (rw (y, e) null)))
-        ∙ follow_kept q f l
+        let w = is_link l in same_follow t₄ t₅ q f place_limit (elsewhere q f (omega arith) (λ y e. z (rw (y, e) null))) ∙ follow_kept q f l
 
     steps : (q : ℕ) → num_in q ks ≡ true → word t₅ q step_word ≡ word t q step_word
-    steps q e = beside q step_word (omega arith) (λ w l. links_word (λ w. step_word ≡ w → ⊥) (λ d. omega arith) (λ d. omega arith) (λ d. omega arith) p ks q w l) ∙ kept_step q e
+    steps q e = beside q step_word (omega arith) (λ w l d. let i = is_link l in omega arith) ∙ kept_step q e
 
     of_new : (f : ℕ) → f < place_words → word t₅ n f ≡ word t₄ n f
     of_new f l = elsewhere n f l (λ y _. let i : end.place < n = place_below in omega arith)
 
     new_found : (seek p (step_code_of s) place_limit t₅).child ≡ n
     new_found =
-        ap (λ (y : Slot). y.child)
-        (seek_other place_limit t t₅ p ks h.index.0.leads nexts steps (step_code_of s) h.index.0.here n leads_new (λ _. of_new step_word (omega arith) ∙ grown.step))
+        let found = seek_other place_limit t t₅ p ks h.index.0.leads nexts steps (step_code_of s) h.index.0.here n leads_new (λ _. of_new step_word (omega arith) ∙ grown.step) in
+        rw found refl
 
     block_same : word t₅ p block_word ≡ word t p block_word
-    block_same = beside p block_word (omega arith) (λ w l. links_word (λ w. block_word ≡ w → ⊥) (λ d. omega arith) (λ d. omega arith) (λ d. omega arith) p ks p w l) ∙ kept_block
+    block_same = beside p block_word (omega arith) (λ w l d. let i = is_link l in omega arith) ∙ kept_block
 
     index_entered : Index t₅ p (add_s s n ks)
     index_entered =
@@ -279,9 +270,9 @@ module _ (text t : List ℕ) (n p : ℕ) (b : Bool) (k m : ℕ) (ks : Spots) (h 
         (λ e. add_nums (follow q f place_limit t₅) s n ks ∙ or_right (num_in (follow q f place_limit t₅) ks) _ e)
         (λ e. let d : follow q f place_limit t₅ ≡ follow q f place_limit t
         = same_follow t₄ t₅ q f place_limit
-        (elsewhere q f (links_word (λ f. f < place_words) (omega arith) (omega arith) (omega arith) p ks q f l)
+        (elsewhere q f (let w = is_link l in omega arith)
         (λ x y. eqb-false (follow q f place_limit t₅) n e (rw (x, y) leads_new))) ∙ follow_kept q f l in
-        add_nums (follow q f place_limit t₅) s n ks ∙ or_left (num_in (follow q f place_limit t₅) ks) _ (rw d (h.index.0.leads q f l (rw d at z)))))
+        grind (arith, add_nums (follow q f place_limit t₅) s n ks, h.index.0.leads q f l (rw d at z))))
         (null_follow t₅ n left_word place_limit (of_new left_word (omega arith) ∙ grown.left))
         (null_follow t₅ n right_word place_limit (of_new right_word (omega arith) ∙ grown.right))
         (λ code a. rw block_same at a) (λ _. new_found) known (far_has s ks far)

@@ -23,10 +23,10 @@ use Rattle.model.specs.Kinds.{sequence_kind, map_kind, tuple_kind, Step, element
 use Rattle.model.specs.Tracing.{place_limit, has, made, positions_from, Counted, counted}
 use Rattle.shapes.specs.declared.Step as Flat
 use Rattle.shapes.specs.declared.Step.TheVariants as S
-use Rattle.shapes.specs.Steps.{code_of, no_name, packed_name}
+use Rattle.shapes.specs.Steps.{code_of, no_name}
 use Rattle.growth.specs.laws.Growth.{lengthened_aside}
-use Rattle.growth.specs.Growth.{positions_from as positionsOf, made as madeFlat, lengthened, described, appended, Ensuring, Making, making, of_ensuring, made_one, then_made, made_all, appended_from, positions_made}
-use Rattle.places.specs.Layout.{first_word, block_word, parent_word, step_word, name_word}
+use Rattle.growth.specs.Growth.{positions_from as positionsOf, made as madeFlat, described, appended, Ensuring, Making, making, of_ensuring, made_one, then_made, made_all, appended_from, positions_made}
+use Rattle.places.specs.Layout.{first_word, block_word}
 use Rattle.refine.specs.laws.numbered.Tree.{Spot, spot, Spots, no_spots, child, num, steps_s, spot_at, add_s, make_s, make_all_s}
 use Rattle.refine.specs.laws.reading.Steps.{near, Stands}
 use Rattle.refine.specs.laws.numbered.Numbers.{first_of, near_in, near_add, add_among, add_found}
@@ -35,6 +35,7 @@ use Rattle.refine.proofs.words.Child.{far_has, far_clashes, still_has, still_at,
 use Rattle.refine.proofs.words.Entered.{block_after}
 use Rattle.refine.proofs.words.Part.{Ensures, there, no_place, ensure_is}
 use Rattle.refine.specs.laws.reading.Commands.{choices, element_stands, key_stands, value_stands, position_stands}
+use Rattle.std.proofs.lemmas.Grind.{common_steps}
 
 -- ---- the places that a container makes at once
 abbrev AllStand : List ℕ → List Flat.Step → List Step → Type 0
@@ -54,8 +55,7 @@ pub data EnsuresAll (text : List ℕ) (p : ℕ) (b : Bool) (k m : ℕ) (ks : Spo
 module _ (text : List ℕ) (p : ℕ) (b : Bool) (k m at : ℕ) where
   all_after : {t t₁ : List ℕ} {n n₁ : ℕ} {ks ks₁ : Spots} {x : Result (Counted Spots)} {y : Making} →
       After text t n (spot p b k m ks) t₁ n₁ (spot p b k m ks₁) → EnsuresAll text p b k m ks₁ t₁ n₁ at x y → EnsuresAll text p b k m ks t n at x y
-  all_after {t = t} {t₁ = t₁} {n = n} {n₁ = n₁} {ks = ks} {ks₁ = ks₁} a (all_there {n' = n'} {ks' = ks'} {t' = t'} c) =
-      all_there (and_then text t t₁ t' n n₁ n' (spot p b k m ks) (spot p b k m ks₁) (spot p b k m ks') a c)
+  all_after a (all_there c) = all_there (and_then _ _ _ _ _ _ _ _ _ _ a c)
   all_after a not_all = not_all
 
   ensure_all : (xs : List Flat.Step) (ss : List Step) → AllStand text xs ss → (t : List ℕ) (n : ℕ) (ks : Spots) → Fits text t n (spot p b k m ks) →
@@ -94,9 +94,7 @@ unfolding add_s
 one_more c i n ks a = record {
   next = let e : n ≡ c + i = a.next in omega arith;
   none = λ z. absurd (omega arith);
-  first = λ _. cases (eqb i 0)
-      (λ e. let d : i ≡ 0 = eqb-true i 0 e in let f : n ≡ c + i = a.next in rw (a.none d) (omega arith))
-      (λ e. let d = eqb-false i 0 e in still_first (position 0) (position i) n ks (a.there 0 (omega arith)).0 ∙ a.first d);
+  first = λ _. grind (arith, a.next, a.none, a.first, a.there 0, still_first (position 0) (position i) n ks, add_s);
   there = λ j l. cases (eqb j i)
       (λ e. let d : j ≡ i = eqb-true j i e in rw d (add_among (position i) n ks, ap num (add_found (position i) n ks (far_has (position i) ks (a.free i (le_refl i)))) ∙ a.next))
       (λ e. let d = eqb-false j i e in let x = a.there j (omega arith) in (still_has (position j) (position i) n ks x.0, ap num (still_at (position j) (position i) n ks x.0) ∙ x.1));
@@ -114,16 +112,7 @@ module _ (p v : ℕ) where
 
   appended_block : (code n : ℕ) (name : Name) (t : List ℕ) → appended p code name n (with_word t p block_word v) ≡ with_word (appended p code name n t) p block_word v
   unfolding appended described
-  appended_block code n name t =
-      let t₁ : List ℕ = lengthened p n t in
-      let t₂ : List ℕ = with_word t₁ n parent_word p in
-      let t₃ : List ℕ = with_word t₂ n step_word code in
-      rw (
-        lengthened_aside p block_word v refl p n t,
-        swap t₁ n parent_word p (λ d. omega arith),
-        swap t₂ n step_word code (λ d. omega arith),
-        swap t₃ n name_word (packed_name name) (λ d. omega arith),
-      ) refl
+  appended_block code n name t = grind (arith, common_steps, lengthened_aside p block_word v refl p n t, swap)
 
 module _ (text : List ℕ) (p : ℕ) (b : Bool) (k m at c last : ℕ) where
   -- both append the positions up to the last, or both are refused (11); the block is stored at the end, and is told here as if it were at each of them
@@ -136,8 +125,7 @@ module _ (text : List ℕ) (p : ℕ) (b : Bool) (k m at c last : ℕ) where
   appends_after : {i i₁ : ℕ} {t t₁ : List ℕ} {n n₁ : ℕ} {ks ks₁ : Spots} {x : Result (Counted Spots)} {y : Making} →
       After text (with_word t p block_word i) n (spot p b k m ks) (with_word t₁ p block_word i₁) n₁ (spot p b k m ks₁) → Appends i₁ t₁ n₁ ks₁ x y →
       Appends i t n ks x y
-  appends_after {i = i} {i₁ = i₁} {t = t} {t₁ = t₁} {n = n} {n₁ = n₁} {ks = ks} {ks₁ = ks₁} a (appends {n' = n'} {ks' = ks'} {t' = t'} d) =
-      appends (and_then text (with_word t p block_word i) (with_word t₁ p block_word i₁) (with_word t' p block_word last) n n₁ n' (spot p b k m ks) (spot p b k m ks₁) (spot p b k m ks') a d)
+  appends_after a (appends d) = appends (and_then _ _ _ _ _ _ _ _ _ _ a d)
   appends_after a no_room = no_room
 
   append_all : (left i : ℕ) (t : List ℕ) (n : ℕ) (ks : Spots) → i + left ≡ last → Fits text (with_word t p block_word i) n (spot p b k m ks) →

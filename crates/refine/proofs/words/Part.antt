@@ -1,11 +1,11 @@
 -- A part: its child is ensured and touched, its value is read there, and the parent stands as it should.
 use Rattle.std.specs.Prelude.{◌≡◌, List, [], ◌∷◌, Bool, ◌||◌, ℕ, ◌+◌, ◌*◌, ◌%◌, ◌<◌, ◌≤◌, length, ltb, Ok, Err}
 use Rattle.std.proofs.Math.Path.{refl, ap, sym, subst}
-use Rattle.std.proofs.Common.{◌∙◌, true≢false, arith}
+use Rattle.std.proofs.Common.{◌∙◌, arith}
 use Rattle.std.proofs.Math.Bool.{true, false}
 use Rattle.std.proofs.lemmas.Bool.{false≢true}
 use Rattle.std.proofs.Math.Dec.{eqb}
-use borrow.Author.Tests.{eqb-true, eqb-false, ne_eqb, lt-ltb, ltb-true, ltb-false, lt-leb, le-leb}
+use borrow.Author.Tests.{eqb-true, eqb-false, ne_eqb, ltb-true, ltb-false, lt-leb, le-leb}
 use Rattle.logic.specs.Test.{when◌then◌else◌}
 use Rattle.logic.specs.laws.Test.{cases, both}
 use Rattle.refusal.specs.declared.Refusal.{Refusal}
@@ -29,6 +29,7 @@ use Rattle.refine.specs.laws.words.SearchTree.{num_in, in_tree, index_kept, inde
 use Rattle.refine.specs.laws.reading.Commands.{position_stands}
 use Rattle.refine.proofs.words.Child.{far_has, far_clashes, Sought, absent, present, another, sought}
 use Rattle.refine.proofs.words.Entered.{make_after, numbered_sought}
+use Rattle.std.proofs.lemmas.Grind.{common_steps}
 
 -- ---- a child for a step
 pub data Ensures (text : List ℕ) (s : Step) (p : ℕ) (b : Bool) (k m : ℕ) (ks : Spots) (t : List ℕ) (n at : ℕ) : Result (Counted Spots) → Ensuring → Type 0 where
@@ -78,15 +79,8 @@ module _ (text t : List ℕ) (n p : ℕ) (b : Bool) (k m : ℕ) (ks : Spots) (h 
   past_block : (i : ℕ) → in_block p i n t ≡ false → word t p block_word ≤ i
   unfolding in_block
   past_block i e =
-      cases (ltb i (word t p block_word))
-      (λ a.
-      let d = h.rep.2 i (ltb-true i (word t p block_word) a) in
-      let f : word t p first_word ≡ first_of ks = h.rep.0 3 (omega arith) in
       let u : Spot = spot_at (position i) ks in
-      let l : num u < n = bounded n (num u) u (child_good n p (position i) ks h.good.2 d.0).0 (self u) in
-      let l' : word t p first_word + i < n = omega (arith, d.1) in
-      absurd (true≢false (rw (a, lt-ltb (word t p first_word + i) n l') at e)))
-      (λ a. ltb-false i (word t p block_word) a)
+      grind (arith, h.rep.2 i, h.rep.0 3, bounded n (num u) u, child_good n p (position i) ks h.good.2, self u)
 
   child_sought : (x : Flat.Step) (s : Step) → Stands text x s → Sought text t s ks (child_at text p x n t)
   unfolding child_at when◌then◌else◌
@@ -132,14 +126,11 @@ touch_row t c N x p r nm h m l i w =
 
 touch_other : (t : List ℕ) (c N q f : ℕ) → f < place_words → (q ≡ c → (f ≡ held_word → ⊥) × (f ≡ mark_word → ⊥)) → word (touch c N t) q f ≡ word t q f
 unfolding touch when◌then◌else◌
-touch_other t c N q f l d =
-    cases (eqb (word t c mark_word) N)
-    (λ e. rw e refl)
-    (λ e. rw e (word_other (with_word t c held_word (onward (word t c held_word))) c mark_word N q f (λ y. (d y).1) ∙ word_other t c held_word (onward (word t c held_word)) q f (λ y. (d y).0)))
+touch_other t c N q f l d = grind (arith, common_steps, word_other)
 
 touch_size : (t : List ℕ) (c N : ℕ) → length (touch c N t) ≡ length t
 unfolding touch when◌then◌else◌
-touch_size t c N = cases (eqb (word t c mark_word) N) (λ e. rw e refl) (λ e. rw (e, length_with, length_with) refl)
+touch_size t c N = grind (arith, common_steps, length_with)
 
 child_rep : (text t : List ℕ) (p : ℕ) (s : Step) (ks : Spots) → RepIn text t p ks → has s (steps_s ks) ≡ true → Rep text t (spot_at s ks)
 unfolding has steps_s spot_at when◌then◌else◌
@@ -150,23 +141,17 @@ module _ (s : Step) (N : ℕ) (v : Spot) where
   put_first : (ks : Spots) → has s (steps_s ks) ≡ true → num v ≡ num (spot_at s ks) → first_of (put_s s N v ks) ≡ first_of ks
   unfolding has steps_s spot_at put_s when◌then◌else◌
   put_first no_spots e w = refl
-  put_first (child q h m u ks) e w = cases (same s q) (λ d. let w' : num v ≡ num u = rw d at w in rw d w') (λ d. rw d refl)
+  put_first (child q h m u ks) e w = grind (arith, common_steps)
 
   put_last : (c : ℕ) (ks : Spots) → has s (steps_s ks) ≡ true → num v ≡ num (spot_at s ks) → last_from c (put_s s N v ks) ≡ last_from c ks
   unfolding has steps_s spot_at put_s when◌then◌else◌
   put_last c no_spots e w = refl
-  put_last c (child q h m u ks) e w =
-      cases (same s q)
-      (λ d. let w' : num v ≡ num u = rw d at w in rw d (ap (λ (x : ℕ). last_from x ks) w'))
-      (λ d. let e' : has s (steps_s ks) ≡ true = rw d at e in let w' : num v ≡ num (spot_at s ks) = rw d at w in rw d (put_last (num u) ks e' w'))
+  put_last c (child q h m u ks) e w = grind (arith, common_steps, put_last (num u) ks)
 
   put_at : (r : Step) (ks : Spots) → num v ≡ num (spot_at s ks) → num (spot_at r (put_s s N v ks)) ≡ num (spot_at r ks)
   unfolding spot_at put_s when◌then◌else◌
   put_at r no_spots w = refl
-  put_at r (child q h m u ks) w =
-      cases (same s q)
-      (λ d. let w' : num v ≡ num u = rw d at w in rw d (cases (same r q) (λ a. rw a w') (λ a. rw a refl)))
-      (λ d. let w' : num v ≡ num (spot_at s ks) = rw d at w in rw d (cases (same r q) (λ a. rw a refl) (λ a. rw a (put_at r ks w'))))
+  put_at r (child q h m u ks) w = grind (arith, common_steps, put_at r ks)
 
   put_steps : (ks : Spots) → steps_s (put_s s N v ks) ≡ steps_s ks
   unfolding steps_s put_s when◌then◌else◌
@@ -222,18 +207,18 @@ module _ (text t : List ℕ) (n p : ℕ) (s : Step) (b : Bool) (k m : ℕ) (ks :
       let u : Spot = spot_at s ks in
       let g : Good n u = (child_good n p s ks h.good.2 e).0 in
       let i : num u < n = child_below in
+      let t' : List ℕ = touch (num u) m t in
+      let own : (f : ℕ) → f < left_word → word t' (num u) f ≡ word t (num u) f
+      = λ f l. touch_other t (num u) m (num u) f (omega arith) (λ _. ((λ e. omega arith), (λ e. omega arith))) in
+      let deep : (q f : ℕ) → f < place_words → within_in q (below_s u) ≡ true → word t' q f ≡ word t q f
+      = λ q f l a. touch_other t (num u) m q f l (λ d. absurd (not_both (within_in q (below_s u)) a (rw d (not_below n u g)))) in
       record {
-        rep = frame text t (touch (num u) m t) u (child_rep text t p s ks h.rep.1 e)
-            (λ f l. touch_other t (num u) m (num u) f (omega arith) (λ _. ((λ e. omega arith), (λ e. omega arith))))
-            (λ q f l a. touch_other t (num u) m q f l.0 (λ d. absurd (not_both (within_in q (below_s u)) a (rw d (not_below n u g)))));
+        rep = frame text t t' u (child_rep text t p s ks h.rep.1 e) own (λ q f l a. deep q f l.0 a);
         good = g;
         room = rw touch_size h.room;
         most = h.most;
         zeros = λ q f l y j. touch_other t (num u) m q f j (λ d. absurd (omega arith)) ∙ h.zeros q f l y j;
-        index = indexes_frame n t (touch (num u) m t) u g
-            (λ f l. touch_other t (num u) m (num u) f (omega arith) (λ _. ((λ e. omega arith), (λ e. omega arith))))
-            (λ q f l a. touch_other t (num u) m q f l (λ d. absurd (not_both (within_in q (below_s u)) a (rw d (not_below n u g)))))
-            (indexes_at t s ks h.index.1 e);
+        index = indexes_frame n t t' u g own deep (indexes_at t s ks h.index.1 e);
       }
 
   pub lift : (t' : List ℕ) (n' : ℕ) (v : Spot) → After text (touch (num (spot_at s ks)) m t) n (spot_at s ks) t' n' v → After text t n (spot p b k m ks) t' n' (spot p b k m (put_s s m v ks))

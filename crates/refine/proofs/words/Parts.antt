@@ -40,8 +40,7 @@ pub data Agrees (text commands t : List ℕ) (n : ℕ) (u : Spot) (at : ℕ) : R
 
 pub agrees_after : {text commands t t₁ : List ℕ} {n n₁ : ℕ} {u u₁ : Spot} {at at₁ : ℕ} {x : Result (Counted Spot)} {y : Out} {o : Option ℕ}
     → After text t n u t₁ n₁ u₁ → at ≤ at₁ → Agrees text commands t₁ n₁ u₁ at₁ x y o → Agrees text commands t n u at x y o
-agrees_after {text = text} {t = t} {t₁ = t₁} {n = n} {n₁ = n₁} {u = u} {u₁ = u₁} d l (went {a = a} {n' = n'} {t' = t'} {u' = u'} g z b) =
-    went {a = a} (omega arith) z (and_then text t t₁ t' n n₁ n' u u₁ u' d b)
+agrees_after d l (went g z b) = went (omega arith) z (and_then _ _ _ _ _ _ _ _ _ _ d b)
 agrees_after d l balked = balked
 
 abbrev pub wrap : ℕ → Bool → ℕ → ℕ → Result (Counted Spots) → Result (Counted Spot)
@@ -87,9 +86,7 @@ module _ (options : ℕ) (commands text : List ℕ) (bytes : Bytes commands) (de
         (wrap p b j m (x >>= λ q. walk_parts options depth m (rest o K).0 q.places (put_s s m q.what ks))) (after F (after_part i y))
         (rest o K).1
     unfolding after
-    after_value t n ks h e (went {a = a₂} {n' = n'} {t' = t'} {u' = v} lt z A) =
-        let B = lift text t n p s b j m ks h e t' n' v A in
-        agrees_after B (omega arith) (ih a₂ n' t' (put_s s m v ks) lt z B.fits)
+    after_value t n ks h e (went lt z A) = let B = lift text t n p s b j m ks h e _ _ _ A in agrees_after B (omega arith) (ih _ _ _ _ lt z B.fits)
     after_value t n ks h e balked = balked
 
     pub after_ensure : (f : ℕ) → a ≤ length commands → Fuel commands c f a → (t : List ℕ) (n : ℕ) (ks : Spots) {x₁ : Result (Counted Spots)} {y : Ensuring} → Ensures text s p b j m ks t n at x₁ y

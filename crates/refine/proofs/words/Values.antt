@@ -77,7 +77,7 @@ sample text t n p b j₀ m ks h j =
     let t₁ : List ℕ = with_word t p kind_word j in
     let A = set_kind text t n p b j₀ m ks h j in
     let w : word t p samples_word ≡ m = h.rep.0 2 (omega arith) in
-    rw w (and_then text t t₁ (with_word t₁ p samples_word (onward m)) n n n (spot p b j₀ m ks) (spot p b j m ks) (spot p b j (onward m) ks) A (set_samples text t₁ n p b j m ks A.fits (onward m)))
+    rw w (and_then _ _ _ _ _ _ _ _ _ _ A (set_samples text t₁ n p b j m ks A.fits (onward m)))
 
 module _ (options : ℕ) (commands text : List ℕ) (bytes : Bytes commands) (depth levels : ℕ) (level : depth_limit - depth ≡ levels) (inner : Readers)
     (reads : (levels ≡ 0 → ⊥) → (down : ℕ) → Reads options commands text (depth + (1 + down)) (inner down)) where
@@ -104,8 +104,7 @@ module _ (options : ℕ) (commands text : List ℕ) (bytes : Bytes commands) (de
       go null (M.Err x) = balked
       go true (M.Ok j) =
           let A = set_kind text t n p b j₀ m ks h j in
-          rw (or-true b) (went y z (and_then text t (with_word t p kind_word j) (with_word (with_word t p kind_word j) p null_word 1) n n n
-          (spot p b j₀ m ks) (spot p b j m ks) (spot p true j m ks) A (set_null text (with_word t p kind_word j) n p b j m ks A.fits)))
+          rw (or-true b) (went y z (and_then _ _ _ _ _ _ _ _ _ _ A (set_null text (with_word t p kind_word j) n p b j m ks A.fits)))
       go false (M.Ok j) = rw (or-false b) (went y z (set_kind text t n p b j₀ m ks h j))
 
   contents_sim : (levels ≡ 0 → ⊥) → (k r f here at n p : ℕ) (b : Bool) (j m : ℕ) (t : List ℕ) (ks : Spots) → at ≤ length commands →
@@ -114,8 +113,8 @@ module _ (options : ℕ) (commands text : List ℕ) (bytes : Bytes commands) (de
       (x >>= λ q. wrap p b j m (walk_parts options depth m (read_parts f options commands text k r 0 at).0 q.places q.what))
       (on_made here (parts_by commands text inner k r p at) y) (read_parts f options commands text k r 0 at).1
   unfolding parts_from
-  contents_sim z k r f here at n p b j m t ks y i (all_there {n' = n'} {ks' = ks'} {t' = t'} a) =
-      agrees_after a (le_refl at) (parts_sim options commands text bytes depth inner (reads z) p b j m k r (length commands + 1) f 0 at n' t' ks' y (omega arith) i a.fits)
+  contents_sim z k r f here at n p b j m t ks y i (all_there a) =
+      agrees_after a (le_refl at) (parts_sim options commands text bytes depth inner (reads z) p b j m k r (length commands + 1) f 0 at _ _ _ y (omega arith) i a.fits)
   contents_sim z k r f here at n p b j m t ks y i not_all = balked
 
   container_sim : (k r f here at n : ℕ) (t : List ℕ) (u : Spot) → is_container k ≡ true → at ≤ length commands → 4 * length commands + 2 ≤ 4 * at + f → Fits text t n u

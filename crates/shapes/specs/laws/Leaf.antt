@@ -47,7 +47,7 @@ module _ (options : ℕ) (commands text : List ℕ) (at : ℕ) (is_null : Bool) 
       let read : read_command commands text at D.Value ≡ Ok (command, behind) = rw b at e in
       let shape : shape_at options text command ≡ H.Leaf is_null kind = rw (null_is, kind_is) at s in
       record { command = command; read = read; shape = shape; below = leaf_below options text command _ refl is_null kind shape }
-  by_shape command next e (H.Parts k n) s h = absurd (other is_null kind behind h)
+  by_shape command next e (H.Parts container) s h = absurd (other is_null kind behind h)
   by_shape command next e (H.Variant number name contents) s h = absurd (other is_null kind behind h)
   by_shape command next e H.NoValue s h = absurd (other is_null kind behind h)
 

@@ -22,6 +22,7 @@ use Rattle.model.specs.Kinds.{sequence_kind, struct_kind, map_kind, tuple_kind, 
 use Rattle.shapes.specs.declared.Step.{Step}
 use Rattle.shapes.specs.declared.Step.TheVariants as S
 use Rattle.shapes.specs.declared.Contents.{Contents}
+use Rattle.shapes.specs.declared.Container.{Container}
 use Rattle.shapes.specs.declared.Shape.{Shape}
 use Rattle.shapes.specs.declared.Shape.TheVariants as H
 use Rattle.shapes.specs.declared.Part.TheVariants as P
@@ -123,7 +124,7 @@ text_below options s =
 -- what is known of the shape of a command: a leaf is of a primitive type, a null of none, parts are those of a container, and a variant has the command's name
 abbrev pub KnownShape : Command → Shape → Type 0
 KnownShape command (H.Leaf is_null type) = (type < sequence_kind) × (is_null ≡ true → type ≡ null)
-KnownShape command (H.Parts kind n) = is_parted kind ≡ true
+KnownShape command (H.Parts container) = is_parted container.kind ≡ true
 KnownShape command (H.Variant number name contents) = L.name_of command ≡ some name
 KnownShape command H.NoValue = Unit {0}
 
@@ -175,5 +176,5 @@ module _ (options : ℕ) (text : List ℕ) (command : Command) (shape : Shape) (
   pub null_untyped : (type : ℕ) → shape ≡ H.Leaf true type → type ≡ null
   null_untyped type h = (rw (sym e ∙ h) at (shape_known options text command)).1 refl
 
-  pub parts_parted : (kind n : ℕ) → shape ≡ H.Parts kind n → is_parted kind ≡ true
-  parts_parted kind n h = rw (sym e ∙ h) at (shape_known options text command)
+  pub parts_parted : (container : Container) → shape ≡ H.Parts container → is_parted container.kind ≡ true
+  parts_parted container h = rw (sym e ∙ h) at (shape_known options text command)

@@ -1,10 +1,12 @@
--- `whole_index`: before the links a word's number is its place in the row, behind them four more than that.
-use borrow.Author.Rules.{rules}
-use Rattle.words.proofs.Index.{index_before, index_behind}
+-- `whole_index`: behind the links a word's number is four more than its place in the row.
+use Rattle.std.proofs.Common.{◌≡◌, false, ℕ, ◌-◌, ◌/◌, ◌≤◌, ltb, le-ltb, le-leb, rules}
+use Rattle.logic.specs.Test.{when◌then◌else◌}
+use Rattle.words.specs.Word.{links_from, links_end, is_link, row_word, plane_index, index_of}
 use Rattle.words.proofs.whole_index.Goals as goal
 
-pub returns-then-field-lt-LINKS_FROM : goal.returns-then-field-lt-LINKS_FROM
-returns-then-field-lt-LINKS_FROM c = (search (index_before, rules), search rules)
+behind : (p f i : ℕ) → links_from ≤ f → is_link f ≡ false → i ≡ plane_index (f - (links_end - links_from) / 2) p → i ≡ index_of p f
+unfolding row_word when◌then◌else◌
+behind p f i l e h = let d : ltb f links_end ≡ false = rw (le-leb links_from f l) at e in rw (le-ltb f links_from l, d) h
 
 pub returns : goal.returns
-returns c = (search (index_behind, rules), search rules)
+returns c = (search (behind, rules), search rules)

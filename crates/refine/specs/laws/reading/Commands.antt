@@ -39,7 +39,7 @@ use Rattle.shapes.specs.declared.Shape as FlatShape
 use Rattle.shapes.specs.declared.Shape.TheVariants as H
 use Rattle.shapes.specs.declared.Part.TheVariants as P
 use Rattle.shapes.specs.Steps.{Inside}
-use Rattle.shapes.specs.Shapes.{PartRead, shape_at, value_part, field_part, part_at}
+use Rattle.shapes.specs.Shapes.{PartRead, parts_of, shape_at, value_part, field_part, part_at}
 use Rattle.leaves.specs.Marks.{some_byte, newtype_byte}
 use Rattle.refine.specs.laws.reading.Steps.{Stands}
 use Rattle.commands.specs.Bytes.{Bytes}
@@ -168,7 +168,7 @@ shape_in N.Fields = parts struct_kind 0
 
 pub data Shapes (text : List ℕ) : FlatShape.Shape → Shape → Type 0 where
   leaves : {b : Bool} {k : ℕ} → is_container k ≡ false → Shapes text (H.Leaf b k) (leaf b k)
-  opens : {k n : ℕ} → is_container k ≡ true → Shapes text (H.Parts k n) (parts k n)
+  opens : {k n : ℕ} → is_container k ≡ true → Shapes text (parts_of k n) (parts k n)
   chooses : {k : ℕ} {name : Name} {c : Contents} → Stands text (S.Variant k name) (K.variant k (bytes_of text name)) → Shapes text (H.Variant k name c) (chosen k (bytes_of text name) (shape_in c))
   nothing : Shapes text H.NoValue no_value
 

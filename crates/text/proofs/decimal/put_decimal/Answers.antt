@@ -1,25 +1,16 @@
 -- `put_decimal` writes what the library writes.
-use Rattle.std.proofs.Common.{◌≡◌, ◌∙◌, ap, ◌^◌, ◌<◌, ℕ, List, length, drop-drop, arith, rules}
+use Rattle.std.proofs.Common.{◌≡◌, ◌∙◌, ap, ℕ, List, length, drop-drop, arith}
 use borrow.Rule.Slice.PartMut.{put_mid}
-use Rattle.std.specs.Fmt.{decimal as decimal_text}
 use Rattle.logic.specs.Buffer.{written}
 use Rattle.text.specs.Decimal.{decimal}
 use Rattle.text.specs.laws.Decimal.{decimal_written}
 use Rattle.text.proofs.decimal.put_decimal.Goals as goal
 
-written_digits : (n : ℕ) → n < 2 ^ 16 → (text digits : List ℕ) → text ≡ decimal_text n → digits ≡ text → digits ≡ decimal n
-written_digits n h text digits e f = f ∙ e ∙ decimal_written n h
-
 placed : (at count : ℕ) (out digits numeral : List ℕ) → digits ≡ numeral → count ≡ length numeral → put_mid at count out digits ≡ written out at numeral
 placed at count out digits numeral e f = rw (e, f, drop-drop)
 
-pub slice_bounds-copy_from_slice-end : goal.slice_bounds-copy_from_slice-end
-slice_bounds-copy_from_slice-end c =
-    let digits : c.as_bytes-digits.result.now ≡ decimal c.args.n = written_digits c.args.n c.ranges.n.fits _ _ c.format.ensures.text c.as_bytes-digits.ensures.value in
-    search rules
-
 pub returns : goal.returns
 returns c =
-    let digits : c.as_bytes-digits.result.now ≡ decimal c.args.n = written_digits c.args.n c.ranges.n.fits _ _ c.format.ensures.text c.as_bytes-digits.ensures.value in
+    let digits : c.as_bytes-digits.result.now ≡ decimal c.args.n = c.as_bytes-digits.ensures.value ∙ c.format.ensures.text ∙ decimal_written c.args.n c.ranges.n.fits in
     let count : length c.as_bytes-digits.result.now ≡ length (decimal c.args.n) = ap length digits in
     (omega arith, placed c.args.at _ c.args.out.now c.copy_from_slice.new.self (decimal c.args.n) (c.copy_from_slice.ensures.after ∙ digits) (omega arith))
