@@ -16,6 +16,7 @@ use places::Children;
 use words::{Place, Table, Whole};
 
 // The count of fields after a child: the slots of a union up to its own.
+#[tactic(auto, using(logic::specs::laws::Test::choice))]
 fn count_with(kind: u32, table: &Table, child: Place, count: u32) -> u32
     ensures { result ≡ count_with kind table.now child count }
 {
@@ -38,6 +39,7 @@ fn count_children(table: &Table, kind: u32, place: Place) -> u32
 
 // How many fields a place's field has: the entries of a map, the slots of a union up to the highest seen, else its
 // children.
+#[tactic(auto, using(logic::specs::laws::Test::choice), unfolding(crate::specs::Fields::field_count))]
 pub fn field_count(table: &Table, kind: u32, place: Place) -> u32
     ensures { result ≡ field_count table.now kind place }
 {
@@ -62,6 +64,7 @@ fn is_encoded(options: TracingOptions, kind: u32) -> bool
 }
 
 // The type of a place of that kind.
+#[tactic(auto, using(logic::specs::laws::Test::choice), unfolding(model::specs::Emission::type_of))]
 pub fn type_of(options: TracingOptions, kind: u32) -> u8
     ensures { result ≡ type_of options.word kind % 256 }
 {
@@ -78,6 +81,7 @@ pub fn type_of(options: TracingOptions, kind: u32) -> u8
 }
 
 // How a field of that kind is to be read.
+#[tactic(auto, using(logic::specs::laws::Test::choice), unfolding(model::specs::Emission::strategy_of))]
 pub fn strategy_of(kind: u32) -> Strategy
     ensures { strategy_code result ≡ strategy_of kind }
 {
@@ -115,6 +119,7 @@ pub fn is_dictionary(options: TracingOptions, table: &Table, place: Place) -> bo
 }
 
 // Whether nothing is emitted below a place.
+#[tactic(auto, unfolding(crate::specs::Fields::is_leaf))]
 pub fn is_leaf(options: TracingOptions, levels: usize, table: &Table, place: Place) -> bool
     ensures { result ≡ is_leaf options.word table.now (eqb levels 0) place }
 {
