@@ -146,3 +146,22 @@ pub fn replay_file<R: Files + Print + Eprint + Alloc, F: FnOnce(&[u8]) -> Tally>
     let Tally { records, differ } = tally(&vectors);
     let _ = println!(rt; "{records} {what} in {bytes} bytes, {differ} differ");
 }
+
+#[cfg(test)]
+mod tests {
+    use super::*;
+
+    // Memory is left for the bytes of a file, and as many are handed on as are read at most: this file has no end.
+    #[test]
+    fn hands_on_what_it_read(rt: HostRuntime) {
+        let mut bytes = 0;
+        replay_file(&rt, "/dev/zero", "zeros", |vectors| {
+            bytes = vectors.len();
+            Tally {
+                records: 0,
+                differ: 0,
+            }
+        });
+        assert!(rt; bytes == MOST);
+    }
+}

@@ -31,7 +31,7 @@ fn print_answer(rt: &impl Print, answer: Answer, fields: &[u8], names: &[u8])
     let _ = println!(rt; "accepted {} {}", answer.field_records, answer.columns);
 }
 
-// The call, over output buffers as long as document 01 has them.
+// The call, over output buffers as long as document 01 has them, and a table of its fixed size.
 fn trace(options: u16, commands: &[u8], text: &[u8], fields: &mut [u8], names: &mut [u8]) -> Answer
     requires { (length fields.old ≡ output_bytes) × (length names.old ≡ output_bytes) }
     ensures { TracedInto options commands text fields names result }

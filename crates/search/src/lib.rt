@@ -109,8 +109,8 @@ fn is_sparse(span: usize, last: Place, table: &Table) -> bool
     (words::get(table, last, Whole::Position) as usize) * MANY < span
 }
 
-// The place's field with that name, found from child to child. Long names are found so. `places::Children` would ask for the kind, which
-// tells the order: this goes by first sight.
+// The place's field with that name, found from child to child. Long names are found so. `places::Children` goes in the order of a kind,
+// and none is at hand here and in `find`: one made up, for first sight's order, would be no plainer.
 fn find_linked(
     text: &[u8],
     place: Place,
