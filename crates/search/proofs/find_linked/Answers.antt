@@ -3,7 +3,6 @@ use borrow.Author.Rules.{rules}
 use mathlib.Core.Path.{◌≡◌, ◌∙◌}
 use mathlib.Core.Bool.{Bool, true, false}
 use mathlib.Core.List.{List}
-use native.Mathlib.Omega.{arith}
 use Rattle.std.specs.Prelude.{Some, None}
 use Prim.Native.Nat.{ℕ, ◌<◌}
 use Rattle.words.specs.Word.{word}
@@ -15,7 +14,7 @@ use Rattle.search.specs.laws.Child.{none_is, some_is}
 use Rattle.search.specs.Search.{find_from}
 use Rattle.search.specs.Scan.{is_field}
 use Rattle.places.specs.laws.Layout.{first_below, next_below}
-use Rattle.search.specs.laws.Search.{first_link, next_link, left_falls, find_first, find_none, find_found, find_next}
+use Rattle.search.specs.laws.Search.{children_left, left_falls, find_first, find_none, find_found, find_next}
 use Rattle.search.specs.laws.Scan.{child_field}
 use Rattle.search.proofs.find_linked.Goals as goal
 use Rattle.search.proofs.find_linked.Invariants.{Child}
@@ -24,39 +23,41 @@ module _ (text t : List ℕ) (n place : ℕ) (ready : Ready text t n place) wher
   first_child : (x : ℕ) → x ≡ word t place first_word → Child t place x
   first_child x e = rw e (ready.sound.siblings.first place)
 
-  module _ (child : ℕ) (h : child < n) (known : child ≡ 0 → ⊥) (own : Child t place child) where
+  module _ (link : ℕ) (h : link < n) (known : link ≡ 0 → ⊥) (own : Child t place link) (child : ℕ) (same : child ≡ link) where
     next_child_lem : (x : ℕ) → x ≡ word t child next_word → Child t place x
-    next_child_lem x e = rw e (λ z. ready.sound.siblings.next child z ∙ own known)
+    next_child_lem x e = rw (e, same) (λ z. ready.sound.siblings.next link z ∙ own known)
 
-    module _ (name : Name) (r : ℕ) (at : Bool) (whole : find_from text field_code name t child ≡ r) (at_there : at ≡ is_field text place name child t) where
+    next_falls : (x : ℕ) → x ≡ word t child next_word → children_left x < children_left link
+    next_falls x e = left_falls text t n link x ready.sound h known (rw same at e)
+
+    next_within : (x : ℕ) → x ≡ word t child next_word → x < n
+    next_within x e = next_below text t n link x ready.sound h (rw same at e)
+
+    module _ (name : Name) (r : ℕ) (at : Bool) (whole : find_from text field_code name t link ≡ r) (at_there : at ≡ is_field text place name child t) where
       here : at ≡ true → Some child ≡ child_of r
-      here e = some_is child r known (find_found text t n field_code name ready.sound child r h whole at known (at_there ∙ child_field text t place name child known (own known)) e)
+      here e =
+          let there : at ≡ is_field text place name link t = rw same at at_there in
+          rw same (some_is link r known (find_found text t n field_code name ready.sound link r h whole at known (there ∙ child_field text t place name link known (own known)) e))
 
       onward : (x : ℕ) → at ≡ false → x ≡ word t child next_word → find_from text field_code name t x ≡ r
-      onward = find_next text t n field_code name ready.sound child r h whole at known (at_there ∙ child_field text t place name child known (own known))
+      onward x e f =
+          let there : at ≡ is_field text place name link t = rw same at at_there in
+          find_next text t n field_code name ready.sound link r h whole at known (there ∙ child_field text t place name link known (own known)) x e (rw same at f)
 
   none : (name : Name) (child r : ℕ) → child < n → find_from text field_code name t child ≡ r → child ≡ 0 → None ≡ child_of r
   none name child r h whole z = none_is r (find_none text t n field_code name ready.sound child r h whole z)
 
-pub loop-place-init : goal.loop-place-init
-loop-place-init c =
-    let e : c.link-child.result ≡ word c.args.table.now c.args.place first_word = search (first_link, rules) in
-    (search (find_first, rules), search (first_below, rules), search (first_child, rules))
+pub loop-link-init : goal.loop-link-init
+loop-link-init c = (search (find_first, rules), search (first_below, rules), search (first_child, rules))
 
 pub returns-then-is_field-clause-found : goal.returns-then-is_field-clause-found
-returns-then-is_field-clause-found c = let z : c.loop-place.child ≡ 0 → ⊥ = grind arith in search (here, rules)
+returns-then-is_field-clause-found c = search (here, rules)
 
-pub loop-place-smaller : goal.loop-place-smaller
-loop-place-smaller c =
-    let z : c.loop-place.child ≡ 0 → ⊥ = grind arith in
-    let e : c.link-child-in-loop-place.result ≡ word c.args.table.now c.loop-place.child next_word = search (next_link, rules) in
-    search (left_falls, rules)
+pub loop-link-smaller : goal.loop-link-smaller
+loop-link-smaller c = search (next_falls, rules)
 
-pub loop-place-preserved : goal.loop-place-preserved
-loop-place-preserved c =
-    let z : c.loop-place.child ≡ 0 → ⊥ = grind arith in
-    let e : c.link-child-in-loop-place.result ≡ word c.args.table.now c.loop-place.child next_word = search (next_link, rules) in
-    (search (onward, rules), search (next_below, rules), search (next_child_lem, rules))
+pub loop-link-preserved : goal.loop-link-preserved
+loop-link-preserved c = (search (onward, rules), search (next_within, rules), search (next_child_lem, rules))
 
 pub returns-clause-found : goal.returns-clause-found
-returns-clause-found c = let z : c.loop-place.child ≡ 0 = grind arith in search (none, rules)
+returns-clause-found c = search (none, rules)

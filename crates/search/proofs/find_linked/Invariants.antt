@@ -13,8 +13,8 @@ use Rattle.search.proofs.find_linked.Given as goal
 abbrev pub Child : List ℕ → ℕ → ℕ → Type 0
 Child t place child = (child ≡ 0 → ⊥) → word t child parent_word ≡ place
 
-abbrev pub invariant-loop-place : goal.invariant-loop-place
-invariant-loop-place l = (find_from l.text field_code l.name l.table l.child ≡ find_in l.text l.place field_code l.name l.table) × (l.child < l.count) × Child l.table l.place l.child
+abbrev pub invariant-loop-link : goal.invariant-loop-link
+invariant-loop-link l = (find_from l.text field_code l.name l.table l.link ≡ find_in l.text l.place field_code l.name l.table) × (l.link < l.count) × Child l.table l.place l.link
 
-abbrev pub decreases-loop-place : goal.decreases-loop-place
-decreases-loop-place l = children_left l.child
+abbrev pub decreases-loop-link : goal.decreases-loop-link
+decreases-loop-link l = children_left l.link
