@@ -1,6 +1,6 @@
 -- The readers call one another in a circle, with the levels left falling.
 use Rattle.std.proofs.Common.{rules, arith, ◌∙◌}
-use mathlib.Core.Path.{refl}
+use mathlib.Core.Path.{refl, ap}
 use native.Mathlib.Nat.{le_refl, le_trans}
 use Rattle.logic.specs.laws.Flag.{flagged}
 use Rattle.shapes.specs.laws.Shapes.{text_inside, variant_good, parts_parted}
@@ -467,8 +467,7 @@ read_fields-overflow_add-at t c =
     let inv = c.loop-child.invariant in
     let field = c.open_field.ensures in
     let d = rw inv.text at field.opened in
-    let opened = placed_ok _ _ _ c.map_err.ensures.cases _ c.in_ok-child.was in
-    let there : c.open_field.result ≡ Ok (Some c.in-Some.child) = search rules in
+    let there = placed_ok _ _ _ c.map_err.ensures.cases _ c.in_ok-child.was ∙ ap Ok c.in-Some.is in
     let child = was_field _ _ _ there in
     record { fits = whole_fits _ _ _ _ _ _ _ _ _ is _ inv.rest _ _ d _ _ child _ (search rules) }
 
@@ -478,8 +477,7 @@ read_fields-invariant_of-places t c =
     let inv = c.loop-child.invariant in
     let field = c.open_field.ensures in
     let d = rw inv.text at field.opened in
-    let opened = placed_ok _ _ _ c.map_err.ensures.cases _ c.in_ok-child.was in
-    let there : c.open_field.result ≡ Ok (Some c.in-Some.child) = search rules in
+    let there = placed_ok _ _ _ c.map_err.ensures.cases _ c.in_ok-child.was ∙ ap Ok c.in-Some.is in
     record {
       sound = quick_kept _ _ _ _ _ _ _ _ _ c.past_quick.ensures.value _ (field.same.text ∙ inv.text) c.open_field.new.places.sound (field_here _ _ _ there field.here);
     }
@@ -490,8 +488,7 @@ read_fields-loop-child-smaller-in-Some-past_quick t c =
     let inv = c.loop-child.invariant in
     let field = c.open_field.ensures in
     let d = rw inv.text at field.opened in
-    let opened = placed_ok _ _ _ c.map_err.ensures.cases _ c.in_ok-child.was in
-    let there : c.open_field.result ≡ Ok (Some c.in-Some.child) = search rules in
+    let there = placed_ok _ _ _ c.map_err.ensures.cases _ c.in_ok-child.was ∙ ap Ok c.in-Some.is in
     let child = was_field _ _ _ there in
     let passed : c.past_quick.result ≡ Some c.in-Some-past_quick.next = search rules in
     let onward = rw passed at c.past_quick.ensures.onward in
@@ -506,8 +503,7 @@ read_fields-loop-child-preserved-in-Some-past_quick t c =
     let inv = c.loop-child.invariant in
     let field = c.open_field.ensures in
     let d = rw inv.text at field.opened in
-    let opened = placed_ok _ _ _ c.map_err.ensures.cases _ c.in_ok-child.was in
-    let there : c.open_field.result ≡ Ok (Some c.in-Some.child) = search rules in
+    let there = placed_ok _ _ _ c.map_err.ensures.cases _ c.in_ok-child.was ∙ ap Ok c.in-Some.is in
     let child = was_field _ _ _ there in
     let passed : c.past_quick.result ≡ Some c.in-Some-past_quick.next = search rules in
     let onward = rw passed at c.past_quick.ensures.onward in
@@ -527,8 +523,7 @@ read_fields-overflow_add-at-in_default-past_quick t c =
     let inv = c.loop-child.invariant in
     let field = c.open_field.ensures in
     let d = rw inv.text at field.opened in
-    let opened = placed_ok _ _ _ c.map_err.ensures.cases _ c.in_ok-child.was in
-    let there : c.open_field.result ≡ Ok (Some c.in-Some.child) = search rules in
+    let there = placed_ok _ _ _ c.map_err.ensures.cases _ c.in_ok-child.was ∙ ap Ok c.in-Some.is in
     let child = was_field _ _ _ there in
     record { fits = name_fits _ _ _ _ _ _ _ _ _ is _ inv.rest _ _ d _ _ child _ (search rules) }
 
@@ -538,8 +533,7 @@ read_fields-read_name-name-requires t c =
     let inv = c.loop-child.invariant in
     let field = c.open_field.ensures in
     let d = rw inv.text at field.opened in
-    let opened = placed_ok _ _ _ c.map_err.ensures.cases _ c.in_ok-child.was in
-    let there : c.open_field.result ≡ Ok (Some c.in-Some.child) = search rules in
+    let there = placed_ok _ _ _ c.map_err.ensures.cases _ c.in_ok-child.was ∙ ap Ok c.in-Some.is in
     let child = was_field _ _ _ there in
     name_whole _ _ _ _ _ _ _ _ _ is _ inv.rest _ _ d _ _ child
 
@@ -549,8 +543,7 @@ read_fields-overflow_add-at-in_default-past_quick-2 t c =
     let inv = c.loop-child.invariant in
     let field = c.open_field.ensures in
     let d = rw inv.text at field.opened in
-    let opened = placed_ok _ _ _ c.map_err.ensures.cases _ c.in_ok-child.was in
-    let there : c.open_field.result ≡ Ok (Some c.in-Some.child) = search rules in
+    let there = placed_ok _ _ _ c.map_err.ensures.cases _ c.in_ok-child.was ∙ ap Ok c.in-Some.is in
     let child = was_field _ _ _ there in
     record { fits = whole_fits _ _ _ _ _ _ _ _ _ is _ inv.rest _ _ d _ _ child _ (search rules) }
 
@@ -560,8 +553,7 @@ read_fields-read_named-requires t c =
     let inv = c.loop-child.invariant in
     let field = c.open_field.ensures in
     let d = rw inv.text at field.opened in
-    let opened = placed_ok _ _ _ c.map_err.ensures.cases _ c.in_ok-child.was in
-    let there : c.open_field.result ≡ Ok (Some c.in-Some.child) = search rules in
+    let there = placed_ok _ _ _ c.map_err.ensures.cases _ c.in_ok-child.was ∙ ap Ok c.in-Some.is in
     let child = was_field _ _ _ there in
     let inside = name_inside _ _ _ _ _ _ _ _ _ is _ inv.rest _ _ d _ _ child _ c.read_name-name.ensures in
     (search rules, (field_here _ _ _ there field.here, (field.same.text ∙ inv.text, inside)))
@@ -572,8 +564,7 @@ read_fields-returns-in_err-at t c =
     let inv = c.loop-child.invariant in
     let field = c.open_field.ensures in
     let d = rw inv.text at field.opened in
-    let opened = placed_ok _ _ _ c.map_err.ensures.cases _ c.in_ok-child.was in
-    let there : c.open_field.result ≡ Ok (Some c.in-Some.child) = search rules in
+    let there = placed_ok _ _ _ c.map_err.ensures.cases _ c.in_ok-child.was ∙ ap Ok c.in-Some.is in
     let child = was_field _ _ _ there in
     let passed : c.past_quick.result ≡ None = search rules in
     let same = quick_none _ _ _ _ _ _ _ _ refl (rw passed at c.past_quick.ensures.value) in
@@ -591,8 +582,7 @@ read_fields-loop-child-smaller t c =
     let inv = c.loop-child.invariant in
     let field = c.open_field.ensures in
     let d = rw inv.text at field.opened in
-    let opened = placed_ok _ _ _ c.map_err.ensures.cases _ c.in_ok-child.was in
-    let there : c.open_field.result ≡ Ok (Some c.in-Some.child) = search rules in
+    let there = placed_ok _ _ _ c.map_err.ensures.cases _ c.in_ok-child.was ∙ ap Ok c.in-Some.is in
     let child = was_field _ _ _ there in
     let passed : c.past_quick.result ≡ None = search rules in
     let same = quick_none _ _ _ _ _ _ _ _ refl (rw passed at c.past_quick.ensures.value) in
@@ -607,8 +597,7 @@ read_fields-loop-child-preserved t c =
     let inv = c.loop-child.invariant in
     let field = c.open_field.ensures in
     let d = rw inv.text at field.opened in
-    let opened = placed_ok _ _ _ c.map_err.ensures.cases _ c.in_ok-child.was in
-    let there : c.open_field.result ≡ Ok (Some c.in-Some.child) = search rules in
+    let there = placed_ok _ _ _ c.map_err.ensures.cases _ c.in_ok-child.was ∙ ap Ok c.in-Some.is in
     let child = was_field _ _ _ there in
     let passed : c.past_quick.result ≡ None = search rules in
     let same = quick_none _ _ _ _ _ _ _ _ refl (rw passed at c.past_quick.ensures.value) in
