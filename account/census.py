@@ -16,6 +16,7 @@ class Said(NamedTuple):
     that is, as dictionaries from places to this."""
     kind: int | str | None      # kind and mode of a container, or type
     null: bool                  # whether null is admitted
+    widened: bool               # whether "two different non-null primitive types" were seen (document 02, 1/14)
     children: object            # what is said of those, in the form that `children` gives them
 
 
@@ -26,7 +27,8 @@ def census(options, records):
     while waiting:
         steps, lacking, values = waiting.pop()
         kind = kind_seen(options, values)
-        said[steps] = Said(kind, lacking or any(value.null for value in values), children(kind, values))
+        null = lacking or any(value.null for value in values)
+        said[steps] = Said(kind, null, len(types_seen(values)) > 1, children(kind, values))
         for step, standing in below(values).items():
             waiting.append((steps + (step,), kind in kinds.STRUCTS and is_lacking(step, values), standing))
     return said
@@ -59,7 +61,12 @@ def kind_seen(options, values):
     """What a place is: "container kind and mode, or a type read off the set of non-null types seen". Of two modes it is
     the first sight's; demand 3 leaves such places out."""
     shown = [value.kind for value in values if value.kind in kinds.CONTAINERS]
-    return shown[0] if shown else type_seen(options, {value.kind for value in values} - {t.NULL})
+    return shown[0] if shown else type_seen(options, types_seen(values))
+
+
+def types_seen(values):
+    """The set of non-null types seen."""
+    return {value.kind for value in values} - kinds.CONTAINERS - {t.NULL}
 
 
 def type_seen(options, types):

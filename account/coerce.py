@@ -1,4 +1,5 @@
-"""Document 01, "Places": the joint of two primitive types that meet at a place, with the editions of document 02's 4/14."""
+"""Document 01, "Places": the joint of two primitive types that meet at a place, with the editions of document 02's 4/14; and whether
+they differ (1/14)."""
 
 from . import datatype as t
 
@@ -20,6 +21,12 @@ def joint(options, first, second):
     if pair & t.TIMESTAMPS and pair <= t.TIMESTAMPS | t.STRINGS:
         return options.string_type()            # "timestamp with string, or timestamps of unequal zones, give string"
     return None
+
+
+def differ(first, second):
+    """"The pairing of two types must report whether they differed" (document 02, 1/14). Null differs from nothing: the mark is of "two
+    different non-null primitive types"."""
+    return first != second and t.NULL not in (first, second)
 
 
 def joint_of_numbers(pair):

@@ -23,11 +23,18 @@ class Field:
     children: list = field(default_factory=list)
     strategy: int = t.NO_STRATEGY
     variant: int = 0            # "variant number, else 0"
+    widened: bool = False
+
+    @property
+    def nullable_byte(self):
+        """"Nullable 0 or 1", and (document 02, 1/14) "the nullable byte gets 2 added where a place saw two different non-null
+        primitive types"."""
+        return self.nullable + 2 * self.widened
 
     def record(self):
         """Its 8 bytes: "type; nullable 0 or 1; strategy [...]; variant number, else 0; name length u16; child count
         u16". These numbers have their low byte first, as in the commands."""
-        return (bytes([self.type, self.nullable, self.strategy, self.variant])
+        return (bytes([self.type, self.nullable_byte, self.strategy, self.variant])
                 + len(self.name).to_bytes(2, "little") + len(self.children).to_bytes(2, "little"))
 
     def is_column(self):
@@ -63,7 +70,7 @@ class Emission:
         self.end = end
 
     def field(self, place, lacking=False):
-        """The field of a place with all below it."""
+        """The field of a place with all below it. None but a primitive's place is widened."""
         nullable = place.null or lacking
         if place.kind == t.NULL:
             return self.null(place, nullable)
@@ -71,7 +78,7 @@ class Emission:
             return self.union(place, nullable)
         if place.kind in kinds.CONTAINERS:
             return self.container(place, nullable)
-        return Field(self.primitive_type(place.kind), nullable, place.name)
+        return Field(self.primitive_type(place.kind), nullable, place.name, widened=place.widened)
 
     def null(self, place, nullable):
         """Refusal 12: "a Null or unknown place is emitted without allow_null_fields"."""

@@ -14,7 +14,7 @@ def listing(given):
     line: accepted, field records, columns; or only: refused, number, place". A name is written as its bytes."""
     if given.refusal:
         return b"refused %d %d\n" % (given.refusal, given.place)
-    lines = [b"%d %d %d %d %d %d %s\n" % (level, field.type, field.nullable, field.strategy, field.variant,
+    lines = [b"%d %d %d %d %d %d %s\n" % (level, field.type, field.nullable_byte, field.strategy, field.variant,
                                          len(field.children), field.name)
              for level, field in preorder(given.fields)]
     return b"".join(lines) + b"accepted %d %d\n" % (given.field_records, given.columns)

@@ -7,7 +7,7 @@ from dataclasses import dataclass, field
 
 from . import datatype as t
 from . import kinds
-from .coerce import joint
+from .coerce import differ, joint
 from .refusal import MISMATCH, NO_JOINT, TOO_DEEP, TOO_MANY_PLACES, TWO_NAMES, Refused
 
 PLACES = 1024       # "At most 1,024, root counted"
@@ -21,6 +21,7 @@ class Place:
     name: bytes
     depth: int
     null: bool = False          # none or some seen there, or Null observed
+    widened: bool = False       # it "saw two different non-null primitive types" (document 02, 1/14)
     kind: int | str = t.NULL    # Null while unknown: "an unknown place is a Null with its own nullability"
     samples: int = 0            # how many containers were observed there
     held: int = 0               # how many of its parent's samples had it
@@ -81,10 +82,12 @@ class Tracer:
         raise Refused(MISMATCH, value.at)
 
     def meet_primitive(self, place, value):
-        """Refusal 10: "two primitive types have no joint"."""
+        """Refusal 10: "two primitive types have no joint". A place has the first type that it saw until another comes, so that two
+        that meet differ as soon as two that were seen do."""
         both = joint(self.options, place.kind, value.kind)
         if both is None:
             raise Refused(NO_JOINT, value.at)
+        place.widened |= differ(place.kind, value.kind)
         return both
 
     # ---- the places below a place

@@ -119,6 +119,14 @@ enum {
     FASTHROM_STRATEGY_UNKNOWN_VARIANT = 3
 };
 
+/* Bits of the nullable byte of field records. */
+enum {
+    /* A value may be missing. */
+    FASTHROM_NULLABLE = 1,
+    /* The values there were of two or more types, Null not counted: the field's type is the one that they have in common. */
+    FASTHROM_WIDENED = 2
+};
+
 /* Refusals. The place of 1 to 3 is 0, of 4 to 11 the byte offset of the command read (of 4 also the commands' length, where
  * they end too soon), of 12 to 18 the commands' length. */
 enum {
@@ -193,7 +201,9 @@ struct fasthrom_answer fasthrom_trace(
  * its first child, then the next. Their names stand one after another in the names buffer, without a mark between. */
 struct fasthrom_record {
     uint8_t type;
+    /* The bits of the nullable byte, each 0 or 1. */
     uint8_t nullable;
+    uint8_t widened;
     uint8_t strategy;
     /* The variant number of a union's child, else 0. */
     uint8_t variant;
@@ -206,7 +216,8 @@ static inline struct fasthrom_record fasthrom_record_at(const uint8_t *fields, s
     const uint8_t *bytes = fields + index * FASTHROM_RECORD_BYTES;
     struct fasthrom_record record;
     record.type = bytes[0];
-    record.nullable = bytes[1];
+    record.nullable = (bytes[1] & FASTHROM_NULLABLE) != 0;
+    record.widened = (bytes[1] & FASTHROM_WIDENED) != 0;
     record.strategy = bytes[2];
     record.variant = bytes[3];
     record.name_length = (uint16_t)(bytes[4] | bytes[5] << 8);

@@ -1,5 +1,5 @@
-"""Questions to the whole call, with the answers of the published Rust and, in edition 2, of the account (../account), for
-`answers_vectors`. Run in any folder; the oracle is brought up to date first:
+"""Questions to the whole call, with the answers of the published Rust, to which the account (../account) adds the mark of widened
+places, and, in edition 2, with the account's, for `answers_vectors`. Run in any folder; the oracle is brought up to date first:
 
     python3 vectors/answers.py
 
@@ -8,7 +8,8 @@ numbers (three bytes each; the low byte is first), the commands, the text, and t
 numbers: words of the table lent, length of commands and of text, bytes of both buffers lent; then the answer's refusal,
 place, field records, name bytes and columns.
 
-Refusals 2 and 18 are lengths, compared here; all else is the oracle's or the account's. The lists depend on nothing but
+Refusals 2 and 18 are lengths, compared here; all else is the oracle's or the account's. The Rust has no mark (document 02,
+1/14): where an answer of its differs in more from the account's, none is stored. The lists depend on nothing but
 this file, batches.py and edges.py: a second run writes the same bytes.
 """
 
@@ -20,7 +21,7 @@ import sys
 import batches
 import edges
 import published
-from published import ORACLE, TOP
+from published import ORACLE, TOP, unmarked
 
 sys.path.insert(0, str(TOP))
 from account.answer import answer as account_of  # noqa: E402
@@ -48,6 +49,14 @@ def account(questions):
     for options, commands, text in questions:
         given = account_of(options, commands, text)
         yield (given.refusal, given.place) if given.refusal else (given.records, given.names, given.columns)
+
+
+def both(questions):
+    """The account's, once the oracle's are the same but for the mark."""
+    for asked, rust, marked in zip(questions, oracle(questions), account(questions), strict=True):
+        plain = (unmarked(marked[0]), *marked[1:]) if len(marked) == 3 else marked
+        assert rust == plain, asked
+        yield marked
 
 
 def lend(rng, needed):
@@ -216,7 +225,7 @@ def lengths():
 
 
 def ask(name, who, batch_list, count, seed):
-    """The first questions of a list, as many as asked for and as there is room for, with the answers of one or the other."""
+    """The first questions of a list, as many as asked for and as there is room for, with the answers of the account or of both."""
     rng = random.Random(seed)
     asked = [b for b, _ in zip(batch_list, range(count))]
     made, refusals = b"", []
@@ -233,11 +242,11 @@ def ask(name, who, batch_list, count, seed):
 
 
 LISTS = [
-    ("shaped.bin", oracle, shaped(101), 1700, "batches of a shape"),
-    ("damaged.bin", oracle, damaged(), 1200, "damaged batches"),
-    ("options.bin", oracle, each_option(), 10_000, "batches under each option"),
-    ("limits.bin", oracle, limits(), 10_000, "batches near the limits"),
-    ("lengths.bin", oracle, lengths(), 3, "batches of the greatest length"),
+    ("shaped.bin", both, shaped(101), 1700, "batches of a shape"),
+    ("damaged.bin", both, damaged(), 1200, "damaged batches"),
+    ("options.bin", both, each_option(), 10_000, "batches under each option"),
+    ("limits.bin", both, limits(), 10_000, "batches near the limits"),
+    ("lengths.bin", both, lengths(), 3, "batches of the greatest length"),
     ("edition_2.bin", account, edition_2(), 1200, "batches in edition 2"),
 ]
 

@@ -17,7 +17,7 @@ from batches import EDITION_2
 from published import ORACLE, TOP
 
 sys.path.insert(0, str(TOP))
-from account.coerce import joint as joint_of  # noqa: E402
+from account.coerce import differ, joint as joint_of  # noqa: E402
 from account.datatype import STRINGS  # noqa: E402
 from account.options import Options  # noqa: E402
 
@@ -181,14 +181,18 @@ def make_byte_strings():
 # ----------------------------------------------------------------- joints
 
 NONE = 255
+# where two types differ (document 02, 1/14), which the Rust does not tell
+DIFFER = 32
 
 
 def joint_record(word, first, second, joint):
-    return word.to_bytes(2, "little") + bytes([first, second, NONE if joint is None else joint])
+    given = NONE if joint is None else joint + DIFFER * differ(first, second)
+    return word.to_bytes(2, "little") + bytes([first, second, given])
 
 
 def make_joints():
-    """Those of edition 1; then those of edition 2 under the same words, but for the string type that the options do not give."""
+    """Those of edition 1; then those of edition 2 under the same words, but for the string type that the options do not give. Whether
+    two types differ is the account's in both."""
     asked = [[None if word == "-" else int(word) for word in line.split()] for line in ask("coerce")]
     records = [joint_record(*one) for one in asked]
     for word, first, second, _ in asked:

@@ -6,7 +6,7 @@ Writes crates/samples_vectors/data/batches.bin (a batch is the options word, the
 two bytes, low byte first, then both) and crates/samples_vectors/stdout. There a batch is `places COUNT` and a line for
 each place, behind `refused NUMBER PLACE` where tracing is refused: then the places are those of the tree as it stands
 half-traced. A line is the place's words, the two links of one word with a slash between them, the name as the offset
-and the length of where the text first gave it:
+and the length of where the text first gave it; NULL is 1 where null was seen, and 2 more where the place was widened:
 
     KIND NULL SAMPLES FIRST/LAST ROOT/BLOCK LEFT/RIGHT NEXT/PARENT STEP OFFSET+LENGTH HELD MARK TAG POSITION
 
@@ -183,7 +183,7 @@ class HalfTraced(Tracer):
     def line(self, place, to):
         child = self.as_child[place]
         return " ".join(map(str, (
-            KINDS.get(place.kind, place.kind), int(place.null), place.samples,
+            KINDS.get(place.kind, place.kind), place.null + 2 * place.widened, place.samples,
             f"{to['first']}/{to['last']}", f"{to['root']}/{to['block']}", f"{to['left']}/{to['right']}",
             f"{to['next']}/{self.as_child[child.parent].number}", step_code(child.step),
             f"{child.offset}+{len(child.name)}", child.held, child.mark, tag(child.name), to["position"])))

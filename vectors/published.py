@@ -1,4 +1,4 @@
-"""The oracle, which the scripts that store its answers ask (see ../oracle/README.md)."""
+"""The oracle, which the scripts that store or compare its answers ask (see ../oracle/README.md)."""
 
 import pathlib
 import subprocess
@@ -6,6 +6,16 @@ import sys
 
 TOP = pathlib.Path(__file__).resolve().parent.parent
 ORACLE = TOP / "oracle" / "target" / "release" / "oracle"
+
+# of a nullable byte: the place saw two different non-null primitive types (document 02, 1/14)
+WIDENED = 2
+
+
+def unmarked(records):
+    """Field records with the mark taken off, which the Rust does not have."""
+    records = bytearray(records)
+    records[1::8] = bytes(nullable & ~WIDENED for nullable in records[1::8])
+    return bytes(records)
 
 
 def no_arguments():

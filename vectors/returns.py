@@ -3,11 +3,13 @@
     python3 vectors/returns.py
 
 Writes crates/schema_list/data (the returns' files), crates/schema_list/args (which three files each return is, one after
-another) and crates/schema_list/stdout (what the oracle lists for each, and in edition 2 the account: nothing where a file is
-missing or the options word is not two bytes long, which the program says on standard error). A second run writes the same bytes.
+another) and crates/schema_list/stdout (what the oracle lists for each, with the mark of widened places that the account adds, and
+in edition 2 the account alone: nothing where a file is missing or the options word is not two bytes long, which the program says
+on standard error). A second run writes the same bytes.
 """
 
 import pathlib
+import re
 import shutil
 import subprocess
 import sys
@@ -92,7 +94,7 @@ REMARKS = {
     "null": Return({"r": b"\0"}),
 }
 
-# document 01's return, an f64 and then a u32, which edition 2 refuses; and one whose numbers have a joint there
+# document 01's return, an f64 and then a u32, which edition 1 widens and edition 2 refuses; and one whose numbers have a joint there
 LENGTHS = Return({"length": F64, "name": "name"}, {"length": U32})
 MILLIMETRES = Return({"length": U8, "draught": F32}, {"length": I8, "draught": F64})
 
@@ -106,6 +108,7 @@ FILES = {
     "remarks/options.bin": u16(DEFAULT | ALLOW_NULL_FIELDS),
     "remarks/text.bin": b"r",
     **{f"remarks/{name}.bin": remarks.commands for name, remarks in REMARKS.items()},
+    "lengths/options.bin": u16(DEFAULT | COERCE_NUMBERS),
     "edition_2/options.bin": u16(DEFAULT | COERCE_NUMBERS | EDITION_2),
     "edition_2/lengths.bin": LENGTHS.commands,
     "edition_2/lengths_text.bin": LENGTHS.text,
@@ -127,20 +130,28 @@ RETURNS = [
     ("decks/options.bin", "wrong/commands.bin", "decks/text.bin"),
     ("decks/options.bin", "decks/commands.bin", "wrong/text.bin"),
     *(("remarks/options.bin", f"remarks/{name}.bin", "remarks/text.bin") for name in REMARKS),
+    ("lengths/options.bin", "edition_2/lengths.bin", "edition_2/lengths_text.bin"),
     *(("edition_2/options.bin", f"edition_2/{name}.bin", f"edition_2/{name}_text.bin") for name in ("lengths", "millimetres")),
 ]
 
 
+def unmarked(listing):
+    """A listing with the mark taken off its nullable bytes, which the Rust does not have."""
+    return re.sub(rb"(?m)^(\d+ \d+) ([23]) ", lambda line: b"%s %d " % (line[1], int(line[2]) - published.WIDENED), listing)
+
+
 def listed(files):
-    """What the oracle or the account lists; nothing for a return that is none."""
+    """What the account lists, in edition 1 once the oracle lists the same but for the mark; nothing for a return that is none."""
     if any(name not in FILES for name in files) or len(FILES[files[0]]) != 2:
         return b""
     with tempfile.TemporaryDirectory() as folder:
         for name, source in zip(("options.bin", "commands.bin", "text.bin"), files):
             pathlib.Path(folder, name).write_bytes(FILES[source])
-        if int.from_bytes(FILES[files[0]], "little") & EDITION_2:
-            return list_return(pathlib.Path(folder))
-        return subprocess.run([ORACLE, "list", folder], capture_output=True, check=True).stdout
+        told = list_return(folder)
+        if not int.from_bytes(FILES[files[0]], "little") & EDITION_2:
+            rust = subprocess.run([ORACLE, "list", folder], capture_output=True, check=True).stdout
+            assert rust == unmarked(told), files
+        return told
 
 
 def main():

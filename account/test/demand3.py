@@ -31,10 +31,11 @@ class FromCensus:
         self.said = said
 
     def field(self, steps, name):
-        kind, null, children = self.said[steps]
+        kind, null, widened, children = self.said[steps]
         if kind not in kinds.CONTAINERS:
             is_dictionary = kind in t.STRINGS and self.options.string_dictionary_encoding()
-            return Field(self.options.dictionary_type() if is_dictionary else kind, null, name)
+            type_ = self.options.dictionary_type() if is_dictionary else kind
+            return Field(type_, null, name, widened=widened)
         if kind == kinds.UNION:
             return Field(t.UNION, null, name, self.slots(steps, dict(children)))
         below = [self.field(steps + (step,), kinds.name_of(step)) for step in steps_in_order(kind, children)]
@@ -89,7 +90,7 @@ class FromSchema:
             below = kinds.FIXED_STEPS.get(kind, ())
             if kind == kinds.MAP:
                 seen = seen[0].children
-        self.said[steps] = Said(kind, field.nullable, children)
+        self.said[steps] = Said(kind, field.nullable, field.widened, children)
         for step, child in zip(below, seen, strict=True):
             self.place(steps + (step,), child)
 
@@ -109,7 +110,7 @@ def in_name_order(field):
     children = [in_name_order(child) for child in field.children]
     if field.type == t.STRUCT and field.strategy == t.NO_STRATEGY:
         children.sort(key=lambda child: child.name)
-    return Field(field.type, field.nullable, field.name, children, field.strategy, field.variant)
+    return Field(field.type, field.nullable, field.name, children, field.strategy, field.variant, field.widened)
 
 
 def same_but_order(one, other):

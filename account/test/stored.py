@@ -1,11 +1,11 @@
-"""The account held to the stored answers of the published Rust, and in edition 2 to its own as they are stored
-(vectors/README.md has the layouts)."""
+"""The account held to the stored answers of the published Rust, and in the mark of widened places and in edition 2 to its own as they
+are stored (vectors/README.md has the layouts)."""
 
 import pathlib
 
 from ..answer import Lent, answer
 from ..chrono import FORMS, text_type
-from ..coerce import joint
+from ..coerce import differ, joint
 from ..commands import is_utf8
 from ..datatype import STRINGS
 from ..listing import list_files, list_return
@@ -14,7 +14,9 @@ from ..options import Options
 TOP = pathlib.Path(__file__).resolve().parent.parent.parent
 CRATES = TOP / "crates"
 GUESS_DATES, LARGE_UTF8 = 256, 8
+# what stands for no joint, and what is added to a joint's code where the types differ
 NO_JOINT = 255
+DIFFER = 32
 
 
 def records(file):
@@ -48,11 +50,12 @@ def check_joints():
     count = 0
     for record in records("joints.bin"):
         options = Options(int.from_bytes(record[:2], "little"))
-        first, second, both = record[2:]
+        first, second, given = record[2:]
         if {first, second} & STRINGS <= {options.string_type()}:
             count += 1
-            wanted = None if both == NO_JOINT else both
-            assert joint(options, first, second) == wanted, (options, first, second)
+            both = joint(options, first, second)
+            wanted = NO_JOINT if both is None else both + DIFFER * differ(first, second)
+            assert given == wanted, (options, first, second)
     return count
 
 

@@ -116,7 +116,7 @@ impl Case {
         case.checked(shape)
     }
 
-    /// All sides must give one and the same schema.
+    /// All sides must give one and the same schema, but for the mark.
     fn checked(mut self, shape: Shape) -> Self {
         let answer = self.lent.trace(&self.batch);
         assert_eq!(answer.refusal, 0, "{shape} is refused");
@@ -128,7 +128,7 @@ impl Case {
             let mut rust = batch::Answer::default();
             schema.fields.iter().for_each(|field| rust.add(field, 0));
             assert_eq!(
-                self.lent.written(answer),
+                self.lent.unmarked(answer),
                 (&rust.records[..], &rust.names[..]),
                 "{shape} differs"
             );
@@ -193,7 +193,7 @@ impl Case {
             Ok(rust) => {
                 assert_eq!((answer.refusal, answer.columns as usize), (0, rust.columns));
                 assert!(
-                    lent.written(answer) == (&rust.records[..], &rust.names[..]),
+                    lent.unmarked(answer) == (&rust.records[..], &rust.names[..]),
                     "the schemas differ"
                 );
             }

@@ -3,6 +3,8 @@
 use crate::shapes::Batch;
 
 const TABLE: usize = 16_384;
+/// Of a nullable byte.
+const WIDENED: u8 = 2;
 /// The buffers of schema-list.
 pub const BUFFERS: (usize, usize) = (65_536, 65_536);
 /// Buffers that suffice for every batch (include/fasthrom.h).
@@ -70,11 +72,14 @@ impl Lent {
         }
     }
 
-    /// The field records and names that the last call wrote.
-    pub fn written(&self, answer: Answer) -> (&[u8], &[u8]) {
-        (
-            &self.fields[..answer.field_records as usize * 8],
-            &self.names[..answer.name_bytes as usize],
-        )
+    /// The field records and names that the last call wrote, with the mark of widened places taken off, which the Rust does not have.
+    pub fn unmarked(&mut self, answer: Answer) -> (&[u8], &[u8]) {
+        let records = &mut self.fields[..answer.field_records as usize * 8];
+        records
+            .iter_mut()
+            .skip(1)
+            .step_by(8)
+            .for_each(|nullable| *nullable &= !WIDENED);
+        (records, &self.names[..answer.name_bytes as usize])
     }
 }

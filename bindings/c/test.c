@@ -70,10 +70,12 @@ static void test_sounding(void) {
     expect(answer.field_records == 2 && answer.columns == 2 && answer.name_bytes == 10, "its counts");
 
     struct fasthrom_record length = fasthrom_record_at(lent.fields, 0);
-    expect(length.type == FASTHROM_TYPE_FLOAT64 && length.nullable == 0, "length is Float64");
+    expect(length.type == FASTHROM_TYPE_FLOAT64, "length is Float64");
+    expect(length.nullable == 0 && length.widened == 1, "length is widened and not nullable");
     expect(length.name_length == 6 && length.child_count == 0, "length's name and children");
     struct fasthrom_record name = fasthrom_record_at(lent.fields, 1);
-    expect(name.type == FASTHROM_TYPE_LARGE_UTF8 && name.nullable == 1, "name is LargeUtf8 and nullable");
+    expect(name.type == FASTHROM_TYPE_LARGE_UTF8, "name is LargeUtf8");
+    expect(name.nullable == 1 && name.widened == 0, "name is nullable and not widened");
     expect(name.strategy == FASTHROM_STRATEGY_NONE && name.variant == 0, "name has no strategy");
     expect(memcmp(lent.names, "lengthname", 10) == 0, "the names");
 

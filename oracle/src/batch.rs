@@ -144,6 +144,7 @@ impl Answer {
             _ => Vec::new(),
         };
         let code = codes::code_of(&field.data_type);
+        // the Rust has no mark of widened places: the nullable byte is 0 or 1
         self.records
             .extend([code, field.nullable as u8, strategy, variant as u8]);
         for length in [field.name.len(), children.len()] {

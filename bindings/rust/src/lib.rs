@@ -19,8 +19,10 @@
 //!
 //! let options = TracingOptions::default().coerce_numbers(true);
 //! let schema = trace(options, records.commands(), records.text(), &mut Work::new())?;
-//! assert_eq!(schema.fields()[0].data_type, DataType::Float64);
-//! assert!(schema.fields()[1].nullable);
+//! let [length, name] = &schema.fields()[..] else { panic!("two fields") };
+//! assert_eq!(length.data_type, DataType::Float64);
+//! assert!(length.widened && !length.nullable);
+//! assert!(name.nullable && !name.widened);
 //! # Ok::<(), Box<dyn std::error::Error>>(())
 //! ```
 

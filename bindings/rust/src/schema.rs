@@ -7,6 +7,10 @@ use crate::data_type::{DataType, Strategy};
 /// Bytes of a field record.
 pub(crate) const RECORD: usize = 8;
 
+/// Bits of its nullable byte.
+const NULLABLE: u8 = 1;
+const WIDENED: u8 = 2;
+
 /// A schema: the field records and the names that the call gave.
 ///
 /// Two schemas are equal when their bytes are, which is the equality that the library's theorem speaks of: it holds exactly
@@ -83,6 +87,8 @@ pub struct Field {
     pub data_type: DataType,
     /// Whether a value may be missing.
     pub nullable: bool,
+    /// Whether the values there were of two or more types, Null not counted: `data_type` is the one that they have in common.
+    pub widened: bool,
     /// How it is to be read, where Arrow has no direct match.
     pub strategy: Option<Strategy>,
     /// Of a union's child, the number of the variant.
@@ -101,6 +107,9 @@ impl Field {
         write!(f, ": {}", self.data_type)?;
         if self.nullable {
             f.write_str(", nullable")?;
+        }
+        if self.widened {
+            f.write_str(", widened")?;
         }
         if let Some(strategy) = self.strategy {
             write!(f, ", {strategy:?}")?;
@@ -151,7 +160,8 @@ impl Reader<'_> {
         Field {
             name,
             data_type,
-            nullable: nullable == 1,
+            nullable: nullable & NULLABLE != 0,
+            widened: nullable & WIDENED != 0,
             strategy: Strategy::from_code(strategy).expect("a strategy's code"),
             variant: in_union.then_some(variant),
             children,

@@ -67,5 +67,6 @@ fn options_and_sizes() {
     assert_eq!(constants["DEFAULT_OPTIONS"], default);
     assert_eq!(constants["INPUT_LIMIT"], INPUT_LIMIT);
     assert_eq!(constants["TABLE_WORDS"], 16_384);
+    assert_eq!((constants["NULLABLE"], constants["WIDENED"]), (1, 2));
     assert_eq!(constants["COMMAND_STRUCT_VARIANT"], 0x1B);
 }

@@ -54,14 +54,16 @@ fn the_sounding() {
     let schema = trace(options, &commands, b"lengthname", &mut Work::new()).unwrap();
     assert_eq!(
         schema.records(),
-        [11, 0, 0, 0, 6, 0, 0, 0, 13, 1, 0, 0, 4, 0, 0, 0]
+        [11, 2, 0, 0, 6, 0, 0, 0, 13, 1, 0, 0, 4, 0, 0, 0]
     );
     assert_eq!(schema.names(), b"lengthname");
     assert_eq!(schema.columns(), 2);
     assert_eq!(
         schema.to_string(),
-        "length: Float64\nname: LargeUtf8, nullable\n"
+        "length: Float64, widened\nname: LargeUtf8, nullable\n"
     );
+    let marks = schema.fields().into_iter().map(|f| (f.nullable, f.widened));
+    assert!(marks.eq([(false, true), (true, false)]));
 
     // the encoder writes the same bytes
     let mut records = Records::new();
@@ -91,6 +93,36 @@ fn p1_to_p6_numbers() {
     assert_eq!(column_type(coerce, &[f32, f32]), Ok(DataType::Float32));
     assert_eq!(column_type(coerce, &[f32, i8]), Ok(DataType::Float64));
     assert_eq!(column_type(defaults(), &[u8, u16]), Err(Refusal::NoJoint));
+}
+
+/// Document 02, 1/14.
+#[test]
+fn columns_that_were_widened() {
+    let widened = |options, values: &[Write]| {
+        let field = column(options, values).unwrap();
+        (field.data_type, field.nullable, field.widened)
+    };
+    let coerce = defaults().coerce_numbers(true);
+    let (u8, u16, u32, f64): (Write, Write, Write, Write) =
+        (|v| v.u8(), |v| v.u16(), |v| v.u32(), |v| v.f64());
+    let (char, none, text, bool): (Write, Write, Write, Write) =
+        (|v| v.char(), |v| v.none(), |v| v.text("five"), |v| v.bool());
+    let (uint64, float64) = (DataType::UInt64, DataType::Float64);
+    assert_eq!(widened(coerce, &[u16, f64]), (float64, false, true));
+    assert_eq!(widened(coerce, &[f64, u32]), (float64, false, true));
+    assert_eq!(widened(coerce, &[u8, none, u16]), (uint64, true, true));
+    let null = widened(coerce, &[none, u8, u8]);
+    assert_eq!(null, (DataType::UInt8, true, false));
+    let one_type = widened(coerce, &[u32, char]);
+    assert_eq!(one_type, (DataType::UInt32, false, false));
+    let dictionary = DataType::DictionaryLargeUtf8;
+    let strings = defaults()
+        .string_dictionary_encoding(true)
+        .allow_to_string(true);
+    assert_eq!(widened(strings, &[text, bool]), (dictionary, false, true));
+    let enums = defaults().enums_without_data_as_strings(true);
+    let states: [Write; 2] = [|v| v.unit_variant(0, "a"), |v| v.unit_variant(1, "b")];
+    assert_eq!(widened(enums, &states), (dictionary, false, false));
 }
 
 /// Document 02, 4/14.

@@ -1,12 +1,14 @@
--- The joint of two primitive types, as in document 01's "Places" and document 02's 4/14. Types stand by their codes, and any two
--- have an answer: in edition 1 the one that coerce_primitive_type of the Rust gives.
-use Rattle.std.specs.Prelude.{ℕ, Bool, not, ◌&&◌, ◌||◌, leb, eqb}
+-- The joint of two primitive types, as in document 01's "Places" and document 02's 4/14, and whether they differ (1/14). Types stand by
+-- their codes, and any two have an answer: in edition 1 the one that coerce_primitive_type of the Rust gives.
+use Rattle.std.specs.Prelude.{ℕ, Bool, true, false, not, ◌&&◌, ◌||◌, leb, eqb}
 use Rattle.std.specs.Prelude as Code
 use Rattle.std.proofs.Math.Option.{Option, none, some}
 use Rattle.logic.specs.Test.{when◌then◌else◌}
 use Rattle.datatype.specs.Codes.{code_of, null, boolean, int8, int64, uint64, float32, float64, utf8, large_utf8, timestamp_naive, timestamp_utc}
 use Rattle.options.specs.Word.{coerce_numbers, allow_to_string, edition2, string_type}
 use Rattle.datatype.specs.declared.DataType.{DataType}
+use Rattle.coerce.specs.declared.Pairing.{Pairing}
+use Rattle.coerce.specs.declared.Pairing.TheVariants as P
 
 -- the families of types, each a range of codes or two codes
 abbrev pub is_signed : ℕ → Bool
@@ -89,3 +91,24 @@ joint word a b =
 abbrev pub codes_of : Code.Option DataType → Option ℕ
 codes_of (Code.Some t) = some (code_of t)
 codes_of Code.None = none
+
+-- two types differ that are not equal, neither of them Null
+abbrev pub differ : ℕ → ℕ → Bool
+differ a b = not (eqb a null) && not (eqb b null) && not (eqb a b)
+
+-- "The pairing of two types must report whether they differed" (document 02, 1/14): what they give, and whether they do
+pub record Paired : Type 0 where
+  pub gives : Option ℕ
+  pub differed : Bool
+
+abbrev pub paired : Option ℕ → Bool → Paired
+paired gives differed = record { gives = gives; differed = differed }
+
+unfoldable pub pairing : ℕ → ℕ → ℕ → Paired
+pairing word a b = paired (joint word a b) (differ a b)
+
+-- what an answer stands for, in its three cases
+abbrev pub paired_by : Pairing → Paired
+paired_by (P.Alike t) = paired (some (code_of t)) false
+paired_by (P.Widened t) = paired (some (code_of t)) true
+paired_by P.Apart = paired none true

@@ -5,7 +5,7 @@
 
 ghost use Rattle.std.specs.Prelude.{◌≡◌, true, ◌&&◌, leb};
 ghost use Rattle.datatype.specs.Codes.{code_of};
-ghost use Rattle.coerce.specs.Joint.{is_integer, is_float, is_number, is_string, is_timestamp, is_to_string, yields_to_string, is_mixed, is_forbidden, number_joint, joint_of_numbers, joint_with_string, joint_of_timestamps, joint_of_unequal, joint, codes_of};
+ghost use Rattle.coerce.specs.Joint.{is_integer, is_float, is_number, is_string, is_timestamp, is_to_string, yields_to_string, is_mixed, is_forbidden, number_joint, joint_of_numbers, joint_with_string, joint_of_timestamps, joint_of_unequal, joint, codes_of, differ, pairing, paired_by};
 
 use datatype::DataType;
 use datatype::DataType::{
@@ -27,6 +27,17 @@ const NUMBERS: [[DataType; 10]; 10] = [
     [F64, F64, F64, F64, F64, F64, F64, F64, F32, F64],
     [F64, F64, F64, F64, F64, F64, F64, F64, F64, F64],
 ];
+
+// What two types come to that meet at one place: their joint, and whether they differed. Null differs from nothing.
+#[derive(Clone, Copy)]
+pub enum Pairing {
+    // Equal ones, or Null and another.
+    Alike(DataType),
+    // Different ones, of which a place is widened.
+    Widened(DataType),
+    // Different ones that have no joint (refusal 10).
+    Apart,
+}
 
 // Whether a type is one from `first` to `last`. Families of types are ranges of codes, or two types (document 01, "Field records").
 fn is_within(data_type: DataType, first: DataType, last: DataType) -> bool
@@ -157,22 +168,20 @@ fn joint_of_unequal(prev: DataType, curr: DataType, options: TracingOptions) -> 
     joint_of_timestamps(prev, curr, options)
 }
 
-// The type of a place that had `prev` and meets `curr`, or none where they have no joint (refusal 10). Equal types come first,
-// since most values of a place repeat. Two types are compared by their codes, as the definitions do: of the derived `==` at two
-// unknown types the proof did not close.
-#[tactic(auto, using(logic::specs::laws::Test::choice), unfolding(crate::specs::Joint::joint))]
-pub fn coerce_primitive_type(
-    prev: DataType,
-    curr: DataType,
-    options: TracingOptions,
-) -> Option<DataType>
-    ensures { codes_of result ≡ joint options.word (code_of prev) (code_of curr) }
+// What a place that had `prev` and meets `curr` comes to. Equal types come first, since most values of a place repeat. Two types are
+// compared by their codes, as the definitions do: of the derived `==` at two unknown types the proof did not close.
+#[tactic(auto, using(logic::specs::laws::Test::choice), unfolding(crate::specs::Joint::pairing, crate::specs::Joint::joint))]
+pub fn coerce_primitive_type(prev: DataType, curr: DataType, options: TracingOptions) -> Pairing
+    ensures { paired_by result ≡ pairing options.word (code_of prev) (code_of curr) }
 {
     if prev.code() == curr.code() || curr == DataType::Null {
-        return Some(prev);
+        return Pairing::Alike(prev);
     }
     if prev == DataType::Null {
-        return Some(curr);
+        return Pairing::Alike(curr);
     }
-    joint_of_unequal(prev, curr, options)
+    match joint_of_unequal(prev, curr, options) {
+        Some(joint) => Pairing::Widened(joint),
+        None => Pairing::Apart,
+    }
 }

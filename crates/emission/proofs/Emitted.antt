@@ -36,8 +36,8 @@ accepted_if false fs refusal place r schema e = e
 
 root_fields_lem : (end : ℕ) (f : Field) (schema : Fields) → accepted schema ≡ root_fields end f → schema ≡ fields_of_field f
 unfolding when◌then◌else◌
-root_fields_lem end (mk type nullable strategy number name fs) schema e =
-    last (eqb type struct) (accepted_if (eqb type null) fs null_root end _ schema (accepted_if nullable fs nullable_root end _ schema e))
+root_fields_lem end (mk type m strategy number name fs) schema e =
+    last (eqb type struct) (accepted_if (eqb type null) fs null_root end _ schema (accepted_if m.null fs nullable_root end _ schema e))
   where
     last : (t : Bool) → accepted schema ≡ (when t then accepted fs else refused root_not_struct end) → schema ≡ fs
     last true q = cc

@@ -1,5 +1,5 @@
 -- Schemas are equal exactly when censuses are, of two accepted batches of struct records.
-use Rattle.equality.specs.laws.census.Equal.{Traced, traced_schema, root_struct, bytes_same, same_bytes, accepted_injective}
+use Rattle.equality.specs.laws.census.Equal.{Traced, traced_schema, root_struct, root_unwidened, bytes_same, same_bytes, accepted_injective}
 use Rattle.equality.proofs.Canon.{distinct_canon, same_root, root_canon}
 use Rattle.std.specs.Prelude.{◌≡◌, ◌↔◌, List, ℕ, length}
 use Rattle.std.proofs.Math.Path.{ap, sym}
@@ -29,7 +29,8 @@ module _ (o : ℕ) (off : Plain o) (cs text cs' text' : List ℕ) where
         let c = same_root o (length cs) (length cs') (place_of false t.tree) (place_of false u.tree) gs off.enums_off
         (tree_fits o 0 (records_of first) t.tree false t.proper t.seen) (tree_fits o 0 (records_of second) u.tree false u.proper u.seen)
         (tree_ascends o 0 (records_of first) t.tree false t.proper t.seen) (tree_ascends o 0 (records_of second) u.tree false u.proper u.seen)
-        (root_struct first fs off r t ∙ sym (root_struct second gs off q u)) (rw e at t.root) u.root in
+        (root_struct first fs off r t ∙ sym (root_struct second gs off q u))
+        (root_unwidened first fs off r t ∙ sym (root_unwidened second gs off q u)) (rw e at t.root) u.root in
         sym (view_census o off.to_string_off 0 steps false (records_of first) t.tree t.proper t.seen)
         ∙ ap (view steps) c
         ∙ view_census o off.to_string_off 0 steps false (records_of second) u.tree u.proper u.seen

@@ -3,10 +3,10 @@
 -- call that its contract allows, so of every call that is made; that a call ends at all is part of what is proved of a function.
 --
 -- The words are those of the model: Batch, Buffers, Answer, schema_of, with_schema, turned_down (Answer), from commands to values (Reading),
--- places (Tracing, Unbounded), how many they are and which command needs them (Bound), field records (Emission), the census (Census), equal
--- schemas and records in another order (Demand3), P1 to P12 (Soundings).
+-- places (Tracing, Unbounded), how many they are and which command needs them (Bound), field records (Emission), the mark of a widened
+-- place taken off (Unmarked), the census (Census), equal schemas and records in another order (Demand3), P1 to P12 (Soundings).
 use Rattle.std.specs.Prelude.{◌≡◌, refl, false, ◌⊎◌, ◌↔◌, ℕ, ◌≤◌, length}
-use Rattle.std.proofs.Common.{ap, ◌∙◌, inl, inr, zero-le, arith}
+use Rattle.std.proofs.Common.{ap, sym, ◌∙◌, inl, inr, zero-le, arith}
 use mathlib.Core.List.{List, Permᴰ}
 use Rattle.logic.specs.All.{All}
 use Rattle.logic.specs.laws.All.{all_map}
@@ -18,6 +18,8 @@ use Rattle.model.specs.Unbounded.{see_all}
 use Rattle.model.specs.Bound.{AtMost, Exceeds}
 use Rattle.model.specs.Emission.{Fields, to_schema}
 use Rattle.model.specs.Answer.{table_words, Batch, Buffers, Answer, WellFormed, schema_of, is_short, cleared, turned_down, zeroed, with_schema, answer_of, answer}
+use Rattle.model.specs.Unmarked.{unmarked, answer_unmarked}
+use Rattle.model.specs.laws.Unmarked.{marks_off, turned_unmarked, none_unmarked}
 use Rattle.model.specs.Census.{SameCensus}
 use Rattle.model.specs.Demand3.{Plain, Accepted, SameSchema, StructRecords, NoPlaceBoth, Split, NoShorter, SameButOrder, with_records, records_of}
 use Rattle.model.specs.Soundings.{Sounding, batch, Roomy, outcome, soundings}
@@ -111,7 +113,7 @@ demand_1 call = rw (is call) (ends call.batch call.lent (answer call.batch call.
 -- "Answer, field records and name bytes: on every well-formed batch of at most 1,024 places whose schema fits, given a full-length work
 -- table, they equal what Tracer::from_samples and then Tracer::to_schema give, refusal causes included, proved against definitions from
 -- Arrow's Schema.fbs, the Serde data model and document 01." Document 02, 4/14: "Edition 1 is compared with the Rust, edition 2 with the
--- definition alone".
+-- definition alone"; 1/14: "The Rust is compared with the mark taken off".
 
 -- tracing from samples as the definitions have it, in either edition, without a bound on places
 abbrev pub unbounded : Batch → Result Tree
@@ -121,17 +123,21 @@ unbounded b = see_all b.options 0 (records_of b) fresh
 abbrev pub from_samples : (b : Batch) → edition2 b.options ≡ false → Result Tree
 from_samples b first = unbounded b
 
--- and then Tracer::to_schema
+-- and then the schema, as the definitions have it
 abbrev pub then_to_schema : Batch → Result Tree → Result Fields
 then_to_schema b traced = traced >>= to_schema b.options (length b.commands)
 
--- the answer equals what such tracing gives
-pub record AsTraced (b : Batch) (lent : Buffers) (a : Answer) (traced : Result Tree) : Type 0 where
+-- Tracer::to_schema, which knows no mark
+abbrev pub then_unmarked : Batch → Result Tree → Result Fields
+then_unmarked b traced = unmarked (then_to_schema b traced)
+
+-- the answer equals what such tracing gives, and then such a schema
+pub record AsTraced (b : Batch) (lent : Buffers) (a : Answer) (traced : Result Tree) (schema : Result Fields) : Type 0 where
   -- a batch of at most 1,024 places, read off its census, gets what that gives: its refusal and place, or its schema, which fits or
   -- gets 18
-  pub within : AtMost place_limit b.options (records_of b) → a ≡ answer_of b lent (then_to_schema b traced)
+  pub within : AtMost place_limit b.options (records_of b) → a ≡ answer_of b lent schema
   -- so does every other in which no command needs a 1,025th place, or something is refused before
-  pub equal : ((p : ℕ) → Exceeds b.options (records_of b) p → ⊥) → a ≡ answer_of b lent (then_to_schema b traced)
+  pub equal : ((p : ℕ) → Exceeds b.options (records_of b) p → ⊥) → a ≡ answer_of b lent schema
   -- 11 is said at p exactly if the command there is the first that needs a 1,025th place, and nothing is refused before p
   pub eleven : (p : ℕ) → (a ≡ turned_down too_many_places p (zeroed lent)) ↔ Exceeds b.options (records_of b) p
   -- of what is traced to the end it is said exactly if the census knows more than 1,024 places
@@ -142,7 +148,7 @@ pub record AsTraced (b : Batch) (lent : Buffers) (a : Answer) (traced : Result T
 
 -- in either edition, by the definitions
 pub as_defined : (call : Call) → WellFormed call.batch → table_words ≤ length call.lent.table →
-    AsTraced call.batch call.lent (gave call) (unbounded call.batch)
+    AsTraced call.batch call.lent (gave call) (unbounded call.batch) (then_to_schema call.batch (unbounded call.batch))
 as_defined call w t =
     let b = call.batch in
     let lent = call.lent in
@@ -155,10 +161,27 @@ as_defined call w t =
       read = past_reading b lent w;
     })
 
--- in edition 1, by the Rust
+-- the mark taken off both
+without_mark : (b : Batch) (lent : Buffers) (a : Answer) (traced : Result Tree) → AsTraced b lent a traced (then_to_schema b traced) →
+    AsTraced b lent (answer_unmarked a) traced (then_unmarked b traced)
+without_mark b lent a traced d =
+    record {
+      within = λ few. ap answer_unmarked (d.within few) ∙ marks_off b lent (then_to_schema b traced);
+      equal = λ none. ap answer_unmarked (d.equal none) ∙ marks_off b lent (then_to_schema b traced);
+      eleven = λ p. (
+        λ e. (d.eleven p).0 (sym (none_unmarked a (ap (λ (x : Answer). x.field_records) e)) ∙ e),
+        λ x. ap answer_unmarked ((d.eleven p).1 x) ∙ turned_unmarked too_many_places p (zeroed lent),
+      );
+      places = d.places;
+      read = d.read;
+    }
+
+-- in edition 1, by the Rust, with the mark taken off
 pub demand_2 : (call : Call) → (first : edition2 call.batch.options ≡ false) → WellFormed call.batch →
-    table_words ≤ length call.lent.table → AsTraced call.batch call.lent (gave call) (from_samples call.batch first)
-demand_2 call first = as_defined call
+    table_words ≤ length call.lent.table →
+    let rust = from_samples call.batch first in
+    AsTraced call.batch call.lent (answer_unmarked (gave call)) rust (then_unmarked call.batch rust)
+demand_2 call first w t = without_mark call.batch call.lent (gave call) (unbounded call.batch) (as_defined call w t)
 
 -- ---- Demand 3
 -- "For every options word with allow_to_string and enums_without_data_as_strings off, and every two batches of struct records accepted

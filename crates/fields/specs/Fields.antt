@@ -1,10 +1,12 @@
--- What the field of a place is: how many fields stand below it, whether a sample lacks it, whether it is a dictionary or a leaf.
-use Rattle.std.specs.Prelude.{Bool, true, false, not, ◌&&◌, ◌||◌, List, ℕ, zero, suc, eqb, ltb}
+-- What the field of a place is: how many fields stand below it, its nullable byte, whether a sample lacks it, whether it is a dictionary or
+-- a leaf.
+use Rattle.std.specs.Prelude.{Bool, true, false, not, ◌&&◌, ◌||◌, List, ℕ, zero, suc, ◌%◌, eqb, ltb}
 use Rattle.logic.specs.Test.{when◌then◌else◌}
 use Rattle.options.specs.Word.{enums_without_data_as_strings}
 use Rattle.words.specs.Word.{word}
 use Rattle.model.specs.Kinds.{map_kind, union_kind, is_container, is_struct}
-use Rattle.places.specs.Layout.{kind_word, samples_word, held_word}
+use Rattle.places.specs.Layout.{kind_word, nullable_word, samples_word, held_word}
+use Rattle.places.specs.Nullable.{admitting}
 use Rattle.places.specs.Reading.{variant_at, child_limit, next_child}
 use Rattle.walk.specs.Walk.{dataless_at, sum_of}
 
@@ -27,6 +29,11 @@ count_below t kind place = count_from t kind place child_limit 0 (next_child t f
 -- how many fields a place's field has: a map's is its entries
 unfoldable pub field_count : List ℕ → ℕ → ℕ → ℕ
 field_count t kind place = when eqb kind map_kind then 1 else count_below t kind place
+
+-- the nullable byte of a place's field: null is admitted too where a sample lacks it
+abbrev pub nullable_at : List ℕ → ℕ → Bool → ℕ
+nullable_at t place lacking =
+    (when lacking then admitting (word t place nullable_word) else word t place nullable_word) % 256
 
 -- a struct field that some sample lacks
 abbrev pub lacking_at : List ℕ → ℕ → ℕ → ℕ → Bool

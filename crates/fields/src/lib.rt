@@ -1,14 +1,12 @@
-// What the field of a place is: its type and strategy, whether it is nullable, and how many fields stand below it.
+// What the field of a place is: its type and strategy, its nullable byte, and how many fields stand below it.
 
 #![tactic(auto)]
 
 ghost use Rattle.std.specs.Prelude.{◌≡◌, ◌&&◌, ◌||◌, ◌%◌, eqb};
 ghost use Rattle.datatype.specs.Codes.{utf8, large_utf8, strategy_code};
 ghost use Rattle.options.specs.Word.{string_dictionary_encoding};
-ghost use Rattle.words.specs.Word.{word};
 ghost use Rattle.model.specs.Emission.{type_of, strategy_of};
-ghost use Rattle.places.specs.Layout.{null_word};
-ghost use Rattle.fields.specs.Fields.{count_with, count_below, field_count, lacking_at, is_dictionary, is_leaf};
+ghost use Rattle.fields.specs.Fields.{count_with, count_below, field_count, nullable_at, lacking_at, is_dictionary, is_leaf};
 
 use datatype::{DataType, Strategy};
 use options::TracingOptions;
@@ -94,11 +92,17 @@ pub fn strategy_of(kind: u32) -> Strategy
     Strategy::None
 }
 
-// Whether null is admitted: it was seen, or a sample lacks the field.
-pub fn is_nullable(table: &Table, place: Place, lacking: bool) -> bool
-    ensures { result ≡ (lacking || eqb (word table.now place null_word) 1) }
+// The nullable byte: null was seen, or a sample lacks the field; and the place was widened or not.
+#[tactic(auto, using(logic::specs::laws::Test::choice))]
+pub fn nullable(table: &Table, place: Place, lacking: bool) -> u8
+    ensures { result ≡ nullable_at table.now place lacking }
 {
-    lacking || words::get(table, place, Whole::Null) == 1
+    let byte = words::get(table, place, Whole::Nullable);
+    if lacking {
+        (places::admitting(byte) % 256) as u8
+    } else {
+        (byte % 256) as u8
+    }
 }
 
 // A struct field that some sample lacks.

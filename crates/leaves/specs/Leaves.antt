@@ -7,7 +7,9 @@ use Rattle.refusal.specs.declared.Refusal.{Refusal}
 use Rattle.refusal.specs.declared.Refused.{Refused}
 use Rattle.commands.specs.Commands.{refused_at}
 use Rattle.words.specs.Word.{word, with_word}
-use Rattle.places.specs.Layout.{kind_word, null_word, Sound}
+use Rattle.places.specs.Layout.{kind_word, Sound}
+use Rattle.places.specs.Nullable.{with_null, with_widened}
+use Rattle.kinds.specs.declared.Met.{Met}
 use Rattle.kinds.specs.Meeting.{meeting}
 use Rattle.shapes.specs.declared.Leaf.{Leaf}
 use Rattle.leaves.specs.declared.Site.{Site}
@@ -25,19 +27,22 @@ traced_to behind n = Ok (record { next = behind; count = n })
 pub data Out : Type 0 where
   out : Outcome → List ℕ → Out
 
-abbrev pub on_met : ℕ → List ℕ → (ℕ → Out) → Result ℕ Refusal → Out
-on_met here t k (Ok kind) = k kind
+abbrev pub on_met : ℕ → List ℕ → (Met → Out) → Result Met Refusal → Out
+on_met here t k (Ok met) = k met
 on_met here t k (Err refusal) = out (refused_at refusal here) t
 
 -- ---- a primitive at a place
-unfoldable pub stored : Bool → ℕ → ℕ → List ℕ → List ℕ
-stored null kind place t =
-    when null then with_word (with_word t place kind_word kind) place null_word 1
-    else with_word t place kind_word kind
+abbrev pub with_met : Met → ℕ → List ℕ → List ℕ
+with_met met place t =
+    when met.widened then with_widened place (with_word t place kind_word met.kind)
+    else with_word t place kind_word met.kind
+
+unfoldable pub stored : Bool → Met → ℕ → List ℕ → List ℕ
+stored null met place t = when null then with_null place (with_met met place t) else with_met met place t
 
 unfoldable pub observed : ℕ → Bool → ℕ → ℕ → ℕ → ℕ → ℕ → ℕ → List ℕ → Out
 observed options null kind levels here behind place n t =
-    on_met here t (λ joint. out (traced_to behind n) (stored null joint place t)) (meeting options levels (word t place kind_word) kind)
+    on_met here t (λ met. out (traced_to behind n) (stored null met place t)) (meeting options levels (word t place kind_word) kind)
 
 -- the answer of a reader, with the count of places beside it
 abbrev pub counted : Result ℕ Refused → ℕ → Outcome

@@ -2,8 +2,7 @@
 use Rattle.std.specs.Prelude.{Bool, ◌||◌, List, ℕ, ◌+◌, eqb, ltb, length, get_or}
 use Rattle.logic.specs.Test.{when◌then◌else◌}
 use Rattle.logic.specs.Turns.{Turn, again, done, turns}
-use Rattle.words.specs.Word.{with_word}
-use Rattle.places.specs.Layout.{null_word}
+use Rattle.places.specs.Nullable.{with_null}
 
 -- ---- past the commands 10 and 11, of which 10 marks the place
 abbrev pub some_byte : ℕ
@@ -19,7 +18,7 @@ abbrev pub is_mark : ℕ → Bool
 is_mark byte = eqb byte some_byte || eqb byte newtype_byte
 
 unfoldable pub marked : ℕ → ℕ → List ℕ → List ℕ
-marked byte place t = when eqb byte some_byte then with_word t place null_word 1 else t
+marked byte place t = when eqb byte some_byte then with_null place t else t
 
 unfoldable pub past_turn : List ℕ → ℕ → Chain → Turn Chain Chain
 past_turn commands place (chain at t) =

@@ -1,10 +1,11 @@
 -- A primitive by the quick way: a null, which only marks its place, and a value of the type that is there, which changes nothing.
 use Rattle.std.specs.Prelude.{Bool, ◌&&◌, List, ℕ, eqb, ltb, length, get_or, Option, Some, None}
 use Rattle.logic.specs.Test.{when◌then◌else◌}
-use Rattle.words.specs.Word.{word, with_word}
+use Rattle.words.specs.Word.{word}
 use Rattle.shapes.specs.declared.Leaf.{Leaf}
 use Rattle.shapes.specs.Leaf.{is_own_byte, leaf_at}
-use Rattle.places.specs.Layout.{kind_word, null_word}
+use Rattle.places.specs.Layout.{kind_word}
+use Rattle.places.specs.Nullable.{with_null}
 use Rattle.leaves.specs.Marks.{Chain, chain}
 
 -- a value of one byte, of the type that is there
@@ -15,7 +16,7 @@ same_at commands at place t =
 -- the offset behind it and the table then; the offset is 0 where it is neither, and so for a value that is marked
 abbrev pub quick_leaf : ℕ → List ℕ → Option Leaf → Chain
 quick_leaf place t (Some leaf) =
-    when leaf.null then chain leaf.next (with_word t place null_word 1)
+    when leaf.null then chain leaf.next (with_null place t)
     else when eqb (word t place kind_word) leaf.kind then chain leaf.next t
     else chain 0 t
 quick_leaf place t None = chain 0 t

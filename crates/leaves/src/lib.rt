@@ -11,6 +11,7 @@ ghost use Rattle.leaves.specs.Marks.{Chain, is_mark, marked, past_marks};
 ghost use Rattle.leaves.specs.Quick.{same_at, quick_at};
 
 use commands::byte;
+use kinds::Met;
 use options::TracingOptions;
 use refusal::Refused;
 use shapes::Leaf;
@@ -52,7 +53,7 @@ fn mark(byte: u8, place: Place, table: &mut Table)
     ensures { table.new ≡ marked byte place table.old }
 {
     if byte == byte::SOME {
-        words::set(table, place, Whole::Null, 1);
+        places::admit_null(table, place);
     }
 }
 
@@ -72,14 +73,17 @@ pub fn past_marks(commands: &[u8], at: usize, place: Place, table: &mut Table) -
     at.max(commands.len())
 }
 
-// The place has that kind, and null was seen there if so.
+// The place has that kind, and is widened if so; and null was seen there if so.
 #[tactic(auto, using(logic::specs::laws::Test::choice), unfolding(crate::specs::Leaves::stored))]
-fn store(null: bool, kind: u32, place: Place, table: &mut Table)
-    ensures { table.new ≡ stored null kind place table.old }
+fn store(null: bool, met: Met, place: Place, table: &mut Table)
+    ensures { table.new ≡ stored null met place table.old }
 {
-    words::set(table, place, Whole::Kind, kind);
+    words::set(table, place, Whole::Kind, met.kind);
+    if met.widened {
+        places::widen(table, place);
+    }
     if null {
-        words::set(table, place, Whole::Null, 1);
+        places::admit_null(table, place);
     }
 }
 
@@ -107,8 +111,8 @@ pub fn observe(
         return Ok(leaf.next);
     }
     let met = kinds::meet(options, site.levels, before, leaf.kind);
-    let joint = met.map_err(|refusal| refusal.at(here))?;
-    store(leaf.null, joint, site.place, table);
+    let met = met.map_err(|refusal| refusal.at(here))?;
+    store(leaf.null, met, site.place, table);
     Ok(leaf.next)
 }
 
@@ -144,7 +148,7 @@ pub fn past_quick(
     }
     let leaf = shapes::leaf_at(commands, text, options, at)?;
     if leaf.null {
-        words::set(table, place, Whole::Null, 1);
+        places::admit_null(table, place);
         return Some(leaf.next);
     }
     if words::get(table, place, Whole::Kind) == leaf.kind {

@@ -4,7 +4,7 @@ use Rattle.std.proofs.Math.Option.{Option, none, some}
 use Rattle.logic.specs.Test.{when◌then◌else◌}
 use Rattle.datatype.specs.Codes.{null}
 use Rattle.text.specs.Name.{lt_name}
-use Rattle.coerce.specs.Census.{type_seen, non_null}
+use Rattle.coerce.specs.Census.{are_several, type_seen, non_null}
 use Rattle.model.specs.Kinds.{sequence_kind, struct_kind, map_kind, is_container, is_struct, Step, element, key, value, step_code, same}
 use Rattle.model.specs.Reading.{Value, val, cut, Parts, no_parts, cut_off, part}
 use Rattle.model.specs.Tracing.{has, holds, one}
@@ -62,6 +62,15 @@ unfoldable pub container_seen : List ℕ → ℕ
 container_seen [] = null
 container_seen (kind ∷ kinds) = when is_container kind then kind else container_seen kinds
 
+-- the primitive types seen
+unfoldable pub types_seen : List ℕ → List ℕ
+types_seen [] = []
+types_seen (kind ∷ kinds) = when is_container kind then types_seen kinds else kind ∷ types_seen kinds
+
+-- two different ones were, neither of them Null (document 02, 1/14)
+abbrev pub is_widened : List ℕ → Bool
+is_widened kinds = are_several (non_null (types_seen kinds))
+
 unfoldable pub kind_seen : ℕ → List ℕ → ℕ
 kind_seen options kinds = when is_container (container_seen kinds) then container_seen kinds else type_seen options (non_null kinds)
 
@@ -103,6 +112,7 @@ children_of kind seen = when eqb kind struct_kind then seen else as_set seen
 -- ---- what is said of a place
 pub record Said : Type 0 where
   pub null : Bool
+  pub widened : Bool
   pub kind : ℕ
   pub children : List Step
 
@@ -115,6 +125,7 @@ unfoldable pub census : ℕ → List Step → Bool → List Value → Option Sai
 census options [] lacking vs =
     some (record {
       null = lacking || any_null vs;
+      widened = is_widened (kinds_seen vs);
       kind = kind_seen options (kinds_seen vs);
       children = children_of (kind_seen options (kinds_seen vs)) (steps_seen vs []);
     })

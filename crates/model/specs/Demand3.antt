@@ -89,8 +89,8 @@ is_listed above type strategy = eqb type struct && eqb strategy no_strategy && n
 -- the order of their names; all others as they stand
 unfoldable mutual
   pub in_name_order_of : ℕ → Field → Field
-  in_name_order_of above (mk type nullable strategy number name fs) =
-      mk type nullable strategy number name
+  in_name_order_of above (mk type m strategy number name fs) =
+      mk type m strategy number name
       (when is_listed above type strategy then by_name (in_name_order_below type fs) else in_name_order_below type fs)
 
   pub in_name_order_below : ℕ → Fields → Fields

@@ -1,6 +1,6 @@
 -- From the tree of places to the schema: refusals 12 to 17, the fields, and their records and names (document 01, "Field records";
 -- Tracer::to_schema).
-use Rattle.std.specs.Prelude.{Bool, true, false, not, ◌&&◌, ◌||◌, List, [], ◌∷◌, ◌++◌, ℕ, zero, suc, ◌+◌, ◌-◌, ◌/◌, ◌%◌, eqb, leb, ltb, length}
+use Rattle.std.specs.Prelude.{Bool, true, false, not, ◌&&◌, ◌||◌, List, [], ◌∷◌, ◌++◌, ℕ, zero, suc, ◌+◌, ◌-◌, ◌*◌, ◌/◌, ◌%◌, eqb, leb, ltb, length}
 use Rattle.std.proofs.Math.Option.{Option, none, some}
 use Rattle.logic.specs.Test.{when◌then◌else◌}
 use Rattle.datatype.specs.Codes.{null, utf8, large_utf8, struct, no_strategy, tuple_as_struct, map_as_struct, unknown_variant}
@@ -10,13 +10,13 @@ use Rattle.text.specs.Name.{lt_name}
 use Rattle.text.specs.Decimal.{decimal}
 use Rattle.model.specs.Result.{Result, accepted, refused}
 use Rattle.model.specs.Kinds.{sequence_kind, map_kind, union_kind, tuple_kind, map_mode_kind, is_struct, Step, field, element, position, key, value, variant, variant_of}
-use Rattle.model.specs.Tracing.{Tree, node, Kids, no_kids, kid, one}
+use Rattle.model.specs.Tracing.{Marks, marks, Tree, node, Kids, no_kids, kid, one}
 
--- ---- the places as the walk finds them: whether null is admitted, the kind, and the places below, in order of first sight, the variants
--- of a union by their numbers
+-- ---- the places as the walk finds them: whether null is admitted and whether it was widened, the kind, and the places below, in order of
+-- first sight, the variants of a union by their numbers
 mutual
   pub data Place : Type 0 where
-    shown : (null : Bool) → (kind : ℕ) → Places → Place
+    shown : Marks → (kind : ℕ) → Places → Place
 
   pub data Places : Type 0 where
     none_below : Places
@@ -37,10 +37,14 @@ by_number (below s p ps) = insert_variant s p (by_number ps)
 abbrev pub is_missing : ℕ → ℕ → ℕ → Bool
 is_missing kind samples held = is_struct kind && ltb held samples
 
+-- null is admitted too, if so
+abbrev pub admitted : Bool → Marks → Marks
+admitted null m = marks (null || m.null) m.widened
+
 unfoldable mutual
   pub place_of : Bool → Tree → Place
-  place_of missing (node null kind samples kids) =
-      shown (missing || null) kind
+  place_of missing (node m kind samples kids) =
+      shown (admitted missing m) kind
       (when eqb kind union_kind then by_number (places_of kind samples kids) else places_of kind samples kids)
 
   pub places_of : ℕ → ℕ → Kids → Places
@@ -49,7 +53,7 @@ unfoldable mutual
 
 -- ---- a union of only dataless variants (unknown or Null places) without gaps
 abbrev pub is_dataless : Place → Bool
-is_dataless (shown admits kind ps) = eqb kind null
+is_dataless (shown m kind ps) = eqb kind null
 
 unfoldable pub dataless_from : ℕ → Places → Bool
 dataless_from slot none_below = true
@@ -69,7 +73,7 @@ first_of (some refusal) other = some refusal
 
 unfoldable mutual
   pub walk : ℕ → Place → Option ℕ
-  walk options (shown admits kind ps) =
+  walk options (shown m kind ps) =
       when eqb kind null then (when allow_null_fields options then none else some null_field)
       else when eqb kind union_kind && dataless ps && enums_without_data_as_strings options then none
       else when eqb kind union_kind && dataless ps && not (allow_null_fields options) then some dataless_union
@@ -81,10 +85,11 @@ unfoldable mutual
       when eqb kind union_kind && leb slot_limit (variant_of s) then some too_many_slots
       else first_of (walk options p) (walks options kind ps)
 
--- ---- a field of the schema, with all below it: type, nullable, strategy, variant number, name, children
+-- ---- a field of the schema, with all below it: type, whether it is nullable and whether its place was widened, strategy, variant number,
+-- name, children
 mutual
   pub data Field : Type 0 where
-    mk : (type : ℕ) → (nullable : Bool) → (strategy number : ℕ) → (name : List ℕ) → Fields → Field
+    mk : (type : ℕ) → Marks → (strategy number : ℕ) → (name : List ℕ) → Fields → Field
 
   pub data Fields : Type 0 where
     no_fields : Fields
@@ -127,7 +132,7 @@ name_of value = value_name
 name_of (variant number name) = name
 
 abbrev pub name_in : Field → List ℕ
-name_in (mk type nullable strategy number name fs) = name
+name_in (mk type m strategy number name fs) = name
 
 -- sorted by name bytes
 unfoldable pub insert_field : Field → Fields → Fields
@@ -140,7 +145,7 @@ by_name (more f fs) = insert_field f (by_name fs)
 
 -- a union slot never seen is an unnamed nullable Null with strategy 3
 abbrev pub gap : ℕ → Field
-gap slot = mk null true unknown_variant slot [] no_fields
+gap slot = mk null (marks true false) unknown_variant slot [] no_fields
 
 unfoldable pub gaps : ℕ → ℕ → Fields → Fields
 gaps slot zero fs = fs
@@ -149,17 +154,17 @@ gaps slot (suc n) fs = more (gap slot) (gaps (slot + 1) n fs)
 -- a map's key and value stand in its entries; map-mode fields are sorted
 unfoldable pub arranged : ℕ → Fields → Fields
 arranged kind fs =
-    when eqb kind map_kind then more (mk struct false no_strategy 0 entries_name fs) no_fields
+    when eqb kind map_kind then more (mk struct (marks false false) no_strategy 0 entries_name fs) no_fields
     else when eqb kind map_mode_kind then by_name fs
     else fs
 
 -- the field of a place with that name and variant number
 unfoldable mutual
   pub field_of : ℕ → List ℕ → ℕ → Place → Field
-  field_of options name number (shown admits kind ps) =
+  field_of options name number (shown m kind ps) =
       when eqb kind union_kind && dataless ps && enums_without_data_as_strings options
-      then mk (dictionary_type options) admits no_strategy number name no_fields
-      else mk (type_of options kind) admits (strategy_of kind) number name (arranged kind (fields_of options kind 0 ps))
+      then mk (dictionary_type options) m no_strategy number name no_fields
+      else mk (type_of options kind) m (strategy_of kind) number name (arranged kind (fields_of options kind 0 ps))
 
   -- of a union from that slot on, with the slots never seen
   pub fields_of : ℕ → ℕ → ℕ → Places → Fields
@@ -170,8 +175,8 @@ unfoldable mutual
 
 -- ---- refusals 15 to 17, of the root's emitted field
 abbrev pub root_fields : ℕ → Field → Result Fields
-root_fields end (mk type nullable strategy number name fs) =
-    when nullable then refused nullable_root end
+root_fields end (mk type m strategy number name fs) =
+    when m.null then refused nullable_root end
     else when eqb type null then refused null_root end
     else when eqb type struct then accepted fs
     else refused root_not_struct end
@@ -198,11 +203,16 @@ child_count (more f fs) = suc (child_count fs)
 abbrev pub two_bytes : ℕ → List ℕ
 two_bytes n = n % 256 ∷ n / 256 ∷ []
 
--- type; nullable; strategy; variant number; name length; child count
+-- the nullable byte: 1 where null is admitted, "and the nullable byte gets 2 added where a place saw two different non-null primitive
+-- types" (document 02, 1/14)
+abbrev pub nullable_byte : Marks → ℕ
+nullable_byte m = one m.null + 2 * one m.widened
+
+-- type; nullable byte; strategy; variant number; name length; child count
 unfoldable mutual
   pub records_of : Field → List ℕ
-  records_of (mk type nullable strategy number name fs) =
-      (type ∷ one nullable ∷ strategy ∷ number ∷ two_bytes (length name) ++ two_bytes (child_count fs)) ++ records_in fs
+  records_of (mk type m strategy number name fs) =
+      (type ∷ nullable_byte m ∷ strategy ∷ number ∷ two_bytes (length name) ++ two_bytes (child_count fs)) ++ records_in fs
 
   pub records_in : Fields → List ℕ
   records_in no_fields = []
@@ -210,7 +220,7 @@ unfoldable mutual
 
 unfoldable mutual
   pub names_of : Field → List ℕ
-  names_of (mk type nullable strategy number name fs) = name ++ names_in fs
+  names_of (mk type m strategy number name fs) = name ++ names_in fs
 
   pub names_in : Fields → List ℕ
   names_in no_fields = []
@@ -223,7 +233,7 @@ is_column type children = eqb children 0 && not (eqb type struct)
 
 unfoldable mutual
   pub columns_of : Field → ℕ
-  columns_of (mk type nullable strategy number name fs) = one (is_column type (child_count fs)) + columns_in fs
+  columns_of (mk type m strategy number name fs) = one (is_column type (child_count fs)) + columns_in fs
 
   pub columns_in : Fields → ℕ
   columns_in no_fields = 0
@@ -231,7 +241,7 @@ unfoldable mutual
 
 unfoldable mutual
   pub count_of : Field → ℕ
-  count_of (mk type nullable strategy number name fs) = suc (count_in fs)
+  count_of (mk type m strategy number name fs) = suc (count_in fs)
 
   pub count_in : Fields → ℕ
   count_in no_fields = 0

@@ -5,6 +5,7 @@ pub mod Tracing
 pub mod Unbounded
 pub mod Emission
 pub mod Answer
+pub mod Unmarked
 pub mod Census
 pub mod Bound
 pub mod Demand3

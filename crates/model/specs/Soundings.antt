@@ -56,9 +56,16 @@ first_of (suc n) fields = take record_bytes fields
 abbrev pub outcome : Answer → List ℕ
 outcome a = a.refusal ∷ a.field_records ∷ first_of a.field_records a.left.fields
 
--- the field `x` with so many children, none of which has any, and its record: type, and how many children
+-- the field `x` with so many children, none of which has any, and its record: type, nullable byte, and how many children
+abbrev record_with : ℕ → ℕ → ℕ → List ℕ
+record_with type nullable children = 0 ∷ (1 + children) ∷ type ∷ nullable ∷ 0 ∷ 0 ∷ 1 ∷ 0 ∷ children ∷ 0 ∷ []
+
 abbrev field : ℕ → ℕ → List ℕ
-field type children = 0 ∷ (1 + children) ∷ type ∷ 0 ∷ 0 ∷ 0 ∷ 1 ∷ 0 ∷ children ∷ 0 ∷ []
+field type children = record_with type 0 children
+
+-- a field without children whose place saw two different types: 2 in the nullable byte (document 02, 1/14)
+abbrev widened : ℕ → List ℕ
+widened type = record_with type 2 0
 
 abbrev refusal : ℕ → List ℕ
 refusal number = number ∷ 0 ∷ []
@@ -101,12 +108,12 @@ row options shown text gives = record { options = options; shown = shown; text =
 unfoldable pub soundings : List Sounding
 soundings =
     row default (u8 ∷ u8 ∷ []) [] (field uint8 0) ∷
-    row coerce (u8 ∷ u16 ∷ []) [] (field uint64 0) ∷
-    row coerce (u8 ∷ i8 ∷ []) [] (field int64 0) ∷
+    row coerce (u8 ∷ u16 ∷ []) [] (widened uint64) ∷
+    row coerce (u8 ∷ i8 ∷ []) [] (widened int64) ∷
     row coerce (f32 ∷ f32 ∷ []) [] (field float32 0) ∷
-    row coerce (f32 ∷ i8 ∷ []) [] (field float64 0) ∷
+    row coerce (f32 ∷ i8 ∷ []) [] (widened float64) ∷
     row default (u8 ∷ u16 ∷ []) [] (refusal no_joint) ∷
-    row to_string (bool ∷ string 0 ∷ i32 ∷ []) [] (field large_utf8 0) ∷
+    row to_string (bool ∷ string 0 ∷ i32 ∷ []) [] (widened large_utf8) ∷
     row to_string (bool ∷ i32 ∷ string 0 ∷ []) [] (refusal no_joint) ∷
     row guess_dates (string 19 ∷ []) blank_datetime (field large_utf8 0) ∷
     row guess_dates (string 20 ∷ []) (blank_datetime ++ (90 ∷ [])) (field timestamp_utc 0) ∷

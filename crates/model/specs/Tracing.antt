@@ -5,36 +5,45 @@ use Rattle.logic.specs.Test.{when◌then◌else◌}
 use Rattle.datatype.specs.Codes.{null}
 use Rattle.refusal.specs.Number.{too_deep, mismatch, two_names, no_joint, too_many_places}
 use Rattle.text.specs.Name.{dots}
-use Rattle.coerce.specs.Joint.{joint}
+use Rattle.coerce.specs.Joint.{joint, differ}
 use Rattle.model.specs.Result.{Result, accepted, refused, ◌>>=◌, or_refused}
 use Rattle.model.specs.Kinds.{sequence_kind, map_kind, tuple_kind, is_container, is_struct, Step, field, element, position, key, value, variant, same, variant_of, is_variant}
 use Rattle.model.specs.Reading.{Value, val, cut, Parts, no_parts, cut_off, part}
 
--- A place and all below it: whether null was seen there, its kind (Null while unknown), how many containers stood there, and the places
--- below in order of first sight, each with the number of those containers that held it.
+-- The marks of a place: null was seen there; it was widened, that is, two different primitive types were seen there, neither of them Null
+-- (document 02, 1/14).
+pub record Marks : Type 0 where
+  pub null : Bool
+  pub widened : Bool
+
+abbrev pub marks : Bool → Bool → Marks
+marks null widened = record { null = null; widened = widened }
+
+-- A place and all below it: its marks, its kind (Null while unknown), how many containers stood there, and the places below in order of
+-- first sight, each with the number of those containers that held it.
 mutual
   pub data Tree : Type 0 where
-    node : (null : Bool) → (kind samples : ℕ) → Kids → Tree
+    node : Marks → (kind samples : ℕ) → Kids → Tree
 
   pub data Kids : Type 0 where
     no_kids : Kids
     kid : Step → (held : ℕ) → Tree → Kids → Kids
 
-abbrev pub null_of : Tree → Bool
-null_of (node null kind samples kids) = null
+abbrev pub marks_of : Tree → Marks
+marks_of (node m kind samples kids) = m
 
 abbrev pub kind_of : Tree → ℕ
-kind_of (node null kind samples kids) = kind
+kind_of (node m kind samples kids) = kind
 
 abbrev pub samples_of : Tree → ℕ
-samples_of (node null kind samples kids) = samples
+samples_of (node m kind samples kids) = samples
 
 abbrev pub kids_of : Tree → Kids
-kids_of (node null kind samples kids) = kids
+kids_of (node m kind samples kids) = kids
 
 -- an unseen place
 abbrev pub fresh : Tree
-fresh = node false null 0 no_kids
+fresh = node (marks false false) null 0 no_kids
 
 -- ---- depth: the number of dots in a path, and a name's own dots count
 abbrev pub dots_of : Step → ℕ
@@ -67,6 +76,15 @@ meet options depth at kind other =
     else when eqb kind null then accepted other
     else when same_container kind other then accepted kind
     else refused mismatch at
+
+-- a value widens a place where its type and the place's differ: the place has the first type that it saw until another comes, so that two
+-- of all those seen there differ exactly where a value widened it
+abbrev pub widens : ℕ → ℕ → Bool
+widens kind other = not (is_container kind || is_container other) && differ kind other
+
+-- the place's marks then
+abbrev pub marks_with : (null : Bool) → (kind other : ℕ) → Marks → Marks
+marks_with null kind other m = marks (m.null || null) (m.widened || widens kind other)
 
 -- ---- the places below a place
 unfoldable pub steps_of : Kids → List Step
@@ -150,7 +168,8 @@ unfoldable mutual
     met ← meet options depth at (kind_of tree) kind
     opened ← make at (made kind positions (kind_of tree)) places (kids_of tree)
     filled ← observe_parts options depth ps opened.places opened.what
-    counted filled.places (node (null_of tree || null) met (samples_of tree + one (is_container kind)) (tally ps filled.what))
+    counted filled.places
+        (node (marks_with null (kind_of tree) kind (marks_of tree)) met (samples_of tree + one (is_container kind)) (tally ps filled.what))
   observe options depth (cut refusal place) places tree = refused refusal place
 
   pub observe_parts : ℕ → ℕ → Parts → ℕ → Kids → Result (Counted Kids)

@@ -1,12 +1,12 @@
 -- Tracing without the bound on places, as Tracer::from_samples has none: the same tests but refusal 11, and no count is kept. Demand 2
 -- speaks of it; that it gives what tracing with the bound gives, but for 11, is proved in `equality`.
-use Rattle.std.specs.Prelude.{Bool, true, ◌||◌, List, [], ◌∷◌, ℕ, ◌+◌}
+use Rattle.std.specs.Prelude.{Bool, true, List, [], ◌∷◌, ℕ, ◌+◌}
 use Rattle.logic.specs.Test.{when◌then◌else◌}
 use Rattle.refusal.specs.Number.{two_names}
 use Rattle.model.specs.Result.{Result, accepted, refused, ◌>>=◌}
 use Rattle.model.specs.Kinds.{is_container, Step}
 use Rattle.model.specs.Reading.{Value, val, cut, Parts, no_parts, cut_off, part}
-use Rattle.model.specs.Tracing.{Tree, node, Kids, null_of, kind_of, samples_of, kids_of, dots_of, meet, steps_of, kid_at, put, clashes, made, one, tally}
+use Rattle.model.specs.Tracing.{Tree, node, Kids, marks_of, kind_of, samples_of, kids_of, dots_of, meet, marks_with, steps_of, kid_at, put, clashes, made, one, tally}
 
 unfoldable pub make_all : List Step → Kids → Kids
 make_all [] kids = kids
@@ -21,7 +21,7 @@ unfoldable mutual
   see options depth (val at null kind positions ps) tree = do
     met ← meet options depth at (kind_of tree) kind
     kids ← see_parts options depth ps (make_all (made kind positions (kind_of tree)) (kids_of tree))
-    accepted (node (null_of tree || null) met (samples_of tree + one (is_container kind)) (tally ps kids))
+    accepted (node (marks_with null (kind_of tree) kind (marks_of tree)) met (samples_of tree + one (is_container kind)) (tally ps kids))
   see options depth (cut refusal place) tree = refused refusal place
 
   pub see_parts : ℕ → ℕ → Parts → Kids → Result Kids

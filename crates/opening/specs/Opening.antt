@@ -14,6 +14,7 @@ use Rattle.places.specs.Layout.{kind_word, Sound, Ready}
 use Rattle.places.specs.declared.Places.{Places}
 use Rattle.places.specs.Places.{Same}
 use Rattle.growth.specs.Growth.{Found, found, Ensuring, ensuring, ensured, Making, making, made, touched, sampled}
+use Rattle.kinds.specs.declared.Met.{Met}
 use Rattle.kinds.specs.Meeting.{meeting}
 use Rattle.shapes.specs.Field.{Field, field_at}
 
@@ -27,8 +28,8 @@ unfoldable pub held : List ℕ → ℕ → Step → ℕ → List ℕ → Ensurin
 held text place step n t = holding place (ensured text place step n t)
 
 -- a container meets what the place is, is one more sample there, and makes its children
-abbrev pub made_where : List ℕ → (ℕ → Making) → Result ℕ Refusal → Making
-made_where t k (Ok joint) = k joint
+abbrev pub made_where : List ℕ → (ℕ → Making) → Result Met Refusal → Making
+made_where t k (Ok met) = k met.kind
 made_where t k (Err refusal) = making (Err refusal) t
 
 unfoldable pub container_made : List ℕ → ℕ → ℕ → ℕ → ℕ → ℕ → ℕ → List ℕ → Making
@@ -38,8 +39,8 @@ container_made text options levels kind positions place n t =
     (meeting options levels (word t place kind_word) kind)
 
 -- a variant meets what the place is, and is one more sample there, which holds the variant's place
-abbrev pub held_where : List ℕ → (ℕ → Ensuring) → Result ℕ Refusal → Ensuring
-held_where t k (Ok joint) = k joint
+abbrev pub held_where : List ℕ → (ℕ → Ensuring) → Result Met Refusal → Ensuring
+held_where t k (Ok met) = k met.kind
 held_where t k (Err refusal) = ensuring (Err refusal) t
 
 unfoldable pub variant_held : List ℕ → ℕ → ℕ → ℕ → Name → ℕ → ℕ → List ℕ → Ensuring

@@ -43,8 +43,8 @@ pub fn open_container(
         places.old places.new result }
 {
     let before = words::get(places.table, place, Whole::Kind);
-    let joint = kinds::meet(options, levels, before, container.kind)?;
-    growth::sample(place, joint, places.table);
+    let met = kinds::meet(options, levels, before, container.kind)?;
+    growth::sample(place, met.kind, places.table);
     growth::make(places, place, container, before)
 }
 
@@ -64,8 +64,8 @@ pub fn open_variant(
         places.old places.new result }
 {
     let before = words::get(places.table, place, Whole::Kind);
-    let joint = kinds::meet(options, levels, before, shapes::UNION)?;
-    growth::sample(place, joint, places.table);
+    let met = kinds::meet(options, levels, before, shapes::UNION)?;
+    growth::sample(place, met.kind, places.table);
     hold(places, place, Step::Variant(number, name))
 }
 

@@ -9,13 +9,13 @@ use Rattle.shapes.specs.Steps.{field_code, unpacked_name, Inside}
 
 -- Words 6 to 13 are links (`is_link` of words), two to a word of the row: 6 with 7, 8 with 9, 10 with 11, 12 with 13.
 --
--- A place's own words, which whoever reads a value at the place writes: 0, 1 and 2 are free; kind, whether null was seen, samples; first
--- and last child.
+-- A place's own words, which whoever reads a value at the place writes: 0, 1 and 2 are free; kind, nullable byte (`Nullable`), samples;
+-- first and last child.
 abbrev pub kind_word : ℕ
 kind_word = 3
 
-abbrev pub null_word : ℕ
-null_word = 4
+abbrev pub nullable_word : ℕ
+nullable_word = 4
 
 abbrev pub samples_word : ℕ
 samples_word = 5

@@ -1,4 +1,5 @@
 pub mod Layout
+pub mod Nullable
 pub mod Places
 pub mod Reading
 pub mod Children

@@ -1,14 +1,12 @@
 -- What bytes put into a buffer give, with room for them and without.
-use borrow.Author.Tests.{lt-ltb, le-ltb}
-use mathlib.Core.Path.{◌≡◌, refl, ◌∙◌, ap}
+use mathlib.Core.Path.{◌≡◌, refl, ◌∙◌}
 use mathlib.Core.List.{List}
-use Prim.Native.Nat.{ℕ, ◌+◌, ◌-◌, ◌<◌, ◌≤◌}
+use Prim.Native.Nat.{ℕ, ◌+◌, ◌-◌}
 use native.Mathlib.Omega.{arith}
 use Rattle.std.proofs.Common.{append_assoc, take, drop, length}
 use Rattle.std.proofs.Math.Seq.{take-length}
 use Rattle.std.proofs.lemmas.Slice.{put_mid-paste}
 use borrow.Rule.Slice.PartMut.{put_mid}
-use Rattle.logic.specs.Test.{when◌then◌else◌}
 use Rattle.logic.specs.Buffer.{written}
 use Rattle.logic.specs.laws.Test.{if_passed, if_failed}
 use Rattle.logic.specs.laws.Buffer.{length_written}

@@ -1,11 +1,10 @@
 -- Field records and names in the output buffers, each written where there is room.
-use Rattle.std.specs.Prelude.{◌≡◌, Bool, true, false, List, [], ◌∷◌, ◌-◌, ℕ, zero, suc, ◌+◌, ◌/◌, ◌%◌, ◌≤◌, eqb, ltb, length}
+use Rattle.std.specs.Prelude.{◌≡◌, List, [], ◌∷◌, ◌-◌, ℕ, zero, suc, ◌+◌, ◌/◌, ◌%◌, ◌≤◌, eqb, ltb, length}
 use Rattle.logic.specs.Test.{when◌then◌else◌}
 use Rattle.logic.specs.Slices.{MutSlice, at_entry, at_exit}
 use Rattle.logic.specs.Buffer.{written}
 use Rattle.datatype.specs.Codes.{null, struct, no_strategy, unknown_variant}
 use Rattle.model.specs.Kinds.{map_kind}
-use Rattle.model.specs.Tracing.{one}
 use Rattle.model.specs.Emission.{entries_name}
 use Rattle.walk.specs.Walk.{sum_of}
 use Rattle.putting.specs.declared.Record.{Record}
@@ -23,10 +22,10 @@ put_bytes bytes buffer at =
 abbrev pub Puts : List ℕ → MutSlice → ℕ → ℕ → Type 0
 Puts bytes buffer at r = (put r (at_exit buffer) ≡ put_bytes bytes (at_entry buffer) at) × (r ≤ length (at_exit buffer))
 
--- type; nullable; strategy; variant number; name length; child count
-abbrev pub record_of : ℕ → Bool → ℕ → ℕ → ℕ → ℕ → List ℕ
+-- type; nullable byte; strategy; variant number; name length; child count
+abbrev pub record_of : ℕ → ℕ → ℕ → ℕ → ℕ → ℕ → List ℕ
 record_of type nullable strategy number length children =
-    type ∷ one nullable ∷ strategy ∷ number ∷ length % 256 ∷ length / 256 % 256 ∷ children % 256 ∷ children / 256 % 256 ∷ []
+    type ∷ nullable ∷ strategy ∷ number ∷ length % 256 ∷ length / 256 % 256 ∷ children % 256 ∷ children / 256 % 256 ∷ []
 
 abbrev pub record_bytes : Record → List ℕ
 record_bytes r = record_of r.kind r.nullable r.strategy r.number r.name_length r.children
@@ -35,7 +34,7 @@ record_bytes r = record_of r.kind r.nullable r.strategy r.number r.name_length r
 unfoldable pub put_gaps : ℕ → ℕ → ℕ → Put → Put
 put_gaps slot i zero (put at buffer) = put at buffer
 put_gaps slot i (suc count) (put at buffer) =
-    put_gaps slot (suc i) count (put_bytes (record_of null true unknown_variant (sum_of slot i % 256) 0 0) buffer at)
+    put_gaps slot (suc i) count (put_bytes (record_of null 1 unknown_variant (sum_of slot i % 256) 0 0) buffer at)
 
 -- ---- both buffers
 -- where the next record and the next name go, and both buffers
@@ -62,5 +61,5 @@ gaps_in slot count (writing i j fields names) = as_writing (put_gaps slot 0 coun
 -- a map's entries
 unfoldable pub entries_in : ℕ → Writing → Writing
 entries_in kind w =
-    when eqb kind map_kind then both (record_of struct false no_strategy 0 (length entries_name) 2) entries_name w
+    when eqb kind map_kind then both (record_of struct 0 no_strategy 0 (length entries_name) 2) entries_name w
     else w

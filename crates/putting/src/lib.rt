@@ -12,15 +12,21 @@ use datatype::{DataType, Strategy};
 use shapes::Step;
 use words::{Place, Table};
 
+// The nullable bytes of slots never seen and of a map's entries, which stand for no place, so that none was widened.
+const NULLABLE: u8 = 1;
+
+const NOT_NULLABLE: u8 = 0;
+
 // The fields of a map's entries.
 const ENTRIES_FIELDS: u32 = 2;
 
-// What a field record says: among it the code of its type, the length of its name in bytes, and how many fields stand below it. Type and
-// strategy are bytes, which any may be: enums would ask more of callers, who have a type from a place's kind, which is any word.
+// What a field record says: among it the code of its type, its nullable byte, the length of its name in bytes, and how many fields stand
+// below it. The first three are bytes, which any may be: enums would ask more of callers, who have a type from a place's kind, which is any
+// word.
 #[derive(Clone, Copy)]
 pub struct Record {
     pub kind: u8,
-    pub nullable: bool,
+    pub nullable: u8,
     pub strategy: u8,
     pub number: u8,
     pub name_length: u32,
@@ -61,7 +67,7 @@ impl Record {
         let [children, children_high, ..] = self.children.to_le_bytes();
         [
             self.kind,
-            u8::from(self.nullable),
+            self.nullable,
             self.strategy,
             self.number,
             length,
@@ -139,7 +145,7 @@ impl<'f, 'n> Output<'f, 'n> {
         for i in 0..count {
             self.put_record(Record {
                 kind: DataType::Null.code(),
-                nullable: true,
+                nullable: NULLABLE,
                 strategy: Strategy::UnknownVariant.code(),
                 number: (slot.wrapping_add(i) % 256) as u8,
                 name_length: 0,
@@ -158,7 +164,7 @@ impl<'f, 'n> Output<'f, 'n> {
         }
         self.put_record(Record {
             kind: DataType::Struct.code(),
-            nullable: false,
+            nullable: NOT_NULLABLE,
             strategy: Strategy::None.code(),
             number: 0,
             name_length: places::ENTRIES_NAME.len() as u32,

@@ -1,18 +1,19 @@
 // Replays the files of records: texts through the four matchers and text_type, byte strings through is_utf8, pairs of
-// types through coerce_primitive_type, each against the answers of the published Rust, or of Rust's from_utf8, and pairs in
-// edition 2 against the account's.
+// types through coerce_primitive_type, each against the answers of the published Rust, or of Rust's from_utf8; whether two types differ,
+// and pairs in edition 2, against the account's.
 
 #![tactic(auto)]
 
 ghost use Rattle.std.specs.Prelude.{◌≡◌, ◌≤◌};
 ghost use Rattle.datatype.specs.Codes.{code_of};
 ghost use Rattle.chrono.specs.Text.{text_type};
-ghost use Rattle.coerce.specs.Joint.{joint};
+ghost use Rattle.coerce.specs.Joint.{pairing};
 ghost use Rattle.replay.specs.Tally.{record_tally};
 ghost use Rattle.record_vectors.specs.Texts.{matchers_of, text_agrees};
 ghost use Rattle.record_vectors.specs.Names.{name_agrees};
-ghost use Rattle.record_vectors.specs.Joints.{stored_as, joint_agrees};
+ghost use Rattle.record_vectors.specs.Joints.{stored_as, pairing_agrees};
 
+use coerce::Pairing;
 use datatype::DataType;
 use options::TracingOptions;
 use replay::{Counted, Tally};
@@ -22,8 +23,10 @@ const GUESS_DATES: u16 = 256;
 
 const STRING_AS_LARGE_UTF8: u16 = 8;
 
-// What stands in a record for no joint.
+// What stands in a record for no joint, and what is added to a joint's code where the types differ.
 const NONE: u8 = 255;
+
+const DIFFER: u8 = 32;
 
 // The matchers' answers: naive datetime, UTC datetime, time and date, from the lowest bit on.
 fn matchers(text: &[u8]) -> u8
@@ -70,17 +73,22 @@ fn name_agrees(record: &[u8]) -> bool
     record[0] == u8::from(name.is_utf8(record))
 }
 
-fn joint(first: DataType, second: DataType, options: TracingOptions) -> u8
-    ensures { result ≡ stored_as (joint options.word (code_of first) (code_of second)) }
+// What two types give, as it stands in a record.
+fn pairing(first: DataType, second: DataType, options: TracingOptions) -> u8
+    ensures { result ≡ stored_as (pairing options.word (code_of first) (code_of second)) }
 {
-    coerce::coerce_primitive_type(first, second, options).map_or(NONE, DataType::code)
+    match coerce::coerce_primitive_type(first, second, options) {
+        Pairing::Alike(joint) => joint.code(),
+        Pairing::Widened(joint) => joint.code() + DIFFER,
+        Pairing::Apart => NONE,
+    }
 }
 
-// A record: the options word, low byte first, the codes of the first and the second type, the code of their joint.
-fn joint_agrees(record: &[u8]) -> bool
-    ensures { result ≡ joint_agrees «record».now }
+// A record: the options word, low byte first, the codes of the first and the second type, what they give.
+fn pairing_agrees(record: &[u8]) -> bool
+    ensures { result ≡ pairing_agrees «record».now }
 {
-    let [_, _, first, second, code] = *record else {
+    let [_, _, first, second, stored] = *record else {
         return false;
     };
     let options = TracingOptions::new(files::two_bytes(record, 0));
@@ -90,7 +98,7 @@ fn joint_agrees(record: &[u8]) -> bool
     let Ok(second) = DataType::try_from(second) else {
         return false;
     };
-    joint(first, second, options) == code
+    pairing(first, second, options) == stored
 }
 
 // The contract of each closure says which check its file's tally is of. One function for the three, over the check, could name
@@ -117,7 +125,7 @@ fn main(rt: HostRuntime) {
         "joints.bin",
         "joints",
         |vectors: &[u8]| -> Tally
-            ensures { result ≡ record_tally joint_agrees vectors.now }
-        { replay::replay(&rt, vectors, Counted, joint_agrees) },
+            ensures { result ≡ record_tally pairing_agrees vectors.now }
+        { replay::replay(&rt, vectors, Counted, pairing_agrees) },
     );
 }

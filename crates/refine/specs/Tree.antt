@@ -6,9 +6,10 @@ use Rattle.text.specs.Name.{bytes_of}
 use Rattle.words.specs.Word.{word}
 use Rattle.model.specs.Result.{Result, refused}
 use Rattle.model.specs.Kinds.{Step, field, element, position, key, value, variant}
-use Rattle.model.specs.Tracing.{Tree, node, Kids, no_kids, kid, fresh, place_limit, Counted, counted}
+use Rattle.model.specs.Tracing.{Marks, marks, Tree, node, Kids, no_kids, kid, fresh, place_limit, Counted, counted}
 use Rattle.shapes.specs.Steps.{field_code, unpacked_name}
-use Rattle.places.specs.Layout.{kind_word, null_word, samples_word, first_word, next_word, step_word, name_word, held_word, root_place}
+use Rattle.places.specs.Layout.{kind_word, nullable_word, samples_word, first_word, next_word, step_word, name_word, held_word, root_place}
+use Rattle.places.specs.Nullable.{is_null, is_widened}
 use Rattle.leaves.specs.Leaves.{Out, out}
 
 -- a step by its word and its name: 0 element, 1 key, 2 value, 3 field, then positions and variants by turns
@@ -24,12 +25,16 @@ step_by code name =
 abbrev pub step_at : List ℕ → List ℕ → ℕ → Step
 step_at text t p = step_by (word t p step_word) (bytes_of text (unpacked_name (word t p name_word)))
 
+-- the marks of a place by its nullable byte
+abbrev pub marks_by : ℕ → Marks
+marks_by byte = marks (is_null byte) (is_widened byte)
+
 -- the tree from a place on, and its siblings' from a child on; the first number bounds how deep the reading goes
 unfoldable mutual
   pub tree_at : ℕ → List ℕ → List ℕ → ℕ → Tree
   tree_at zero text t p = fresh
   tree_at (suc deep) text t p =
-      node (eqb (word t p null_word) 1) (word t p kind_word) (word t p samples_word) (kids_at deep text t (word t p first_word))
+      node (marks_by (word t p nullable_word)) (word t p kind_word) (word t p samples_word) (kids_at deep text t (word t p first_word))
 
   pub kids_at : ℕ → List ℕ → List ℕ → ℕ → Kids
   kids_at zero text t c = no_kids

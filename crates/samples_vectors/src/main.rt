@@ -37,14 +37,17 @@ impl Row<'_> {
 impl Display for Row<'_> {
     // What is known of it, and its children; then what it is as a child, with the name as the part of the text that it is.
     fn fmt<W: fmt::Write>(&self, f: &mut fmt::Formatter<W>) -> fmt::Result {
-        let (kind, null, samples) = (
+        let (kind, nullable, samples) = (
             self.word(Whole::Kind),
-            self.word(Whole::Null),
+            self.word(Whole::Nullable),
             self.word(Whole::Samples),
         );
         let (first, last) = (self.link(Half::First), self.link(Half::Last));
         let (root, block) = (self.link(Half::Root), self.link(Half::Block));
-        write!(f, "{kind} {null} {samples} {first}/{last} {root}/{block} ")?;
+        write!(
+            f,
+            "{kind} {nullable} {samples} {first}/{last} {root}/{block} "
+        )?;
         let (left, right) = (self.link(Half::Left), self.link(Half::Right));
         let (next, parent) = (self.link(Half::Next), self.link(Half::Parent));
         let (step, held, mark) = (

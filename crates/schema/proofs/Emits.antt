@@ -2,7 +2,7 @@
 use Rattle.std.proofs.Math.Dec.{eqb-suc-zero}
 use Rattle.std.proofs.Math.Bool.{or-true}
 use mathlib.Core.Path.{◌≡◌, refl}
-use mathlib.Core.Bool.{Bool, true, false, not, ◌||◌}
+use mathlib.Core.Bool.{Bool, true, false, not}
 use mathlib.Core.List.{List, [], ◌∷◌}
 use Prim.Native.Nat.{ℕ, zero, suc, ◌-◌, ◌≤◌}
 use native.Mathlib.Omega.{arith}
@@ -10,12 +10,12 @@ use lib.Dec.{eqb}
 use Rattle.logic.specs.Test.{when◌then◌else◌}
 use Rattle.words.specs.Word.{word}
 use Rattle.model.specs.Kinds.{is_container}
-use Rattle.places.specs.Layout.{kind_word, null_word}
+use Rattle.places.specs.Layout.{kind_word}
 use Rattle.places.specs.Reading.{next_child}
 use Rattle.places.specs.Children.{children_from}
 use Rattle.walk.specs.Walk.{slot_behind}
 use Rattle.putting.specs.Put.{Writing}
-use Rattle.fields.specs.Fields.{is_leaf}
+use Rattle.fields.specs.Fields.{nullable_at, is_leaf}
 use Rattle.schema.specs.Emit.{Writer, field_at, child_in, fields_from, fields_below, emitted_by, emitted_at}
 
 -- ---- over the children as a list
@@ -42,7 +42,7 @@ module _ (options : ℕ) (t : List ℕ) (place : ℕ) (is : Bool) where
   some_level zero e f = grind (arith, or-true (not (is_container (word t place kind_word))))
   some_level (suc m) e f = omega arith
 
-  module _ (text : List ℕ) (lacking nullable : Bool) (number : ℕ) (own w : Writing) (n : nullable ≡ (lacking || eqb (word t place null_word) 1))
+  module _ (text : List ℕ) (lacking : Bool) (nullable number : ℕ) (own w : Writing) (n : nullable ≡ nullable_at t place lacking)
       (o : own ≡ field_at options text t place nullable number w) where
     pub leaf : (levels : ℕ) → is ≡ is_leaf options t (eqb levels 0) place → is ≡ true → own ≡ emitted_at options text t levels place lacking number w
     unfolding emitted_at emitted_by when◌then◌else◌

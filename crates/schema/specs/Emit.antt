@@ -9,17 +9,18 @@ use Rattle.refusal.specs.declared.Refusal.TheVariants as F
 use Rattle.words.specs.Word.{word}
 use Rattle.model.specs.Emission.{emits_struct, type_of, strategy_of}
 use Rattle.model.specs.Tracing.{place_limit}
-use Rattle.places.specs.Layout.{kind_word, null_word, root_place}
+use Rattle.places.specs.Layout.{kind_word, nullable_word, root_place}
+use Rattle.places.specs.Nullable.{is_null}
 use Rattle.places.specs.Reading.{variant_at, child_name, child_limit, next_child}
 use Rattle.order.specs.Sort.{sorted_places}
 use Rattle.walk.specs.declared.Counts.{Counts}
 use Rattle.walk.specs.declared.Source.{Source}
 use Rattle.walk.specs.Walk.{counts, Walked, sum_of, gaps_at, walked}
 use Rattle.putting.specs.Put.{record_of, Writing, writing, both, gaps_in, entries_in}
-use Rattle.fields.specs.Fields.{field_count, lacking_at, is_dictionary, is_leaf}
+use Rattle.fields.specs.Fields.{field_count, nullable_at, lacking_at, is_dictionary, is_leaf}
 
--- the record and the name of a place, with nothing below it
-unfoldable pub field_at : ℕ → List ℕ → List ℕ → ℕ → Bool → ℕ → Writing → Writing
+-- the record and the name of a place, with that nullable byte and variant number, and nothing below it
+unfoldable pub field_at : ℕ → List ℕ → List ℕ → ℕ → ℕ → ℕ → Writing → Writing
 field_at options text t place nullable number w =
     let kind = word t place kind_word in
     let name = child_name text t place in
@@ -52,7 +53,7 @@ fields_below t inner kind place w = fields_from t inner kind place child_limit 0
 
 unfoldable pub emitted_by : ℕ → List ℕ → List ℕ → Bool → (ℕ → ℕ → Writing → Writing) → Writer
 emitted_by options text t flat inner place lacking number w =
-    let own = field_at options text t place (lacking || eqb (word t place null_word) 1) number w in
+    let own = field_at options text t place (nullable_at t place lacking) number w in
     when is_leaf options t flat place then own else inner (word t place kind_word) place own
 
 -- with so many levels left
@@ -89,7 +90,7 @@ as_answered e (writing i j fields names) = answered e fields names
 
 unfoldable pub finished : ℕ → List ℕ → List ℕ → List ℕ → List ℕ → ℕ → ℕ → ℕ → Answered
 finished options text t fields names records bytes below =
-    when eqb (word t root_place null_word) 1 then answered (Err F.NullableRoot) fields names
+    when is_null (word t root_place nullable_word) then answered (Err F.NullableRoot) fields names
     else when eqb (word t root_place kind_word) null then answered (Err F.NullRoot) fields names
     else when not (emits_struct (word t root_place kind_word)) then answered (Err F.RootNotStruct) fields names
     else when ltb (length fields) (records * 8) || ltb (length names) bytes then answered (Err F.ShortBuffer) fields names

@@ -25,7 +25,7 @@ const LEVELS: usize = places::PLACES;
 
 // The record and the name of a place, with nothing below it. What is read and what is written come apart, here and below: of a struct of
 // both each function would have to promise that it leaves the source as it was, which is no plainer.
-fn put_field(source: &Source, place: Place, nullable: bool, number: u8, out: &mut Output)
+fn put_field(source: &Source, place: Place, nullable: u8, number: u8, out: &mut Output)
     ensures { Writes (over field_at source.now place nullable number) out.old out.new }
 {
     let kind = words::get(source.table, place, Whole::Kind);
@@ -57,7 +57,7 @@ fn put_field(source: &Source, place: Place, nullable: bool, number: u8, out: &mu
 fn emit(source: &Source, levels: usize, place: Place, lacking: bool, number: u8, out: &mut Output)
     ensures { Writes (over emitted_at source.now levels place lacking number) out.old out.new }
 {
-    let nullable = fields::is_nullable(source.table, place, lacking);
+    let nullable = fields::nullable(source.table, place, lacking);
     put_field(source, place, nullable, number, out);
     if fields::is_leaf(source.options, levels, source.table, place) {
         return;
@@ -108,7 +108,7 @@ fn finish(
     ensures { Finishes source.now fields names counts result }
 {
     let kind = words::get(source.table, Place::ROOT, Whole::Kind);
-    if words::get(source.table, Place::ROOT, Whole::Null) == 1 {
+    if places::is_null(source.table, Place::ROOT) {
         return Err(Refusal::NullableRoot);
     }
     if kind == shapes::UNKNOWN {

@@ -70,8 +70,8 @@ pub enum Whole {
     Free2 = 2,
     // Its kind (`shapes`).
     Kind = 3,
-    // 1 where null was seen.
-    Null = 4,
+    // Its nullable byte (`places`): whether null was seen, and whether it was widened.
+    Nullable = 4,
     // How many containers were observed there.
     Samples = 5,
     // The step to it from its parent (`Step::code`), and its name in the text (`shapes::packed`).

@@ -18,7 +18,7 @@ use Rattle.logic.specs.Maybe.{and_then, OnSome}
 use Rattle.logic.specs.laws.Maybe.{then_some, then_agree}
 use Rattle.datatype.specs.Codes.{null, int64, uint64, float64, dictionary_utf8}
 use Rattle.options.specs.Word.{coerce_numbers, allow_to_string, string_as_large_utf8, string_type}
-use Rattle.coerce.specs.Joint.{is_string, is_timestamp, is_number, is_float, is_signed, is_forbidden, yields_to_string, number_joint, joint_of_numbers, joint_with_string, joint_of_timestamps, joint_of_unequal, joint}
+use Rattle.coerce.specs.Joint.{is_string, is_timestamp, is_number, is_float, is_signed, is_forbidden, yields_to_string, number_joint, joint_of_numbers, joint_with_string, joint_of_timestamps, joint_of_unequal, joint, paired, pairing}
 use Rattle.coerce.specs.Census.{is_other, is_string_or_timestamp, several_seen, type_seen, non_null}
 use Rattle.coerce.specs.laws.Rules.{Fits, Joins, is_signed_or_float, joint_swap, joint_joins}
 
@@ -45,6 +45,19 @@ null_joint word t = refl
 pub joint_same : (word t : ℕ) → joint word t t ≡ some t
 unfolding joint when◌then◌else◌
 joint_same word t = cases (eqb t null) (λ e. rw e) (λ e. rw (e, eq-eqb t t refl))
+
+-- and they do not differ
+pub pairing_null : (word t : ℕ) → pairing word t null ≡ paired (some t) false
+unfolding pairing
+pairing_null word t = rw joint_null (cases (eqb t null) (λ e. rw e) (λ e. rw e))
+
+pub null_pairing : (word t : ℕ) → pairing word null t ≡ paired (some t) false
+unfolding pairing
+null_pairing word t = rw null_joint refl
+
+pub pairing_same : (word t : ℕ) → pairing word t t ≡ paired (some t) false
+unfolding pairing
+pairing_same word t = rw joint_same (cases (eqb t null) (λ e. rw e) (λ e. rw (e, eq-eqb t t refl)))
 
 -- the joint is one of the two types, a wide number type or the string type
 pub joint_among : (P : ℕ → Type 0) (word a b u : ℕ) → P a → P b → P float64 → P int64 → P uint64 → P (string_type word) → joint word a b ≡ some u → P u

@@ -7,6 +7,7 @@ use Rattle.logic.specs.laws.Test.{cases}
 use Rattle.datatype.specs.Codes.{null, utf8, large_utf8, struct}
 use Rattle.options.specs.Word.{string_dictionary_encoding, string_as_large_utf8, sequence_as_large_list, enums_without_data_as_strings, list_type, dictionary_type}
 use Rattle.model.specs.Kinds.{sequence_kind, union_kind}
+use Rattle.model.specs.Tracing.{Marks}
 use Rattle.model.specs.Emission.{shown, Places, dataless, Field, mk, emits_struct, type_of, field_of}
 
 dictionary_type_lem : (options : ℕ) → (eqb (dictionary_type options) null ≡ false) × (eqb (dictionary_type options) struct ≡ false)
@@ -41,10 +42,10 @@ type_struct options k =
     no_struct f = cases (eqb k struct) (λ z. absurd (true≢false (let w : k ≡ struct = eqb-true k struct z in rw w at f))) (λ z. z)
 
 -- what a place's field says of its kind
-abbrev pub Typed : Bool → ℕ → Field → Type 0
-Typed b k (mk type nullable strategy number name fs) = (nullable ≡ b) × (eqb type null ≡ eqb k null) × (eqb type struct ≡ emits_struct k)
+abbrev pub Typed : Marks → ℕ → Field → Type 0
+Typed b k (mk type c strategy number name fs) = (c ≡ b) × (eqb type null ≡ eqb k null) × (eqb type struct ≡ emits_struct k)
 
-pub field_type : (options : ℕ) (name : List ℕ) (number : ℕ) (b : Bool) (k : ℕ) (ps : Places) → Typed b k (field_of options name number (shown b k ps))
+pub field_type : (options : ℕ) (name : List ℕ) (number : ℕ) (b : Marks) (k : ℕ) (ps : Places) → Typed b k (field_of options name number (shown b k ps))
 unfolding field_of when◌then◌else◌
 field_type options name number b k ps =
     cases (eqb k union_kind && dataless ps && enums_without_data_as_strings options)

@@ -66,7 +66,7 @@ steps_below (below s p ps) = s ∷ steps_below ps
 
 unfoldable mutual
   pub fits : ℕ → Place → Bool
-  fits options (shown admits kind ps) = kind_fits options kind && fit_below options kind 0 ps
+  fits options (shown m kind ps) = kind_fits options kind && fit_below options kind 0 ps
 
   -- and no step stands twice
   pub fit_below : ℕ → ℕ → ℕ → Places → Bool

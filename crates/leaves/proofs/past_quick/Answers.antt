@@ -8,7 +8,7 @@ pub overflow_add-result : goal.overflow_add-result
 overflow_add-result c = record { fits = search (same_fits, rules) }
 
 pub returns-then-leaf-clause-value : goal.returns-then-leaf-clause-value
-returns-then-leaf-clause-value c = quick_null _ _ _ _ _ _ _ c.leaf_at.ensures _ _ _ c.in_ok-leaf.was _ c.if-leaf.true c.set.ensures
+returns-then-leaf-clause-value c = quick_null _ _ _ _ _ _ _ c.leaf_at.ensures _ _ _ c.in_ok-leaf.was _ c.if-leaf.true c.admit_null.ensures
 
 pub returns-then-leaf-clause-onward : goal.returns-then-leaf-clause-onward
 returns-then-leaf-clause-onward c = leaf_above _ _ _ _ _ _ _ (leaf_there _ _ _ _ _ c.leaf_at.ensures _ _ _ c.in_ok-leaf.was)

@@ -11,12 +11,13 @@ use Rattle.logic.specs.laws.Turns.{Says, Falls, holds, goes_on, ends}
 use Rattle.leaves.specs.Marks.{Chain, chain, is_mark, past_turn, past_marks, marked, some_byte}
 use Rattle.logic.specs.laws.Flag.{if_either}
 use Rattle.refusal.specs.declared.Refusal.{Refusal}
-use Rattle.words.specs.Word.{word}
+use Rattle.words.specs.Word.{word, with_word}
 use Rattle.std.specs.Prelude as M
-use Rattle.places.specs.Layout.{kind_word, null_word, Sound, Ready}
+use Rattle.places.specs.Layout.{kind_word, nullable_word, Sound, Ready}
+use Rattle.kinds.specs.declared.Met.{Met}
 use Rattle.kinds.specs.Meeting.{meeting}
 use Rattle.places.specs.laws.Layout.{sound_plain}
-use Rattle.leaves.specs.Leaves.{Outcome, traced_to, Out, out, on_met, stored, observed, SoundTraced}
+use Rattle.leaves.specs.Leaves.{Outcome, traced_to, Out, out, on_met, with_met, stored, observed, SoundTraced}
 
 -- ---- the marks before a value
 pub turn_has : {S R : Type 0} (P : S → Type 0) (Q : R → Type 0) (t : Bool) (a b : Turn S R) → (t ≡ true → Says P Q a) → (t ≡ false → Says P Q b) → Says P Q (when t then a else b)
@@ -88,39 +89,42 @@ module _ (text t : List ℕ) (n place : ℕ) (ready : Ready text t n place) wher
       kept : (s : Chain) → Ok s → Says Ok Ok (past_turn commands place s)
       kept (chain i x) h =
           if_either (Says Ok Ok) (ltb i (length commands))
-          (if_either (Says Ok Ok) (is_mark (get_or commands i 0)) (if_either (λ y. Sound text y n) (eqb (get_or commands i 0) some_byte) (sound_plain text x n place null_word 1 refl ready.here h) h) h)
+          (if_either (Says Ok Ok) (is_mark (get_or commands i 0))
+          (if_either (λ y. Sound text y n) (eqb (get_or commands i 0) some_byte) (sound_plain text x n place nullable_word _ refl ready.here h) h) h)
           h
 
   -- a primitive
+  stored_sound : (is_null : Bool) (met : Met) → Sound text (stored is_null met place t) n
+  unfolding stored
+  stored_sound is_null met = if_either (λ x. Sound text x n) is_null (sound_plain text _ n place nullable_word _ refl ready.here with_kind) with_kind
+    where
+      typed : Sound text (with_word t place kind_word met.kind) n
+      typed = sound_plain text t n place kind_word met.kind refl ready.here ready.sound
+
+      with_kind : Sound text (with_met met place t) n
+      with_kind = if_either (λ x. Sound text x n) met.widened (sound_plain text _ n place nullable_word _ refl ready.here typed) typed
+
   pub observed_sound : (options : ℕ) (is_null : Bool) (kind levels here behind : ℕ) (r : Outcome) (u : List ℕ) →
       out r u ≡ observed options is_null kind levels here behind place n t → SoundTraced text u n r
-  unfolding observed stored
+  unfolding observed
   observed_sound options is_null kind levels here behind r u e = rw (← e) at (go (meeting options levels (word t place kind_word) kind))
     where
       Ok : Out → Type 0
       Ok (out r x) = SoundTraced text x n r
 
-      go : (met : M.Result ℕ Refusal) → Ok (on_met here t (λ joint. out (traced_to behind n) (stored is_null joint place t)) met)
-      go (M.Ok joint) = (
-        if_either (λ x. Sound text x n) is_null
-            (sound_plain text _ n place null_word 1 refl ready.here (sound_plain text t n place kind_word joint refl ready.here ready.sound))
-            (sound_plain text t n place kind_word joint refl ready.here ready.sound),
-        le_refl n,
-      )
+      go : (met : M.Result Met Refusal) → Ok (on_met here t (λ met. out (traced_to behind n) (stored is_null met place t)) met)
+      go (M.Ok met) = (stored_sound is_null met, le_refl n)
       go (M.Err refusal) = tt
 
   -- and the table stays sound, whatever is answered
   pub observed_kept : (options : ℕ) (is_null : Bool) (kind levels here behind : ℕ) (r : Outcome) (u : List ℕ) →
       out r u ≡ observed options is_null kind levels here behind place n t → Sound text u n
-  unfolding observed stored
+  unfolding observed
   observed_kept options is_null kind levels here behind r u e = rw (← e) at (go (meeting options levels (word t place kind_word) kind))
     where
       Kept : Out → Type 0
       Kept (out r x) = Sound text x n
 
-      go : (met : M.Result ℕ Refusal) → Kept (on_met here t (λ joint. out (traced_to behind n) (stored is_null joint place t)) met)
-      go (M.Ok joint) =
-          if_either (λ x. Sound text x n) is_null
-          (sound_plain text _ n place null_word 1 refl ready.here (sound_plain text t n place kind_word joint refl ready.here ready.sound))
-          (sound_plain text t n place kind_word joint refl ready.here ready.sound)
+      go : (met : M.Result Met Refusal) → Kept (on_met here t (λ met. out (traced_to behind n) (stored is_null met place t)) met)
+      go (M.Ok met) = stored_sound is_null met
       go (M.Err refusal) = ready.sound

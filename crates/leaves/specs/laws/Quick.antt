@@ -9,15 +9,16 @@ use Rattle.std.proofs.Math.ListN.{length, get_or}
 use Rattle.logic.specs.Test.{when◌then◌else◌}
 use Rattle.logic.specs.laws.Test.{cases, both}
 use Rattle.datatype.specs.Codes.{null}
-use Rattle.coerce.specs.laws.Joined.{joint_null}
-use Rattle.words.specs.Word.{word, with_word}
+use Rattle.coerce.specs.laws.Joined.{pairing_null}
+use Rattle.words.specs.Word.{word}
 use Rattle.words.specs.laws.Word.{with_word_lem}
 use Rattle.model.specs.Kinds.{is_container}
 use Rattle.shapes.specs.declared.Leaf.{Leaf}
 use Rattle.shapes.specs.Leaf.{is_own_byte, leaf_at, leaf_of}
 use Rattle.shapes.specs.laws.Leaf.{LeafThere, leaf_there, leaf_above, leaf_untyped, own_leaf}
-use Rattle.kinds.specs.Meeting.{meeting}
-use Rattle.places.specs.Layout.{kind_word, null_word}
+use Rattle.kinds.specs.Meeting.{met, meeting}
+use Rattle.places.specs.Layout.{kind_word}
+use Rattle.places.specs.Nullable.{with_null}
 use Rattle.leaves.specs.Marks.{chain}
 use Rattle.leaves.specs.Leaves.{traced_to, out, stored, observed}
 use Rattle.leaves.specs.laws.Leaves.{observe_kind, observed_again}
@@ -47,7 +48,7 @@ module _ (options : ℕ) (commands text : List ℕ) (at place : ℕ) (t : List �
     quick_other e = rw (← l, e) refl
 
     module _ (is_null : Bool) (kind behind : ℕ) (v : leaf ≡ leaf_of is_null kind behind) where
-      pub quick_null : (u : List ℕ) → is_null ≡ true → u ≡ with_word t place null_word 1 → chain behind u ≡ quick_at options commands text at place t
+      pub quick_null : (u : List ℕ) → is_null ≡ true → u ≡ with_null place t → chain behind u ≡ quick_at options commands text at place t
       unfolding quick_at when◌then◌else◌
       quick_null u e d = rw (← l, v, e, d) refl
 
@@ -61,15 +62,16 @@ module _ (options : ℕ) (commands text : List ℕ) (at place : ℕ) (t : List �
         quick_changes k = rw (← l, v, e, ← b, ne_eqb before kind k) refl
 
 -- ---- a null meets what is there, and leaves it so
-meets_null : (options levels kind : ℕ) → Ok kind ≡ meeting options levels kind null
+meets_null : (options levels kind : ℕ) → Ok (met kind false) ≡ meeting options levels kind null
 unfolding meeting when◌then◌else◌
-meets_null options levels kind = cases (is_container kind) (λ e. rw e refl) (λ e. rw (e, joint_null options kind) refl)
+meets_null options levels kind = cases (is_container kind) (λ e. rw e refl) (λ e. rw (e, pairing_null options kind) refl)
 
-observed_null : (options levels here behind place n : ℕ) (t : List ℕ) → out (traced_to behind n) (with_word t place null_word 1) ≡ observed options true null levels here behind place n t
+observed_null : (options levels here behind place n : ℕ) (t : List ℕ) → out (traced_to behind n) (with_null place t) ≡ observed options true null levels here behind place n t
 unfolding stored when◌then◌else◌
 observed_null options levels here behind place n t =
-    observe_kind options levels (word t place kind_word) null place t (Ok (word t place kind_word)) refl (meets_null options levels (word t place kind_word))
-    true here behind n (word t place kind_word) (with_word t place null_word 1) refl (sym (ap (λ (x : List ℕ). with_word x place null_word 1) (with_word_lem t place kind_word)))
+    let there = met (word t place kind_word) false in
+    observe_kind options levels (word t place kind_word) null place t (Ok there) refl (meets_null options levels (word t place kind_word))
+    true here behind n there (with_null place t) refl (sym (ap (with_null place) (with_word_lem t place kind_word)))
 
 -- ---- what is passed is a leaf, and is observed so
 pub record Quick (options : ℕ) (commands text : List ℕ) (at place n : ℕ) (t : List ℕ) (behind : ℕ) (u : List ℕ) : Type 0 where
@@ -88,7 +90,7 @@ module _ (options : ℕ) (commands text : List ℕ) (at place n : ℕ) (t : List
   unfolding when◌then◌else◌
   by_value true kind next l there e =
       let b : next ≡ behind = cc in
-      let d : with_word t place null_word 1 ≡ u = cc in
+      let d : with_null place t ≡ u = cc in
       let leaf : LeafThere options commands text at true kind behind = rw b at there in
       record {
         is_null = true;

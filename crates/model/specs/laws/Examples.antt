@@ -1,11 +1,11 @@
 -- Worked examples of the definitions, each computed: what a wrong definition would break.
-use Rattle.std.specs.Prelude.{◌≡◌, refl, true, false, List, [], ◌∷◌, ◌++◌, ℕ, replicate}
+use Rattle.std.specs.Prelude.{◌≡◌, refl, true, false, List, [], ◌∷◌, ◌++◌, ℕ, replicate, take}
 use Rattle.std.proofs.Math.Option.{Option, some}
 use Rattle.std.proofs.Common.{arith}
 use Rattle.logic.specs.Test.{when◌then◌else◌}
 use Rattle.logic.specs.All.{has}
-use Rattle.datatype.specs.Codes.{uint8, struct, map, no_strategy}
-use Rattle.refusal.specs.Number.{too_deep, no_joint, null_root, null_field}
+use Rattle.datatype.specs.Codes.{uint8, uint32, uint64, float64, struct, map, no_strategy}
+use Rattle.refusal.specs.Number.{too_deep, no_joint, null_root, null_field, root_not_struct}
 use Rattle.text.specs.Name.{dot, eq_name, lt_name, dots}
 use Rattle.text.specs.Utf8 as U
 use Rattle.coerce.specs.Census as Y
@@ -101,13 +101,55 @@ second_edition = refl
 
 -- what the census says of the field `a`
 unfoldable pub said : List ℕ → Option S.Said
-unfolding has when◌then◌else◌ eq_name lt_name same U.within U.due_in U.reads U.fits C.form_of C.operands C.made C.name_in C.bad_command C.bad_name C.read_command R.shape_of R.next_part R.records_from R.values R.read_value R.read_shape R.read_parts T.has T.holds Y.several_seen Y.type_seen Y.non_null S.parts_at S.below S.standing S.any_null S.samples S.holders S.kinds_seen S.container_seen S.kind_seen S.fixed_steps S.steps_in S.sight S.sights S.steps_seen S.insert_step S.as_set S.census
+unfolding has when◌then◌else◌ eq_name lt_name same U.within U.due_in U.reads U.fits C.form_of C.operands C.made C.name_in C.bad_command C.bad_name C.read_command R.shape_of R.next_part R.records_from R.values R.read_value R.read_shape R.read_parts T.has T.holds Y.several_seen Y.type_seen Y.non_null S.parts_at S.below S.standing S.any_null S.samples S.holders S.kinds_seen S.types_seen S.container_seen S.kind_seen S.fixed_steps S.steps_in S.sight S.sights S.steps_seen S.insert_step S.as_set S.census
 said commands = S.census 30 (field (97 ∷ []) ∷ []) false (R.values 30 commands (97 ∷ []))
 
 -- of two records the first has the field and the second has not: null is admitted there, since fewer samples of its struct hold it than exist
-pub lacking_null : said (0x15 ∷ 0x16 ∷ 0 ∷ 0 ∷ 1 ∷ 0 ∷ 0x06 ∷ 0x17 ∷ 0x15 ∷ 0x17 ∷ []) ≡ some (record { null = true; kind = uint8; children = [] })
+pub lacking_null : said (0x15 ∷ 0x16 ∷ 0 ∷ 0 ∷ 1 ∷ 0 ∷ 0x06 ∷ 0x17 ∷ 0x15 ∷ 0x17 ∷ []) ≡ some (record { null = true; widened = false; kind = uint8; children = [] })
 unfolding said
 lacking_null = refl
+
+-- ---- columns that were widened (document 02, 1/14)
+-- records with the one field `a`, which holds these values
+abbrev pub of_a : List ℕ → List ℕ
+of_a [] = []
+of_a (value ∷ values) = (0x15 ∷ 0x16 ∷ 0 ∷ 0 ∷ 1 ∷ 0 ∷ value ∷ 0x17 ∷ []) ++ of_a values
+
+-- the type of the field's record and its nullable byte; or the refusal and its place
+abbrev pub typed : Result E.Fields → List ℕ
+typed (accepted schema) = take 2 (E.records_in schema)
+typed (refused refusal place) = refusal ∷ place ∷ []
+
+abbrev pub widening : ℕ → List ℕ → List ℕ
+widening options values = typed (schema_in options (of_a values) (97 ∷ []))
+
+-- an f64 and then a u32: a Float64 as before, but two types were seen
+pub float_then_integer : widening 94 (0x0B ∷ 0x08 ∷ []) ≡ float64 ∷ 2 ∷ []
+unfolding schema_in E.records_of
+float_then_integer = refl
+
+-- a u32 and a char are one type; Null is none, and is admitted besides
+pub char_is_integer : widening 94 (0x08 ∷ 0x00 ∷ 0x08 ∷ []) ≡ uint32 ∷ 1 ∷ []
+unfolding schema_in E.records_of
+char_is_integer = refl
+
+pub null_between : widening 94 (0x08 ∷ 0x00 ∷ 0x06 ∷ []) ≡ uint64 ∷ 3 ∷ []
+unfolding schema_in E.records_of
+null_between = refl
+
+-- the census says the same of both
+pub said_not_widened : said (of_a (0x08 ∷ 0x00 ∷ 0x08 ∷ [])) ≡ some (record { null = true; widened = false; kind = uint32; children = [] })
+unfolding said
+said_not_widened = refl
+
+pub said_widened : said (of_a (0x08 ∷ 0x00 ∷ 0x06 ∷ [])) ≡ some (record { null = true; widened = true; kind = uint64; children = [] })
+unfolding said
+said_widened = refl
+
+-- a root of two types has refusal 17 and not 15, for null is not admitted there
+pub root_widened : outcome 64 (0x06 ∷ 0x07 ∷ []) [] ≡ root_not_struct ∷ 2 ∷ []
+unfolding schema_in
+root_widened = refl
 
 -- ---- which commands need places
 unfoldable pub needing : ℕ → List ℕ → List ℕ
@@ -126,18 +168,18 @@ refused_needs = refl
 
 -- ---- nothing changed but the order of struct fields
 abbrev leaf : List ℕ → E.Field
-leaf name = E.mk uint8 false no_strategy 0 name E.no_fields
+leaf name = E.mk uint8 (T.marks false false) no_strategy 0 name E.no_fields
 
 abbrev alone : E.Field → E.Fields
 alone f = E.more f E.no_fields
 
 -- a struct with two fields, by their names
 abbrev pair : List ℕ → E.Field → E.Field → E.Field
-pair name f g = E.mk struct false no_strategy 0 name (E.more f (alone g))
+pair name f g = E.mk struct (T.marks false false) no_strategy 0 name (E.more f (alone g))
 
 -- the schema of one field, a map with these entries
 abbrev map_of : E.Field → E.Field → E.Fields
-map_of f g = alone (E.mk map false no_strategy 0 (109 ∷ []) (alone (pair E.entries_name f g)))
+map_of f g = alone (E.mk map (T.marks false false) no_strategy 0 (109 ∷ []) (alone (pair E.entries_name f g)))
 
 -- the fields `a` and `b` of a struct, in both orders
 abbrev ab : List ℕ → E.Field

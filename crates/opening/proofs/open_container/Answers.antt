@@ -9,10 +9,10 @@ use Rattle.opening.proofs.open_container.Goals as goal
 none : (s : Result (Unit {0}) Refusal) (refusal : Refusal) (m : ℕ) → s ≡ Err refusal → count_of s m ≡ Err refusal
 none s refusal m is = rw is
 
-pub returns-in_err-joint : goal.returns-in_err-joint
-returns-in_err-joint c =
+pub returns-in_err-met : goal.returns-in_err-met
+returns-in_err-met c =
     record {
-      made = opens_unmet _ _ _ _ _ _ _ c.get-before.ensures c.meet.ensures _ _ _ _ _ c.in_err-joint.was (none _ _ _ (search rules));
+      made = opens_unmet _ _ _ _ _ _ _ c.get-before.ensures c.meet.ensures _ _ _ _ _ c.in_err-met.was (none _ _ _ (search rules));
       same = record { text = refl; table = refl; grows = le_refl _ };
     }
 

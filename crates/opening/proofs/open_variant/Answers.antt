@@ -5,11 +5,11 @@ use Rattle.opening.specs.laws.Opening.{holds_met, holds_unmet}
 use Rattle.opening.proofs.Held.{was_refused, none_here}
 use Rattle.opening.proofs.open_variant.Goals as goal
 
-pub returns-in_err-joint : goal.returns-in_err-joint
-returns-in_err-joint c =
+pub returns-in_err-met : goal.returns-in_err-met
+returns-in_err-met c =
     record {
-      ensured = holds_unmet _ _ _ _ _ _ _ _ _ _ c.get-before.ensures c.meet.ensures _ _ c.in_err-joint.was (was_refused _ _ _ (search rules));
-      here = none_here _ c.in_err-joint.field-0.0 _ (search rules);
+      ensured = holds_unmet _ _ _ _ _ _ _ _ _ _ c.get-before.ensures c.meet.ensures _ _ c.in_err-met.was (was_refused _ _ _ (search rules));
+      here = none_here _ c.in_err-met.field-0.0 _ (search rules);
       same = record { text = refl; table = refl; grows = le_refl _ };
     }
 

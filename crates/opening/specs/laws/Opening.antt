@@ -20,6 +20,7 @@ use Rattle.shapes.specs.Steps.{field_code, Inside, Good}
 use Rattle.places.specs.Layout.{kind_word, step_word, Ready, Sound}
 use Rattle.growth.specs.Growth.{Found, Ensured, Made, found, ensuring, confirmed, ensured_by, ensured, making, made, touched, sampled, SoundEnsured}
 use Rattle.search.specs.Search.{is_at, find_in, child_at}
+use Rattle.kinds.specs.declared.Met.{Met}
 use Rattle.kinds.specs.Meeting.{meeting}
 use Rattle.places.specs.laws.Layout.{first_below}
 use Rattle.search.specs.laws.Search.{find_stands, found_utf8}
@@ -28,24 +29,24 @@ use Rattle.opening.specs.Opening.{held, container_made, variant_held, Opened, Op
 use Rattle.growth.specs.laws.Growth.{child_ready, ensured_grows, sound_touched}
 
 -- a container is opened
-module _ (options levels before kind place : ℕ) (t : List ℕ) (met : Result ℕ Refusal) (b : before ≡ word t place kind_word) (m : met ≡ meeting options levels before kind) where
+module _ (options levels before kind place : ℕ) (t : List ℕ) (met : Result Met Refusal) (b : before ≡ word t place kind_word) (m : met ≡ meeting options levels before kind) where
   module _ (text : List ℕ) (positions n : ℕ) where
-    pub opens_met : (joint : ℕ) (u v : List ℕ) (did : Made) → met ≡ Ok joint → u ≡ sampled place joint t →
+    pub opens_met : (j : Met) (u v : List ℕ) (did : Made) → met ≡ Ok j → u ≡ sampled place j.kind t →
         making did v ≡ made text place kind positions before n u → making did v ≡ container_made text options levels kind positions place n t
     unfolding container_made
-    opens_met joint u v did e s d = rw (← b, ← m, e, ← s) d
+    opens_met j u v did e s d = rw (← b, ← m, e, ← s) d
 
     pub opens_unmet : (refusal : Refusal) (did : Made) → met ≡ Err refusal → did ≡ Err refusal → making did t ≡ container_made text options levels kind positions place n t
     unfolding container_made
     opens_unmet refusal did e d = rw (← b, ← m, e, d) refl
 
 -- a variant is opened
-module _ (text : List ℕ) (options levels before number : ℕ) (name : Name) (place n : ℕ) (t : List ℕ) (met : Result ℕ Refusal) (b : before ≡ word t place kind_word)
+module _ (text : List ℕ) (options levels before number : ℕ) (name : Name) (place n : ℕ) (t : List ℕ) (met : Result Met Refusal) (b : before ≡ word t place kind_word)
     (m : met ≡ meeting options levels before union_kind) where
-  pub holds_met : (joint : ℕ) (u v : List ℕ) (did : Ensured) → met ≡ Ok joint → u ≡ sampled place joint t →
+  pub holds_met : (j : Met) (u v : List ℕ) (did : Ensured) → met ≡ Ok j → u ≡ sampled place j.kind t →
       ensuring did v ≡ held text place (S.Variant number name) n u → ensuring did v ≡ variant_held text options levels number name place n t
   unfolding variant_held
-  holds_met joint u v did e s d = rw (← b, ← m, e, ← s) d
+  holds_met j u v did e s d = rw (← b, ← m, e, ← s) d
 
   pub holds_unmet : (refusal : Refusal) (did : Ensured) → met ≡ Err refusal → did ≡ Err refusal → ensuring did t ≡ variant_held text options levels number name place n t
   unfolding variant_held

@@ -25,6 +25,7 @@ use Rattle.shapes.specs.Shapes.{PartRead, shape_at, part_at}
 use Rattle.shapes.specs.laws.Shapes.{KnownPart, part_known}
 use Rattle.places.specs.Layout.{kind_word}
 use Rattle.growth.specs.Growth.{Ensuring, ensuring, Making, making}
+use Rattle.kinds.specs.declared.Met.{Met}
 use Rattle.kinds.specs.Meeting.{meeting}
 use Rattle.reading.specs.Reading.{on_made, Readers, dots_in, part_read, State, state, after_part, on_part, part_turn, part_stop, parts_from, container_by, variant_by, at_shape, at_read, after_chain, value_by, none_left, readers, on_held}
 use Rattle.opening.specs.Opening.{held, container_made, variant_held}
@@ -66,9 +67,9 @@ stopped low most r t = tt
 abbrev pub On : ℕ → Readers → Type 0
 On most inner = (down : ℕ) (contents : Contents) (here at place n : ℕ) (t : List ℕ) → at ≤ most → Moved (from contents at) most (inner down contents here at place n t)
 
-on_met_lem : (low most here : ℕ) (t : List ℕ) (k : ℕ → Out) → ((kind : ℕ) → Moved low most (k kind)) → (m : Result ℕ Refusal) → Moved low most (on_met here t k m)
+on_met_lem : (low most here : ℕ) (t : List ℕ) (k : Met → Out) → ((met : Met) → Moved low most (k met)) → (m : Result Met Refusal) → Moved low most (on_met here t k m)
 unfolding Moved
-on_met_lem low most here t k h (Ok kind) = h kind
+on_met_lem low most here t k h (Ok met) = h met
 on_met_lem low most here t k h (Err refusal) = tt
 
 on_made_lem : (low most here : ℕ) (k : ℕ → List ℕ → Out) → ((n : ℕ) (t : List ℕ) → Moved low most (k n t)) → (m : Making) → Moved low most (on_made here k m)
@@ -80,7 +81,7 @@ observed_on : (options : ℕ) (is_null : Bool) (kind levels here low behind most
     Moved low most (observed options is_null kind levels here behind place n t)
 unfolding observed Moved
 observed_on options is_null kind levels here low behind most place n t p q =
-    on_met_lem low most here t (λ joint. out (traced_to behind n) (stored is_null joint place t)) (λ joint. (p, q))
+    on_met_lem low most here t (λ met. out (traced_to behind n) (stored is_null met place t)) (λ met. (p, q))
     (meeting options levels (word t place kind_word) kind)
 
 module _ (commands : List ℕ) where

@@ -17,6 +17,7 @@ use Rattle.shapes.specs.declared.Step.{Step}
 use Rattle.shapes.specs.declared.Step.TheVariants as S
 use Rattle.places.specs.Layout.{kind_word, first_word, Sound, Ready}
 use Rattle.growth.specs.Growth.{Found, Ensured, Made, found, Ensuring, ensuring, ensured, sampled, making, made, SoundMade}
+use Rattle.kinds.specs.declared.Met.{Met}
 use Rattle.kinds.specs.Meeting.{meeting}
 use Rattle.growth.specs.laws.Growth.{OnChild, OnPlaces, all_more, ensured_more}
 use Rattle.shapes.specs.Shapes.{is_parted}
@@ -90,8 +91,8 @@ module _ (text t u : List ℕ) (options levels kind positions place n : ℕ) (di
   unfolding container_made
   opened_grows = rw (← d, e) at (go (meeting options levels (word t place kind_word) kind))
     where
-      go : (met : Result ℕ Refusal) → OnPlaces (λ k. n ≤ k) (made_where t (λ joint. made text place kind positions (word t place kind_word) n (sampled place joint t)) met)
-      go (Ok joint) = all_more text (sampled place joint t) place kind positions (word t place kind_word) n
+      go : (met : Result Met Refusal) → OnPlaces (λ k. n ≤ k) (made_where t (λ joint. made text place kind positions (word t place kind_word) n (sampled place joint t)) met)
+      go (Ok met) = all_more text (sampled place met.kind t) place kind positions (word t place kind_word) n
       go (Err refusal) = tt
 
   pub opened_from : (r : Outcome) (v : List ℕ) → SoundTraced text v m r → SoundTraced text v n r
@@ -117,8 +118,8 @@ module _ (text t u : List ℕ) (options levels number : ℕ) (name : Name) (plac
   unfolding variant_held
   chosen_grows = rw (← d, e) at (go (meeting options levels (word t place kind_word) union_kind))
     where
-      go : (met : Result ℕ Refusal) → OnChild (λ c k. n ≤ k) (held_where t (λ joint. held text place (S.Variant number name) n (sampled place joint t)) met)
-      go (Ok joint) = all_held n text place (S.Variant number name) (sampled place joint t)
+      go : (met : Result Met Refusal) → OnChild (λ c k. n ≤ k) (held_where t (λ joint. held text place (S.Variant number name) n (sampled place joint t)) met)
+      go (Ok met) = all_held n text place (S.Variant number name) (sampled place met.kind t)
       go (Err refusal) = tt
 
   pub chosen_from : (r : Outcome) (v : List ℕ) → SoundTraced text v f.count r → SoundTraced text v n r

@@ -1,6 +1,6 @@
 -- A child is sought, and appended.
 use Rattle.std.proofs.lemmas.Grind.{common_steps}
-use Rattle.std.specs.Prelude.{◌≡◌, List, [], ◌∷◌, Bool, length, replicate, eqb}
+use Rattle.std.specs.Prelude.{◌≡◌, List, [], ◌∷◌, length, replicate, eqb}
 use Rattle.std.proofs.Math.Path.{refl}
 use Rattle.std.proofs.Common.{ap, sym, subst, ◌∙◌, arith}
 use Rattle.std.proofs.Math.Bool.{true, false}
@@ -16,7 +16,8 @@ use Rattle.text.specs.Name.{bytes_of, eq_name}
 use Rattle.words.specs.Word.{place_words, link_limit, IsTable, in_whole, in_each, word, with_word}
 use Rattle.words.specs.laws.Word.{word_same, word_other, length_with}
 use Rattle.model.specs.Kinds.{Step, position, same}
-use Rattle.model.specs.Tracing.{one, place_limit, has, clashes}
+use Rattle.model.specs.Tracing.{Marks, marks, place_limit, has, clashes}
+use Rattle.model.specs.Emission.{nullable_byte}
 use Rattle.equality.specs.laws.Base.{same_true, same_refl, or_cases}
 use Rattle.shapes.specs.declared.Step as Flat
 use Rattle.shapes.specs.Steps.{Inside, unpacked_name, packed_name, code_of, name_of}
@@ -92,7 +93,7 @@ module _ (text t : List ℕ) (f : Flat.Step) (s : Step) (st : Stands text f s) w
       (λ e. rw e (here n (first_of ks) p q h m u ks (omega (arith, d.0)) d.4 r.0 e))
       (λ e. rw (e, x) (further q h m u ks _ e i)))
 
-  pub sought : (n p : ℕ) (b : Bool) (k m : ℕ) (ks : Spots) → Fits text t n (spot p b k m ks) → Sought text t s ks (find_in text p (code_of f) (name_of f) t)
+  pub sought : (n p : ℕ) (b : Marks) (k m : ℕ) (ks : Spots) → Fits text t n (spot p b k m ks) → Sought text t s ks (find_in text p (code_of f) (name_of f) t)
   unfolding find_from
   sought n p b k m ks h =
       let x : word t p first_word ≡ first_of ks = h.rep.0 3 (omega arith) in
@@ -194,13 +195,13 @@ row_other t p base q f v xs n r g l = word_other t q f v p (base + g) (n g l) �
 abbrev joined : ℕ → ℕ → List ℕ → List ℕ
 joined p n t = when eqb (word t p first_word) 0 then with_word t p first_word n else with_word t (word t p last_word) next_word n
 
-record Linked (t t₀ : List ℕ) (n p : ℕ) (s : Step) (b : Bool) (k m : ℕ) (ks : Spots) : Type 0 where
+record Linked (t t₀ : List ℕ) (n p : ℕ) (s : Step) (b : Marks) (k m : ℕ) (ks : Spots) : Type 0 where
   size : length t₀ ≡ length t
-  row : Row t₀ p kind_word (k ∷ one b ∷ m ∷ first_of (add_s s n ks) ∷ last_from 0 ks ∷ [])
+  row : Row t₀ p kind_word (k ∷ nullable_byte b ∷ m ∷ first_of (add_s s n ks) ∷ last_from 0 ks ∷ [])
   link : (first_of ks ≡ 0 → ⊥) → word t₀ (last_from 0 ks) next_word ≡ n
   rest : (q f : ℕ) → f < place_words → (q ≡ p → f ≡ first_word → ⊥) → (within_in q ks ≡ true → q ≡ last_from 0 ks → f ≡ next_word → ⊥) → word t₀ q f ≡ word t q f
 
-linked_is : (text t : List ℕ) (n p : ℕ) (s : Step) (b : Bool) (k m : ℕ) (ks : Spots) → Fits text t n (spot p b k m ks) → Linked t (joined p n t) n p s b k m ks
+linked_is : (text t : List ℕ) (n p : ℕ) (s : Step) (b : Marks) (k m : ℕ) (ks : Spots) → Fits text t n (spot p b k m ks) → Linked t (joined p n t) n p s b k m ks
 unfolding add_s when◌then◌else◌
 linked_is text t n p s b k m no_spots h =
     let short : n < link_limit = omega (arith, h.most) in
@@ -231,7 +232,7 @@ zero_row t n base k i z f l = grind (arith, common_steps)
 
 -- A new last child, in a table that does not yet have it in the search tree nor in the block: what `After` says but for these, and the words
 -- that they read.
-pub record Grown (text t : List ℕ) (n p : ℕ) (b : Bool) (k m : ℕ) (ks : Spots) (s : Step) (t' : List ℕ) : Type 0 where
+pub record Grown (text t : List ℕ) (n p : ℕ) (b : Marks) (k m : ℕ) (ks : Spots) (s : Step) (t' : List ℕ) : Type 0 where
   pub rep : Rep text t' (spot p b k m (add_s s n ks))
   pub good : Good (n + 1) (spot p b k m (add_s s n ks))
   pub size : length t' ≡ length t
@@ -242,7 +243,7 @@ pub record Grown (text t : List ℕ) (n p : ℕ) (b : Bool) (k m : ℕ) (ks : Sp
   pub step : word t' n step_word ≡ step_code_of s
   pub zeros : (q f : ℕ) → n + 1 ≤ q → q < place_limit → f < place_words → word t' q f ≡ 0
 
-pub append_grown : (text t : List ℕ) (n p : ℕ) (x : Flat.Step) (s : Step) (b : Bool) (k m : ℕ) (ks : Spots) → Stands text x s → near_in s ks ≡ false → Fits text t n (spot p b k m ks) → n < place_limit
+pub append_grown : (text t : List ℕ) (n p : ℕ) (x : Flat.Step) (s : Step) (b : Marks) (k m : ℕ) (ks : Spots) → Stands text x s → near_in s ks ≡ false → Fits text t n (spot p b k m ks) → n < place_limit
     → Grown text t n p b k m ks s (appended p (code_of x) (name_of x) n t)
 unfolding appended linked described
 append_grown text t n p x s b k m ks st far h i =
@@ -286,13 +287,13 @@ append_grown text t n p x s b k m ks st far h i =
     } in
     let fresh : (f : ℕ) → f < place_words → (parent_word ≤ f → f ≤ name_word → ⊥) → word t₄ n f ≡ 0
     = λ f j a. behind n f (λ _. a) ∙ zeros₀ f j in
-    let own : Row t₄ n kind_word (own_words false 0 0 no_spots)
+    let own : Row t₄ n kind_word (own_words (marks false false) 0 0 no_spots)
     = λ f l. behind n (kind_word + f) (λ _ a _. omega arith) ∙ zero_row t₁ n kind_word 5 (omega arith) zeros₀ f l in
     let parent : Row t₄ p kind_word (own_words b k m (add_s s n ks))
     = λ f l. cc (
       last_add 0 s n ks,
       behind p (kind_word + f) (λ e _ _. omega arith),
-      row_set t₀ p kind_word 4 n (k ∷ one b ∷ m ∷ first_of (add_s s n ks) ∷ last_from 0 ks ∷ []) (omega arith) (omega arith) (omega arith) (in_each (omega arith))
+      row_set t₀ p kind_word 4 n (k ∷ nullable_byte b ∷ m ∷ first_of (add_s s n ks) ∷ last_from 0 ks ∷ []) (omega arith) (omega arith) (omega arith) (in_each (omega arith))
           (omega arith) k₀.row f l,
     ) in
     record {

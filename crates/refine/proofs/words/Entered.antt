@@ -1,5 +1,5 @@
 -- A new child in the search tree of its place, or in its block, or with no number; and the search for a numbered child.
-use Rattle.std.specs.Prelude.{◌≡◌, List, Bool, true, false, ◌||◌, ℕ, suc, ◌+◌, ◌*◌, ◌<◌, ◌≤◌, length, eqb}
+use Rattle.std.specs.Prelude.{◌≡◌, List, true, false, ◌||◌, ℕ, suc, ◌+◌, ◌*◌, ◌<◌, ◌≤◌, length, eqb}
 use Rattle.std.proofs.Math.Path.{refl}
 use Rattle.std.proofs.Common.{sym, subst, ◌∙◌, arith, eqb-true, eq-eqb, lt-ltb, ltb-true, ltb-false}
 use Rattle.std.proofs.Math.Bool.{or-false, or_assoc}
@@ -11,7 +11,7 @@ use Rattle.text.specs.Tag.{tag_of}
 use Rattle.words.specs.Word.{place_words, IsTable, in_each, word, with_word}
 use Rattle.words.specs.laws.Word.{word_same, word_other, length_with}
 use Rattle.model.specs.Kinds.{Step, position, same}
-use Rattle.model.specs.Tracing.{place_limit, has}
+use Rattle.model.specs.Tracing.{Marks, place_limit, has}
 use Rattle.equality.specs.laws.Base.{same_true, or_cases}
 use Rattle.shapes.specs.declared.Step as Flat
 use Rattle.shapes.specs.Steps.{field_code, code_of, name_of}
@@ -116,7 +116,7 @@ module _ (t t' : List ℕ) (p : ℕ) (s : Step) (n : ℕ) (ks : Spots) (x : Inde
       go q f (at_left _ e) z = or_cases (num_in q ks) (eqb q n) (sym (add_nums q s n ks) ∙ e) (λ a. leads q f (at_left q a) z) (λ a. let d : q ≡ n = eqb-true q n a in absurd (z (rw d left)))
       go q f (at_right _ e) z = or_cases (num_in q ks) (eqb q n) (sym (add_nums q s n ks) ∙ e) (λ a. leads q f (at_right q a) z) (λ a. let d : q ≡ n = eqb-true q n a in absurd (z (rw d right)))
 
-module _ (text t : List ℕ) (n p : ℕ) (b : Bool) (k m : ℕ) (ks : Spots) (h : Fits text t n (spot p b k m ks)) (s : Step) (far : near_in s ks ≡ false)
+module _ (text t : List ℕ) (n p : ℕ) (b : Marks) (k m : ℕ) (ks : Spots) (h : Fits text t n (spot p b k m ks)) (s : Step) (far : near_in s ks ≡ false)
     (room : n < place_limit) (t₄ : List ℕ) (grown : Grown text t n p b k m ks s t₄) where
   known : (r : Step) → has r (steps_s ks) ≡ true → num (spot_at r ks) ≡ 0 → ⊥
   known r e z = let i = (child_good n p r ks h.good.2 e).1 in omega (arith, i)
@@ -313,7 +313,7 @@ module _ (text t : List ℕ) (n p : ℕ) (b : Bool) (k m : ℕ) (ks : Spots) (h 
 
 -- ---- the search for a numbered child
 -- with the places that there are it finds what it finds with all
-narrow_seek : (text t : List ℕ) (n p : ℕ) (b : Bool) (k m : ℕ) (ks : Spots) → Fits text t n (spot p b k m ks) → (code : ℕ) → seek p code n t ≡ seek p code place_limit t
+narrow_seek : (text t : List ℕ) (n p : ℕ) (b : Marks) (k m : ℕ) (ks : Spots) → Fits text t n (spot p b k m ks) → (code : ℕ) → seek p code n t ≡ seek p code place_limit t
 narrow_seek text t n p b k m ks h code =
     let x : Index t p ks = h.index.0 in
     let most : n ≤ place_limit = h.most in
@@ -324,7 +324,7 @@ narrow_seek text t n p b k m ks h code =
     (narrow _ _ end_at ∙ sym (end_known n t t p ks x.leads (λ q f l _. narrow q f l) (λ q _. refl) code x.here).leads)
 
 -- it gives nothing, the child at the step, or a variant with the same number and another name
-pub numbered_sought : (text t : List ℕ) (x : Flat.Step) (s : Step) → Stands text x s → (n p : ℕ) (b : Bool) (k m : ℕ) (ks : Spots) →
+pub numbered_sought : (text t : List ℕ) (x : Flat.Step) (s : Step) → Stands text x s → (n p : ℕ) (b : Marks) (k m : ℕ) (ks : Spots) →
     Fits text t n (spot p b k m ks) → Apart (word t p block_word) (step_code_of s)
     → Sought text t s ks (seek p (code_of x) n t).child
 numbered_sought text t x s st n p b k m ks h a =
@@ -338,7 +338,7 @@ numbered_sought text t x s st n p b k m ks h a =
 
 -- ---- a new child with its tag and position, entered if it is numbered
 -- these are none of the words that say the tree
-grown_tag : (text t : List ℕ) (n p : ℕ) (b : Bool) (k m : ℕ) (ks : Spots) (s : Step) (t' : List ℕ) → Grown text t n p b k m ks s t' → (at v : ℕ) → tag_word ≤ at →
+grown_tag : (text t : List ℕ) (n p : ℕ) (b : Marks) (k m : ℕ) (ks : Spots) (s : Step) (t' : List ℕ) → Grown text t n p b k m ks s t' → (at v : ℕ) → tag_word ≤ at →
     Grown text t n p b k m ks s (with_word t' n at v)
 grown_tag text t n p b k m ks s t' g at v h =
     let w : (q f : ℕ) → f < tag_word → word (with_word t' n at v) q f ≡ word t' q f = λ q f l. word_other t' n at v q f (λ _ e. omega arith) in
@@ -358,7 +358,7 @@ grown_tag text t n p b k m ks s t' g at v h =
       zeros = λ q f l y i. word_other t' n at v q f (λ x _. omega arith) ∙ g.zeros q f l y i;
     }
 
-pub make_after : (text t : List ℕ) (n p : ℕ) (x : Flat.Step) (s : Step) (b : Bool) (k m : ℕ) (ks : Spots) → Stands text x s → near_in s ks ≡ false → Fits text t n (spot p b k m ks) → n < place_limit
+pub make_after : (text t : List ℕ) (n p : ℕ) (x : Flat.Step) (s : Step) (b : Marks) (k m : ℕ) (ks : Spots) → Stands text x s → near_in s ks ≡ false → Fits text t n (spot p b k m ks) → n < place_limit
     → After text t n (spot p b k m ks) (entered p (code_of x) n (tagged text (name_of x) (position_in p t) n (appended p (code_of x) (name_of x) n t))) (n + 1) (spot p b k m (add_s s n ks))
 unfolding entered tagged when◌then◌else◌
 make_after text t n p x s b k m ks st far h room =

@@ -1,5 +1,5 @@
 -- The places that a container makes at once, in the words of the table and in the numbered tree.
-use Rattle.std.specs.Prelude.{◌≡◌, Bool, true, ◌&&◌, ltb, Ok, Err}
+use Rattle.std.specs.Prelude.{◌≡◌, true, ◌&&◌, ltb, Ok, Err}
 use Rattle.std.proofs.Math.Path.{refl, ap, subst}
 use Rattle.std.proofs.Common.{sym, ◌∙◌, le_refl}
 use mathlib.Core.List.{List, [], ◌∷◌}
@@ -20,7 +20,7 @@ use Rattle.words.specs.Word.{IsTable, in_each, word, with_word}
 use Rattle.words.specs.laws.Word.{word_same, length_with, with_word_lem, with_again, with_swap}
 use Rattle.model.specs.Result.{Result, refused, ◌>>=◌}
 use Rattle.model.specs.Kinds.{sequence_kind, map_kind, tuple_kind, Step, element, position, key, value}
-use Rattle.model.specs.Tracing.{place_limit, has, made, positions_from, Counted, counted}
+use Rattle.model.specs.Tracing.{Marks, place_limit, has, made, positions_from, Counted, counted}
 use Rattle.shapes.specs.declared.Step as Flat
 use Rattle.shapes.specs.declared.Step.TheVariants as S
 use Rattle.shapes.specs.Steps.{code_of, no_name}
@@ -48,11 +48,11 @@ positions_stand : (text : List ℕ) (i n : ℕ) → AllStand text (positionsOf i
 positions_stand text i zero = tt
 positions_stand text i (suc n) = (position_stands text i, positions_stand text (suc i) n)
 
-pub data EnsuresAll (text : List ℕ) (p : ℕ) (b : Bool) (k m : ℕ) (ks : Spots) (t : List ℕ) (n at : ℕ) : Result (Counted Spots) → Making → Type 0 where
+pub data EnsuresAll (text : List ℕ) (p : ℕ) (b : Marks) (k m : ℕ) (ks : Spots) (t : List ℕ) (n at : ℕ) : Result (Counted Spots) → Making → Type 0 where
   all_there : {n' : ℕ} {ks' : Spots} {t' : List ℕ} → After text t n (spot p b k m ks) t' n' (spot p b k m ks') → EnsuresAll text p b k m ks t n at (counted n' ks') (making (Ok n') t')
   not_all : {x : Refusal} {t' : List ℕ} → EnsuresAll text p b k m ks t n at (refused (number_of x) at) (making (Err x) t')
 
-module _ (text : List ℕ) (p : ℕ) (b : Bool) (k m at : ℕ) where
+module _ (text : List ℕ) (p : ℕ) (b : Marks) (k m at : ℕ) where
   all_after : {t t₁ : List ℕ} {n n₁ : ℕ} {ks ks₁ : Spots} {x : Result (Counted Spots)} {y : Making} →
       After text t n (spot p b k m ks) t₁ n₁ (spot p b k m ks₁) → EnsuresAll text p b k m ks₁ t₁ n₁ at x y → EnsuresAll text p b k m ks t n at x y
   all_after a (all_there c) = all_there (and_then _ _ _ _ _ _ _ _ _ _ a c)
@@ -114,7 +114,7 @@ module _ (p v : ℕ) where
   unfolding appended described
   appended_block code n name t = grind (arith, common_steps, lengthened_aside p block_word v refl p n t, swap)
 
-module _ (text : List ℕ) (p : ℕ) (b : Bool) (k m at c last : ℕ) where
+module _ (text : List ℕ) (p : ℕ) (b : Marks) (k m at c last : ℕ) where
   -- both append the positions up to the last, or both are refused (11); the block is stored at the end, and is told here as if it were at each of them
   data Appends (i : ℕ) (t : List ℕ) (n : ℕ) (ks : Spots) : Result (Counted Spots) → Making → Type 0 where
     appends : {n' : ℕ} {ks' : Spots} {t' : List ℕ} →
@@ -163,7 +163,7 @@ unfolding has steps_s
 no_positions zero β = refl
 no_positions (suc v) β = absurd (false≢true (β 0 (omega arith)).0)
 
-module _ (text t : List ℕ) (n p : ℕ) (b : Bool) (k m at : ℕ) where
+module _ (text t : List ℕ) (n p : ℕ) (b : Marks) (k m at : ℕ) where
   block_all : (positions : ℕ) (ks : Spots) {x : Result (Counted Spots)} {y : Making} → with_word t p block_word 0 ≡ t → Appends text p b k m at n positions 0 t n ks x y
       → EnsuresAll text p b k m ks t n at x (then_made y (λ j u. making (Ok j) (with_word u p block_word positions)))
   block_all positions ks e (appends {n' = n'} {ks' = ks'} {t' = t'} d) =

@@ -14,7 +14,8 @@ use Rattle.words.specs.Word.{place_words, IsTable, IsRow, in_whole, word, with_w
 use Rattle.words.specs.laws.Word.{word_other, length_with}
 use Rattle.model.specs.Result.{Result, refused}
 use Rattle.model.specs.Kinds.{Step, position, same}
-use Rattle.model.specs.Tracing.{one, has, clashes, place_limit, Counted, counted}
+use Rattle.model.specs.Tracing.{Marks, has, clashes, place_limit, Counted, counted}
+use Rattle.model.specs.Emission.{nullable_byte}
 use Rattle.shapes.specs.declared.Step as Flat
 use Rattle.shapes.specs.declared.Step.TheVariants as S
 use Rattle.shapes.specs.Steps.{code_of, no_name, name_of}
@@ -32,12 +33,12 @@ use Rattle.refine.proofs.words.Entered.{make_after, numbered_sought}
 use Rattle.std.proofs.lemmas.Grind.{common_steps}
 
 -- ---- a child for a step
-pub data Ensures (text : List ℕ) (s : Step) (p : ℕ) (b : Bool) (k m : ℕ) (ks : Spots) (t : List ℕ) (n at : ℕ) : Result (Counted Spots) → Ensuring → Type 0 where
+pub data Ensures (text : List ℕ) (s : Step) (p : ℕ) (b : Marks) (k m : ℕ) (ks : Spots) (t : List ℕ) (n at : ℕ) : Result (Counted Spots) → Ensuring → Type 0 where
   there : {n' : ℕ} {ks' : Spots} {t' : List ℕ} → has s (steps_s ks') ≡ true → After text t n (spot p b k m ks) t' n' (spot p b k m ks')
       → Ensures text s p b k m ks t n at (counted n' ks') (ensuring (Ok (record { child = num (spot_at s ks'); count = n' })) t')
   no_place : {x : Refusal} {t' : List ℕ} → Ensures text s p b k m ks t n at (refused (number_of x) at) (ensuring (Err x) t')
 
-ensure_by : (text t : List ℕ) (n p : ℕ) (x : Flat.Step) (s : Step) (at : ℕ) (b : Bool) (k m : ℕ) (ks : Spots) → Stands text x s → Fits text t n (spot p b k m ks)
+ensure_by : (text t : List ℕ) (n p : ℕ) (x : Flat.Step) (s : Step) (at : ℕ) (b : Marks) (k m : ℕ) (ks : Spots) → Stands text x s → Fits text t n (spot p b k m ks)
     → (c : ℕ) → Sought text t s ks c → Ensures text s p b k m ks t n at (make_s at s n ks) (ensured_by text p (code_of x) (name_of x) n t c)
 unfolding ensured_by confirmed make_s when◌then◌else◌
 ensure_by text t n p x s at b k m ks st h c (absent z far) =
@@ -62,7 +63,7 @@ unfolding clashes steps_s
 no_clash i no_spots = refl
 no_clash i (child r h m u ks) = no_clash i ks
 
-module _ (text t : List ℕ) (n p : ℕ) (b : Bool) (k m : ℕ) (ks : Spots) (h : Fits text t n (spot p b k m ks)) where
+module _ (text t : List ℕ) (n p : ℕ) (b : Marks) (k m : ℕ) (ks : Spots) (h : Fits text t n (spot p b k m ks)) where
   in_block_lem : (i : ℕ) → in_block p i n t ≡ true → word t p first_word + i ≡ find_in text p (code_of (S.Position i)) no_name t
   unfolding in_block
   in_block_lem i e =
@@ -97,7 +98,7 @@ module _ (text t : List ℕ) (n p : ℕ) (b : Bool) (k m : ℕ) (ks : Spots) (h 
       let c : 5 + 2 * number ≡ step_code_of s = st.code in
       numbered_sought text t (S.Variant number name) s st n p b k m ks h (rw (← c) (omega arith), λ z. absurd (let y : (5 + 2 * number) % 2 ≡ 0 = rw (← c) at z in omega arith))
 
-pub ensure_is : (text t : List ℕ) (n p : ℕ) (x : Flat.Step) (s : Step) (at : ℕ) (b : Bool) (k m : ℕ) (ks : Spots) → Stands text x s → Fits text t n (spot p b k m ks)
+pub ensure_is : (text t : List ℕ) (n p : ℕ) (x : Flat.Step) (s : Step) (at : ℕ) (b : Marks) (k m : ℕ) (ks : Spots) → Stands text x s → Fits text t n (spot p b k m ks)
     → Ensures text s p b k m ks t n at (make_s at s n ks) (ensured text p x n t)
 unfolding ensured
 ensure_is text t n p x s at b k m ks st h = ensure_by text t n p x s at b k m ks st h (child_at text p x n t) (child_sought text t n p b k m ks h x s st)
@@ -195,7 +196,7 @@ module _ (s : Step) (N : ℕ) (v : Spot) where
         ))
 
 -- ---- the child's walk, and what it makes of the parent
-module _ (text t : List ℕ) (n p : ℕ) (s : Step) (b : Bool) (k m : ℕ) (ks : Spots) (h : Fits text t n (spot p b k m ks)) (e : has s (steps_s ks) ≡ true) where
+module _ (text t : List ℕ) (n p : ℕ) (s : Step) (b : Marks) (k m : ℕ) (ks : Spots) (h : Fits text t n (spot p b k m ks)) (e : has s (steps_s ks) ≡ true) where
   in_child : (q : ℕ) → within_in q ks ≡ false → within q (spot_at s ks) ≡ false
   in_child q d = un_true (within q (spot_at s ks)) (λ i. not_both (within_in q ks) (found q s ks e i) d)
 
@@ -279,5 +280,5 @@ module _ (text t : List ℕ) (n p : ℕ) (s : Step) (b : Bool) (k m : ℕ) (ks :
         kept = λ q l. put_has n n' s m v wider gv q ks e (same_has q l);
       }
     where
-      subst₂' : (x x' y y' : ℕ) (t' : List ℕ) → x ≡ x' → y ≡ y' → Row t' p kind_word (k ∷ one b ∷ m ∷ x' ∷ y' ∷ []) → Row t' p kind_word (k ∷ one b ∷ m ∷ x ∷ y ∷ [])
-      subst₂' x x' y y' t' d d' r = subst (λ (z : ℕ). Row t' p kind_word (k ∷ one b ∷ m ∷ z ∷ y ∷ [])) (sym d) (subst (λ (z : ℕ). Row t' p kind_word (k ∷ one b ∷ m ∷ x' ∷ z ∷ [])) (sym d') r)
+      subst₂' : (x x' y y' : ℕ) (t' : List ℕ) → x ≡ x' → y ≡ y' → Row t' p kind_word (k ∷ nullable_byte b ∷ m ∷ x' ∷ y' ∷ []) → Row t' p kind_word (k ∷ nullable_byte b ∷ m ∷ x ∷ y ∷ [])
+      subst₂' x x' y y' t' d d' r = subst (λ (z : ℕ). Row t' p kind_word (k ∷ nullable_byte b ∷ m ∷ z ∷ y ∷ [])) (sym d) (subst (λ (z : ℕ). Row t' p kind_word (k ∷ nullable_byte b ∷ m ∷ x' ∷ z ∷ [])) (sym d') r)

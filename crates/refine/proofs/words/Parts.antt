@@ -1,5 +1,5 @@
 -- The flat reader on the words is the walk over the values read, on the numbered tree: the parts of a container.
-use Rattle.std.specs.Prelude.{◌≡◌, List, Bool, true, length}
+use Rattle.std.specs.Prelude.{◌≡◌, List, true, length}
 use Rattle.std.proofs.Math.Path.{refl}
 use Rattle.std.proofs.Math.Option.{Option, some}
 use Prim.Native.Nat.{ℕ, zero, suc, ◌+◌, ◌*◌, ◌<◌, ◌≤◌}
@@ -12,7 +12,7 @@ use Rattle.words.specs.Word.{word}
 use Rattle.model.specs.Result.{Result, refused, ◌>>=◌}
 use Rattle.model.specs.Kinds.{Step}
 use Rattle.model.specs.Reading.{Value, Parts, Next, next_part, Got, rest, read_value, read_shape, read_parts}
-use Rattle.model.specs.Tracing.{has, dots_of, Counted, counted}
+use Rattle.model.specs.Tracing.{Marks, has, dots_of, Counted, counted}
 use Rattle.equality.specs.laws.reading.Values.{NextInside, next_inside}
 use Rattle.equality.specs.laws.reading.Steps.{parts_ended, parts_next, parts_bad}
 use Rattle.shapes.specs.declared.Step as Flat
@@ -43,7 +43,7 @@ pub agrees_after : {text commands t t₁ : List ℕ} {n n₁ : ℕ} {u u₁ : Sp
 agrees_after d l (went g z b) = went (omega arith) z (and_then _ _ _ _ _ _ _ _ _ _ d b)
 agrees_after d l balked = balked
 
-abbrev pub wrap : ℕ → Bool → ℕ → ℕ → Result (Counted Spots) → Result (Counted Spot)
+abbrev pub wrap : ℕ → Marks → ℕ → ℕ → Result (Counted Spots) → Result (Counted Spot)
 wrap p b k m x = x >>= λ q. counted q.places (spot p b k m q.what)
 
 -- ---- what is read: a value, or a variant's contents
@@ -73,7 +73,7 @@ Reads options commands text depth R = (c : Contents) (f here at n : ℕ) (t : Li
 
 -- ---- the parts of a container
 module _ (options : ℕ) (commands text : List ℕ) (bytes : Bytes commands) (depth : ℕ) (inner : Readers)
-    (reads : (down : ℕ) → Reads options commands text (depth + (1 + down)) (inner down)) (p : ℕ) (b : Bool) (j m : ℕ) where
+    (reads : (down : ℕ) → Reads options commands text (depth + (1 + down)) (inner down)) (p : ℕ) (b : Marks) (j m : ℕ) where
   -- what is left agrees, from any later state
   abbrev Onwards : ℕ → ℕ → (ℕ → Got Parts) → (State → Out) → Type 0
   Onwards lo i K F = (a n : ℕ) (t : List ℕ) (ks : Spots) → lo ≤ a → a ≤ length commands → Fits text t n (spot p b j m ks)

@@ -22,7 +22,7 @@ use Rattle.commands.specs.laws.Commands.{byte_of}
 use Rattle.model.specs.Result.{Result, ◌>>=◌}
 use Rattle.model.specs.Kinds.{sequence_kind, struct_kind, map_kind, tuple_kind, union_kind, is_container, variant}
 use Rattle.model.specs.Reading.{Value, val, cut, no_parts, part, Shape, chosen, shape_of, marked, rest, read_value, read_shape, read_parts}
-use Rattle.model.specs.Tracing.{depth_limit, made, Counted, counted}
+use Rattle.model.specs.Tracing.{Marks, marks, depth_limit, meet, marks_with, made, Counted, counted}
 use Rattle.equality.specs.laws.reading.Commands.{reads_on, reads_inside}
 use Rattle.equality.specs.laws.reading.Steps.{read_cases, value_command, value_refused}
 use Rattle.shapes.specs.declared.Step.TheVariants as S
@@ -31,27 +31,38 @@ use Rattle.shapes.specs.declared.Contents.TheVariants as N
 use Rattle.shapes.specs.declared.Shape as FlatShape
 use Rattle.std.specs.Prelude as M
 use Rattle.growth.specs.Growth.{made as madeFlat, Making, onward, sampled, ensured}
-use Rattle.kinds.specs.Meeting.{meeting}
+use Rattle.kinds.specs.declared.Met.{Met}
+use Rattle.kinds.specs.Meeting.{met, meeting}
 use Rattle.leaves.specs.Marks.{marked as markedFlat, some_byte, newtype_byte, chain, past_turn, past_marks}
 use Rattle.reading.specs.Reading.{on_made, Readers, State, state, after_part, parts_from, parts_by, container_by, variant_by, at_shape, at_read, after_chain, value_by, none_left, readers, on_held, dots_in}
 use Rattle.opening.specs.Opening.{holding, held, made_where, container_made, held_where, variant_held}
-use Rattle.leaves.specs.Leaves.{traced_to, Out, out, on_met, stored, observed}
-use Rattle.places.specs.Layout.{kind_word, null_word, samples_word}
+use Rattle.leaves.specs.Leaves.{traced_to, Out, out, on_met, with_met, stored, observed}
+use Rattle.places.specs.Layout.{kind_word, samples_word}
+use Rattle.places.specs.Nullable.{with_null}
 use Rattle.refine.specs.laws.numbered.Tree.{Spot, spot, Spots, num, make_all_s, walk, walk_parts}
 use Rattle.refine.specs.laws.reading.Steps.{Stands}
-use Rattle.refine.specs.laws.words.Places.{Fits, After, stays, and_then, set_kind, set_null, set_samples}
+use Rattle.refine.specs.laws.words.Places.{Fits, After, stays, and_then, set_kind, set_null, set_widened, set_samples}
 use Rattle.refine.proofs.words.Part.{ensure_is}
 use Rattle.refine.specs.laws.reading.Commands.{command_name, shape_in, Shapes, leaves, opens, chooses, nothing, shape_says, byte_is, starts, some_read, newtype_read}
 use Rattle.commands.specs.Bytes.{Bytes}
 use Rattle.refine.proofs.words.Parts.{Agrees, went, balked, agrees_after, wrap, read_in, Fuel, low, Reads, after_ensure, parts_sim}
-use Rattle.refine.specs.laws.words.Kinds.{meets, met_level, of_met}
+use Rattle.refine.specs.laws.words.Kinds.{meets, met_level, met_widened, no_widening, of_met}
 use Rattle.refine.proofs.words.Made.{EnsuresAll, all_there, ensure_made, not_all}
 
 -- ---- one value
-walk_marked : (options depth n p : ℕ) (b : Bool) (k m : ℕ) (ks : Spots) (v : Value) → walk options depth (marked true v) n (spot p b k m ks) ≡ walk options depth v n (spot p true k m ks)
+walk_marked : (options depth n p : ℕ) (b : Marks) (k m : ℕ) (ks : Spots) (v : Value) → walk options depth (marked true v) n (spot p b k m ks)
+    ≡ walk options depth v n (spot p (marks true b.widened) k m ks)
 unfolding walk when◌then◌else◌
-walk_marked options depth n p b k m ks (val at b' k' r ps) = rw (or-true b) refl
+walk_marked options depth n p b k m ks (val at b' k' r ps) = rw (or-true b.null) refl
 walk_marked options depth n p b k m ks (cut x at) = refl
+
+-- what is no container has no parts, and is no sample
+leaf_walk : (options depth : ℕ) (null : Bool) (k here n p : ℕ) (b : Marks) (j₀ m : ℕ) (ks : Spots) → is_container k ≡ false →
+    walk options depth (val here null k 0 no_parts) n (spot p b j₀ m ks) ≡ (meet options depth here j₀ k >>= λ j. counted n (spot p (marks_with null j₀ k b) j m ks))
+unfolding walk make_all_s made when◌then◌else◌
+leaf_walk options depth null k here n p b j₀ m ks i =
+    let l : k < sequence_kind = leb-false sequence_kind k i in
+    rw (ne_eqb k sequence_kind (omega arith), ne_eqb k map_kind (omega arith), ne_eqb k tuple_kind (omega arith), i) refl
 
 unmarked : (v : Value) → marked false v ≡ v
 unfolding when◌then◌else◌
@@ -71,7 +82,7 @@ done_part i (out (M.Ok to) t) = refl
 done_part i (out (M.Err r) t) = refl
 
 -- kind and samples are written
-sample : (text t : List ℕ) (n p : ℕ) (b : Bool) (j₀ m : ℕ) (ks : Spots) → Fits text t n (spot p b j₀ m ks) → (j : ℕ) → After text t n (spot p b j₀ m ks) (sampled p j t) n (spot p b j (onward m) ks)
+sample : (text t : List ℕ) (n p : ℕ) (b : Marks) (j₀ m : ℕ) (ks : Spots) → Fits text t n (spot p b j₀ m ks) → (j : ℕ) → After text t n (spot p b j₀ m ks) (sampled p j t) n (spot p b j (onward m) ks)
 unfolding sampled
 sample text t n p b j₀ m ks h j =
     let t₁ : List ℕ = with_word t p kind_word j in
@@ -79,35 +90,44 @@ sample text t n p b j₀ m ks h j =
     let w : word t p samples_word ≡ m = h.rep.0 2 (omega arith) in
     rw w (and_then _ _ _ _ _ _ _ _ _ _ A (set_samples text t₁ n p b j m ks A.fits (onward m)))
 
+-- kind and marks are written
+module _ (text t : List ℕ) (n p : ℕ) (b : Marks) (k m : ℕ) (ks : Spots) (h : Fits text t n (spot p b k m ks)) where
+  met_after : (kind : ℕ) (widened : Bool) → After text t n (spot p b k m ks) (with_met (met kind widened) p t) n (spot p (marks b.null (b.widened || widened)) kind m ks)
+  unfolding when◌then◌else◌
+  met_after kind true =
+      let A = set_kind text t n p b k m ks h kind in
+      rw (or-true b.widened) (and_then _ _ _ _ _ _ _ _ _ _ A (set_widened text (with_word t p kind_word kind) n p b kind m ks A.fits))
+  met_after kind false = rw (or-false b.widened) (set_kind text t n p b k m ks h kind)
+
+  null_after : (null : Bool) → After text t n (spot p b k m ks) (when null then with_null p t else t) n (spot p (marks (b.null || null) b.widened) k m ks)
+  unfolding when◌then◌else◌
+  null_after true = rw (or-true b.null) (set_null text t n p b k m ks h)
+  null_after false = rw (or-false b.null) (stays text t n (spot p b k m ks) h)
+
+stored_after : (text t : List ℕ) (n p : ℕ) (b : Marks) (k m : ℕ) (ks : Spots) → Fits text t n (spot p b k m ks) → (null : Bool) (j : Met) →
+    After text t n (spot p b k m ks) (stored null j p t) n (spot p (marks (b.null || null) (b.widened || j.widened)) j.kind m ks)
+unfolding stored
+stored_after text t n p b k m ks h null j =
+    let A = met_after text t n p b k m ks h j.kind j.widened in
+    and_then _ _ _ _ _ _ _ _ _ _ A (null_after text (with_met j p t) n p (marks b.null (b.widened || j.widened)) j.kind m ks A.fits null)
+
 module _ (options : ℕ) (commands text : List ℕ) (bytes : Bytes commands) (depth levels : ℕ) (level : depth_limit - depth ≡ levels) (inner : Readers)
     (reads : (levels ≡ 0 → ⊥) → (down : ℕ) → Reads options commands text (depth + (1 + down)) (inner down)) where
   leaf_sim : (null : Bool) (k lo here a n : ℕ) (t : List ℕ) (u : Spot) → is_container k ≡ false → lo ≤ a → a ≤ length commands → Fits text t n u
       → Agrees text commands t n u lo (walk options depth (val here null k 0 no_parts) n u) (observed options null k levels here a (num u) n t) (some a)
-  unfolding walk make_all_s made observed stored when◌then◌else◌
+  unfolding observed
   leaf_sim null k lo here a n t (spot p b j₀ m ks) i y z h =
       let w : word t p kind_word ≡ j₀ = h.rep.0 0 (omega arith) in
-      let l : k < sequence_kind = leb-false sequence_kind k i in
-      rw (
-        w,
-        meets options depth levels here j₀ k level,
-        ne_eqb k sequence_kind (omega arith),
-        ne_eqb k map_kind (omega arith),
-        ne_eqb k tuple_kind
-            (omega arith),
-        i,
-      ) (go null (meeting options levels j₀ k))
+      rw (leaf_walk options depth null k here n p b j₀ m ks i, w, meets options depth levels here j₀ k level) (go (meeting options levels j₀ k) refl)
     where
-      go : (null : Bool) (x : M.Result ℕ Refusal) →
-          Agrees text commands t n (spot p b j₀ m ks) lo (of_met here x >>= λ j. counted n (spot p (b || null) j m ks))
-          (on_met here t (λ j. out (traced_to a n) (when null then with_word (with_word t p kind_word j) p null_word 1 else with_word t p kind_word j)) x)
+      go : (x : M.Result Met Refusal) → meeting options levels j₀ k ≡ x →
+          Agrees text commands t n (spot p b j₀ m ks) lo (of_met here x >>= λ j. counted n (spot p (marks_with null j₀ k b) j m ks))
+          (on_met here t (λ j. out (traced_to a n) (stored null j p t)) x)
           (some a)
-      go null (M.Err x) = balked
-      go true (M.Ok j) =
-          let A = set_kind text t n p b j₀ m ks h j in
-          rw (or-true b) (went y z (and_then _ _ _ _ _ _ _ _ _ _ A (set_null text (with_word t p kind_word j) n p b j m ks A.fits)))
-      go false (M.Ok j) = rw (or-false b) (went y z (set_kind text t n p b j₀ m ks h j))
+      go (M.Err x) e = balked
+      go (M.Ok j) e = rw (← met_widened options levels j₀ k j e) (went y z (stored_after text t n p b j₀ m ks h null j))
 
-  contents_sim : (levels ≡ 0 → ⊥) → (k r f here at n p : ℕ) (b : Bool) (j m : ℕ) (t : List ℕ) (ks : Spots) → at ≤ length commands →
+  contents_sim : (levels ≡ 0 → ⊥) → (k r f here at n p : ℕ) (b : Marks) (j m : ℕ) (t : List ℕ) (ks : Spots) → at ≤ length commands →
       4 * length commands + 2 ≤ 4 * at + f → {x : Result (Counted Spots)} {y : Making} → EnsuresAll text p b j m ks t n here x y
       → Agrees text commands t n (spot p b j m ks) at
       (x >>= λ q. wrap p b j m (walk_parts options depth m (read_parts f options commands text k r 0 at).0 q.places q.what))
@@ -123,17 +143,18 @@ module _ (options : ℕ) (commands text : List ℕ) (bytes : Bytes commands) (de
   unfolding walk container_by container_made when◌then◌else◌
   container_sim k r f here at n t (spot p b j₀ m ks) c y i h =
       let w : word t p kind_word ≡ j₀ = h.rep.0 0 (omega arith) in
-      rw (w, meets options depth levels here j₀ k level, c, or-false b) (go (meeting options levels j₀ k) refl)
+      rw (w, meets options depth levels here j₀ k level, no_widening j₀ k c, c, or-false b.null, or-false b.widened) (go (meeting options levels j₀ k) refl)
     where
-      go : (x : M.Result ℕ Refusal) → meeting options levels j₀ k ≡ x → Agrees text commands t n (spot p b j₀ m ks) at
+      go : (x : M.Result Met Refusal) → meeting options levels j₀ k ≡ x → Agrees text commands t n (spot p b j₀ m ks) at
           (of_met here x >>= λ j. make_all_s here (made k r j₀) n ks >>= λ q. walk_parts options depth (onward m)
           (read_parts f options commands text k r 0 at).0 q.places q.what >>= λ q. counted q.places (spot p b j (onward m) q.what))
           (on_made here (parts_by commands text inner k r p at) (made_where t (λ j. madeFlat text p k r j₀ n (sampled p j t)) x)) (read_parts f options commands text k r 0 at).1
       go (M.Err x) e = balked
       go (M.Ok j) e =
-          let A = sample text t n p b j₀ m ks h j in
+          let A = sample text t n p b j₀ m ks h j.kind in
+          let t₁ : List ℕ = sampled p j.kind t in
           agrees_after A (le_refl at)
-          (contents_sim (met_level options levels j₀ k j c e) k r f here at n p b j (onward m) (sampled p j t) ks y i (ensure_made text (sampled p j t) n p b j (onward m) here k r j₀ ks A.fits))
+          (contents_sim (met_level options levels j₀ k j c e) k r f here at n p b j.kind (onward m) t₁ ks y i (ensure_made text t₁ n p b j.kind (onward m) here k r j₀ ks A.fits))
 
   choice_sim : (c : Contents) (k : ℕ) (name : Name) (f here at n : ℕ) (t : List ℕ) (u : Spot) →
       Stands text (S.Variant k name) (variant k (bytes_of text name)) → at ≤ length commands → Fuel commands c f at → Fits text t n u
@@ -144,7 +165,7 @@ module _ (options : ℕ) (commands text : List ℕ) (bytes : Bytes commands) (de
   unfolding walk make_all_s made variant_by variant_held held when◌then◌else◌
   choice_sim c k name f here at n t (spot p b j₀ m ks) st y i h =
       let w : word t p kind_word ≡ j₀ = h.rep.0 0 (omega arith) in
-      rw (w, meets options depth levels here j₀ union_kind level, or-false b) (go (meeting options levels j₀ union_kind) refl)
+      rw (w, meets options depth levels here j₀ union_kind level, no_widening j₀ union_kind refl, or-false b.null, or-false b.widened) (go (meeting options levels j₀ union_kind) refl)
     where
       base : (c : Contents) → at ≤ low c at
       base N.Unit = omega arith
@@ -152,17 +173,17 @@ module _ (options : ℕ) (commands text : List ℕ) (bytes : Bytes commands) (de
       base (N.Positions n) = omega arith
       base N.Fields = omega arith
 
-      go : (z : M.Result ℕ Refusal) → meeting options levels j₀ union_kind ≡ z → Agrees text commands t n (spot p b j₀ m ks) at
+      go : (z : M.Result Met Refusal) → meeting options levels j₀ union_kind ≡ z → Agrees text commands t n (spot p b j₀ m ks) at
           (of_met here z >>= λ j. wrap p b j (onward m) (walk_parts options depth (onward m) (part here (variant k (bytes_of text name)) (read_in f options commands text c here at).0 no_parts) n ks))
           (on_held here (inner (dots_in text name) c here at) (held_where t (λ j. holding p (ensured text p (S.Variant k name) n (sampled p j t))) z)) (read_in f options commands text c here at).1
       go (M.Err x) e = balked
       go (M.Ok j) e =
-          let t₂ : List ℕ = sampled p j t in
-          let A = sample text t n p b j₀ m ks h j in
-          let E = ensure_is text t₂ n p (S.Variant k name) (variant k (bytes_of text name)) here b j (onward m) ks st A.fits in
-          let r = after_ensure options commands text bytes depth inner (reads (met_level options levels j₀ union_kind j refl e)) p b j
+          let t₂ : List ℕ = sampled p j.kind t in
+          let A = sample text t n p b j₀ m ks h j.kind in
+          let E = ensure_is text t₂ n p (S.Variant k name) (variant k (bytes_of text name)) here b j.kind (onward m) ks st A.fits in
+          let r = after_ensure options commands text bytes depth inner (reads (met_level options levels j₀ union_kind j refl e)) p b j.kind
           (onward m) c at here at (S.Variant k name) (variant k (bytes_of text name)) st 0 (base c) (λ a. (no_parts, some a)) stopped
-          (λ a₂ n₂ t₂ ks₂ _ z h₂. went (le_refl a₂) z (stays text t₂ n₂ (spot p b j (onward m) ks₂) h₂)) f y i t₂ n ks E in
+          (λ a₂ n₂ t₂ ks₂ _ z h₂. went (le_refl a₂) z (stays text t₂ n₂ (spot p b j.kind (onward m) ks₂) h₂)) f y i t₂ n ks E in
           agrees_after A (le_refl at) (rw (rest_pure, done_part) at r)
 
   -- the shape that a command begins, at a bound that is enough for it
@@ -234,7 +255,7 @@ module _ (options : ℕ) (commands text : List ℕ) (bytes : Bytes commands) (de
         walk_marked options depth n p b k m ks (read_value f options commands text (at + 1)).0,
       )
       (agrees_after (set_null text t n p b k m ks h) (omega arith)
-      (chain_sim g f (at + 1) n (with_word t p null_word 1) (spot p true k m ks) (omega arith) (omega arith) (omega arith)
+      (chain_sim g f (at + 1) n (with_null p t) (spot p (marks true b.widened) k m ks) (omega arith) (omega arith) (omega arith)
       (set_null text t n p b k m ks h).fits)))
       (λ q.
       cases (eqb (get_or commands at 0) newtype_byte)

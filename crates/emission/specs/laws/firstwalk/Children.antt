@@ -1,5 +1,5 @@
 -- The first walk over a place's children, once each child is walked as the model says.
-use Rattle.std.specs.Prelude.{Ok, Err, ◌≡◌, Bool, true, ◌&&◌, ◌||◌, List, length}
+use Rattle.std.specs.Prelude.{Ok, Err, ◌≡◌, Bool, true, ◌&&◌, List, length}
 use Rattle.std.proofs.Math.Path.{refl}
 use Rattle.std.proofs.Common.{sym, ap, ◌∙◌, zero-add, arith, length-append}
 use Rattle.std.proofs.Math.Bool.{false}
@@ -15,7 +15,8 @@ use Rattle.refusal.specs.declared.Refusal.TheVariants as F
 use Rattle.refusal.specs.Number.{number_of}
 use Rattle.words.specs.Word.{word}
 use Rattle.model.specs.Kinds.{union_kind, Step, variant_of}
-use Rattle.model.specs.Emission.{Place, shown, place_of, places_of, is_missing, first_of, walk, walks, Field, mk, Fields, more, name_in, name_of, gaps, field_of, fields_of, names_of, names_in, columns_of, columns_in, count_of, count_in}
+use Rattle.model.specs.Tracing.{Marks}
+use Rattle.model.specs.Emission.{admitted, Place, shown, place_of, places_of, is_missing, first_of, walk, walks, Field, mk, Fields, more, name_in, name_of, gaps, field_of, fields_of, names_of, names_in, columns_of, columns_in, count_of, count_in}
 use Rattle.model.specs.Emission as Model
 use Rattle.places.specs.Layout.{kind_word}
 use Rattle.refine.specs.laws.numbered.Tree.{Spot, spot, Spots, no_spots, child, num, kind_s}
@@ -30,7 +31,7 @@ use Rattle.emission.specs.laws.firstwalk.Places.{size_s, size_in, many_s, AllS}
 
 -- the children of a field
 abbrev pub fields_of_field : Field → Fields
-fields_of_field (mk type nullable strategy number name fs) = fs
+fields_of_field (mk type m strategy number name fs) = fs
 
 -- A walk's outcome beside the model's refusal and fields: r, n and c were counted before; so many records and name bytes at most are new, with
 -- room for a and b more.
@@ -42,22 +43,22 @@ pub data Says (o : Option ℕ) (r n c : ℕ) (fs : Fields) (a b size : ℕ) : Wa
 -- ---- one field
 count_of_lem : (f : Field) → count_of f ≡ suc (count_in (fields_of_field f))
 unfolding count_of
-count_of_lem (mk type nullable strategy number name fs) = refl
+count_of_lem (mk type m strategy number name fs) = refl
 
 names_of_lem : (f : Field) → length (names_of f) ≡ length (name_in f) + length (names_in (fields_of_field f))
 unfolding names_of
-names_of_lem (mk type nullable strategy number name fs) = length-append name (names_in fs)
+names_of_lem (mk type m strategy number name fs) = length-append name (names_in fs)
 
 -- the columns of a field, by its place's kind
 abbrev ColumnsBy : ℕ → Field → Type 0
 ColumnsBy kind f = columns_of f ≡ Flat.columns_of kind (count_in (fields_of_field f)) (columns_in (fields_of_field f))
 
-columns_typed : (admits : Bool) (kind : ℕ) (f : Field) → Typed admits kind f → ColumnsBy kind f
-columns_typed admits kind (mk type nullable strategy number name fs) t = columns_are kind type nullable strategy number name fs t.2
+columns_typed : (admits : Marks) (kind : ℕ) (f : Field) → Typed admits kind f → ColumnsBy kind f
+columns_typed admits kind (mk type m strategy number name fs) t = columns_are kind type m strategy number name fs t.2
 
 columns_of_lem : (options : ℕ) (name : List ℕ) (number : ℕ) (missing : Bool) (u : Spot) → ColumnsBy (kind_s u) (field_of options name number (place_of missing (erase u)))
 unfolding place_of
-columns_of_lem options name number missing (spot p b k m ks) = columns_typed (missing || b) k _ (field_type options name number (missing || b) k _)
+columns_of_lem options name number missing (spot p b k m ks) = columns_typed (admitted missing b) k _ (field_type options name number (admitted missing b) k _)
 
 field_name : (options : ℕ) (name : List ℕ) (number : ℕ) (p : Place) → name_in (field_of options name number p) ≡ name
 unfolding field_of when◌then◌else◌

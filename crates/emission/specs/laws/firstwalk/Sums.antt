@@ -5,7 +5,7 @@ use Rattle.logic.specs.Test.{when◌then◌else◌}
 use Rattle.logic.specs.laws.Test.{cases}
 use Rattle.datatype.specs.Codes.{struct}
 use Rattle.text.specs.Name.{lt_name}
-use Rattle.model.specs.Tracing.{one}
+use Rattle.model.specs.Tracing.{Marks, one}
 use Rattle.model.specs.Emission.{Field, mk, Fields, no_fields, more, name_in, insert_field, by_name, gaps, emits_struct, child_count, names_of, names_in, is_column, columns_of, columns_in, count_of, count_in}
 use Rattle.walk.specs.Walk as Flat
 
@@ -66,11 +66,11 @@ gaps_names slot zero fs = refl
 gaps_names slot (suc n) fs = gaps_names (slot + 1) n fs
 
 -- ---- columns of one field, and columns against records
-pub columns_are : (kind type : ℕ) (nullable : Bool) (strategy number : ℕ) (name : List ℕ) (fs : Fields) → eqb type struct ≡ emits_struct kind →
-    columns_of (mk type nullable strategy number name fs) ≡ Flat.columns_of kind (count_in fs) (columns_in fs)
+pub columns_are : (kind type : ℕ) (m : Marks) (strategy number : ℕ) (name : List ℕ) (fs : Fields) → eqb type struct ≡ emits_struct kind →
+    columns_of (mk type m strategy number name fs) ≡ Flat.columns_of kind (count_in fs) (columns_in fs)
 unfolding columns_of count_of when◌then◌else◌
-columns_are kind type nullable strategy number name no_fields t = rw t (cases (emits_struct kind) (λ e. rw e) (λ e. rw e))
-columns_are kind type nullable strategy number name (more (mk a b c d e gs) fs) t =
+columns_are kind type m strategy number name no_fields t = rw t (cases (emits_struct kind) (λ e. rw e) (λ e. rw e))
+columns_are kind type m strategy number name (more (mk a b c d e gs) fs) t =
     rw (ne_eqb (suc (child_count fs)) 0 (omega arith), ne_eqb (suc (count_in gs) + count_in fs) 0 (omega arith)) (omega arith)
 
 at_most_one : (b : Bool) → one b ≤ 1

@@ -1,6 +1,6 @@
 -- The first walk over the words gives the model's refusal, or the model's counts.
 use Prim.{Unit, tt}
-use Rattle.std.specs.Prelude.{Ok, Err, ◌≡◌, Bool, true, ◌&&◌, ◌||◌, List, [], ◌++◌, length}
+use Rattle.std.specs.Prelude.{Ok, Err, ◌≡◌, Bool, true, ◌&&◌, List, [], ◌++◌, length}
 use Rattle.std.proofs.Math.Path.{refl, sym, ap}
 use Rattle.std.proofs.Common.{◌∙◌, zero-add, arith, length-append}
 use Rattle.std.proofs.Math.Bool.{false}
@@ -16,8 +16,8 @@ use Rattle.refusal.specs.declared.Refusal.TheVariants as F
 use Rattle.refusal.specs.Number.{number_of}
 use Rattle.words.specs.Word.{word}
 use Rattle.model.specs.Kinds.{sequence_kind, union_kind, map_kind, map_mode_kind, is_container, Step, variant_of}
-use Rattle.model.specs.Tracing.{place_limit}
-use Rattle.model.specs.Emission.{shown, by_number, place_of, places_of, is_missing, is_dataless, dataless, walk, walks, Field, mk, Fields, no_fields, more, name_of, entries_name, by_name, gaps, arranged, field_of, fields_of, child_count, names_of, names_in, columns_of, columns_in, count_of, count_in}
+use Rattle.model.specs.Tracing.{Marks, marks, place_limit}
+use Rattle.model.specs.Emission.{admitted, shown, by_number, place_of, places_of, is_missing, is_dataless, dataless, walk, walks, Field, mk, Fields, no_fields, more, name_of, entries_name, by_name, gaps, arranged, field_of, fields_of, child_count, names_of, names_in, columns_of, columns_in, count_of, count_in}
 use Rattle.model.specs.Emission as Model
 use Rattle.places.specs.Layout.{kind_word, turn_limit}
 use Rattle.refine.specs.laws.numbered.Tree.{Spot, spot, Spots, no_spots, child, num, kind_s}
@@ -122,11 +122,11 @@ fields_some options k slot m (child s h x u qs) l =
 
 -- a map's entries
 entries_say : (o : Option ℕ) (fs : Fields) (size : ℕ) {w : Walked} → 1 ≤ child_count fs → Says o 1 (length entries_name) 0 fs 0 0 size w
-    → Says o 0 0 0 (more (mk struct false no_strategy 0 entries_name fs) no_fields) 129 69993 (suc size) w
+    → Says o 0 0 0 (more (mk struct (marks false false) no_strategy 0 entries_name fs) no_fields) 129 69993 (suc size) w
 unfolding count_of names_of columns_of
 entries_say o fs size l (turned {x = x} e) = turned {x = x} e
 entries_say o fs size l (told {r' = r'} {n' = n'} {c' = c'} e er en ec br bn) =
-    let y : length (names_in (more (mk struct false no_strategy 0 entries_name fs) no_fields)) ≡ 7 + length (names_in fs) =
+    let y : length (names_in (more (mk struct (marks false false) no_strategy 0 entries_name fs) no_fields)) ≡ 7 + length (names_in fs) =
     length-append (entries_name ++ names_in fs) [] ∙ (omega (arith, length-append entries_name (names_in fs))) in
     told {r' = r'} {n' = n'} {c' = c'} e (omega arith) (omega arith) (rw (ne_eqb (child_count fs) 0 (omega arith)) (omega arith)) (omega arith) (omega arith)
 
@@ -159,7 +159,7 @@ module _ (options : ℕ) (text t : List ℕ) (inner : ℕ → Walked) (k p m : �
       (λ d. rw d (plain_say (walks options k (places_of k m (erase_in qs))) (fields_of options k 0 (places_of k m (erase_in qs))) (size_in qs) i))))
 
   -- a container: all below it, or a union of only dataless variants
-  container_says : (name : List ℕ) (number : ℕ) (admits : Bool) → word t p kind_word ≡ k → is_container k ≡ true
+  container_says : (name : List ℕ) (number : ℕ) (admits : Marks) → word t p kind_word ≡ k → is_container k ≡ true
       → Says (walk options (shown admits k (places_of k m (erase_in qs)))) 0 0 0 (fields_of_field (field_of options name number (shown admits k (places_of k m (erase_in qs))))) 129 69993 (suc (size_in qs))
       (walked_by options text t false inner p)
   unfolding walked_by walk field_of when◌then◌else◌
@@ -178,7 +178,7 @@ module _ (options : ℕ) (text t : List ℕ) (inner : ℕ → Walked) (k p m : �
       (λ e. rw (w, z, c, e) below_says)
 
 -- ---- a place that is no container
-module _ (options : ℕ) (text t : List ℕ) (inner : ℕ → Walked) (p k m : ℕ) (b missing : Bool) (name : List ℕ) (number : ℕ) (kind_is : word t p kind_word ≡ k) where
+module _ (options : ℕ) (text t : List ℕ) (inner : ℕ → Walked) (p k m : ℕ) (b : Marks) (missing : Bool) (name : List ℕ) (number : ℕ) (kind_is : word t p kind_word ≡ k) where
   null_says : k ≡ null → Says (walk options (place_of missing (erase (spot p b k m no_spots)))) 0 0 0
       (fields_of_field (field_of options name number (place_of missing (erase (spot p b k m no_spots))))) 129 69993 1
       (walked_by options text t false inner p)
@@ -194,12 +194,12 @@ module _ (options : ℕ) (text t : List ℕ) (inner : ℕ → Walked) (p k m : �
       rw (kind_is, z, c, ne_eqb k union_kind (omega arith), ne_eqb k map_kind (omega arith), ne_eqb k map_mode_kind (omega arith)) (nothing_below 0 refl)
 
 -- ---- every place
-place_is : (missing : Bool) (p : ℕ) (b : Bool) (k m : ℕ) (ks : Spots) → place_of missing (erase (spot p b k m ks)) ≡ shown (missing || b) k (places_of k m (erase_in (order_s false k ks)))
+place_is : (missing : Bool) (p : ℕ) (b : Marks) (k m : ℕ) (ks : Spots) → place_of missing (erase (spot p b k m ks)) ≡ shown (admitted missing b) k (places_of k m (erase_in (order_s false k ks)))
 unfolding place_of
-place_is missing p b k m ks = ap (shown (missing || b) k) (order_places k m ks)
+place_is missing p b k m ks = ap (shown (admitted missing b) k) (order_places k m ks)
 
 -- one place, when its children are known
-at_place : (options : ℕ) (text t : List ℕ) (n p : ℕ) (b : Bool) (k m : ℕ) (ks : Spots) (missing : Bool) (name : List ℕ) (number levels : ℕ) →
+at_place : (options : ℕ) (text t : List ℕ) (n p : ℕ) (b : Marks) (k m : ℕ) (ks : Spots) (missing : Bool) (name : List ℕ) (number levels : ℕ) →
     n ≤ place_limit → Good n (spot p b k m ks) → word t p kind_word ≡ k
     → Orders t (spot p b k m ks) → Sane (spot p b k m ks) → AllS (λ s h x u. Child options text t (walked options text t levels) s u) ks
     → Says (walk options (place_of missing (erase (spot p b k m ks)))) 0 0 0 (fields_of_field (field_of options name number (place_of missing (erase (spot p b k m ks))))) 129 69993 (suc (size_in ks))
@@ -212,7 +212,7 @@ at_place options text t n p b k m ks missing name number levels l g w e s a =
     let few : suc (size_in ks) ≤ n = places_few n (spot p b k m ks) g in
     rw (place_is missing p b k m ks, ← z)
     (container_says options text t (walked options text t levels) k p m (order_s false k ks) (order_all (λ s h x u. Child options text t (walked options text t levels) s u) k ks a) (omega arith) e.0
-    (λ d. omega (arith, s.1 d, many_few ks)) name number (missing || b) w c))
+    (λ d. omega (arith, s.1 d, many_few ks)) name number (admitted missing b) w c))
     (λ c.
     let z : ks ≡ no_spots = s.0 c in
     rw z (cases (eqb k null)

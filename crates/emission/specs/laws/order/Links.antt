@@ -12,7 +12,7 @@ use Rattle.logic.specs.Test.{when◌then◌else◌}
 use Rattle.logic.specs.laws.Test.{cases, both}
 use Rattle.words.specs.Word.{place_words, word, IsTable}
 use Rattle.model.specs.Kinds.{union_kind, map_mode_kind, Step, variant_of}
-use Rattle.model.specs.Tracing.{place_limit}
+use Rattle.model.specs.Tracing.{Marks, place_limit}
 use Rattle.equality.specs.laws.Base.{or_cases}
 use Rattle.places.specs.Layout.{kind_word, first_word, ordered_first_word, block_word, next_word, parent_word, step_word, name_word, ordered_next_word}
 use Rattle.refine.specs.laws.numbered.Tree.{Spot, spot, Spots, no_spots, child, num}
@@ -78,7 +78,7 @@ record Placed (text t : List ℕ) (n p k : ℕ) (ks : Spots) : Type 0 where
   first : word t p first_word ≡ first_of ks
 
 module _ (text t : List ℕ) (n : ℕ) where
-  placed : (p : ℕ) (b : Bool) (k m : ℕ) (ks : Spots) → Good n (spot p b k m ks) → Rep text t (spot p b k m ks) → FitS (spot p b k m ks) → Placed text t n p k ks
+  placed : (p : ℕ) (b : Marks) (k m : ℕ) (ks : Spots) → Good n (spot p b k m ks) → Rep text t (spot p b k m ks) → FitS (spot p b k m ks) → Placed text t n p k ks
   placed p b k m ks g r f = record { below = g.0; good = g.2; rep = r.1; fit = f.1; kind = r.0 0 (omega arith); first = r.0 3 (omega arith) }
 
   mutual

@@ -175,5 +175,5 @@ module _ (options : ℕ) (text t : List ℕ) (n p k m : ℕ) where
           let c : child_count fs ≡ 2 = fields_plain 0 (order_s true k ks) un ∙ count_order true k ks ∙ two e in
           rw (arranged_map options k m ks e)
           (writes_as (fields_below t inner k p) _ _ _ _ (entries_records fs c) (entries_names fs)
-          (writes_next (entries_in k) (fields_from t inner k p child_limit 0 (next_child t true k p 0)) (record_of struct false no_strategy 0 (length entries_name) 2) entries_name (records_in fs) (names_in fs)
+          (writes_next (entries_in k) (fields_from t inner k p child_limit 0 (next_child t true k p 0)) (record_of struct 0 no_strategy 0 (length entries_name) 2) entries_name (records_in fs) (names_in fs)
           (entries_write k e) all))

@@ -1,6 +1,6 @@
 -- The model's fields over the numbered tree's children, in their order, and what the model's walk tells of them.
 use Prim.{tt}
-use Rattle.std.specs.Prelude.{◌≡◌, refl, Bool, true, false, not, ◌&&◌, List, ◌++◌, ℕ, ◌+◌, ◌<◌, ◌≤◌, eqb, leb, length}
+use Rattle.std.specs.Prelude.{◌≡◌, refl, true, false, not, ◌&&◌, List, ◌++◌, ℕ, ◌+◌, ◌<◌, ◌≤◌, eqb, leb, length}
 use Rattle.std.proofs.Common.{sym, ap, ◌∙◌, true≢false, append-nil, arith, eqb-true, ne_eqb, leb-true, leb-false}
 use Rattle.std.proofs.Math.Option.{Option, none, some}
 use Rattle.logic.specs.Test.{when◌then◌else◌}
@@ -10,6 +10,7 @@ use Rattle.options.specs.Word.{allow_null_fields, enums_without_data_as_strings}
 use Rattle.refusal.specs.Number.{too_many_slots}
 use Rattle.text.specs.Name.{lt_name}
 use Rattle.model.specs.Kinds.{sequence_kind, map_kind, union_kind, map_mode_kind, is_container, Step, field, element, position, key, value, variant, variant_of, is_variant}
+use Rattle.model.specs.Tracing.{Marks, marks}
 use Rattle.model.specs.Emission.{Place, shown, Places, none_below, below, place_of, places_of, is_missing, dataless, slot_limit, first_of, walk, walks, mk, Fields, no_fields, more, entries_name, name_of, insert_field, by_name, gaps, arranged, field_of, fields_of, child_count, records_of, records_in, names_of, names_in}
 use Rattle.model.specs.Emission.{name_in as nameOfField}
 use Rattle.refine.specs.laws.numbered.Tree.{Spot, Spots, no_spots, child}
@@ -62,21 +63,21 @@ arranged_is options k m ks e = rw e (cases (eqb k map_mode_kind)
     (λ f. rw f refl))
 
 pub arranged_map : (options k m : ℕ) (ks : Spots) → eqb k map_kind ≡ true
-    → arranged k (fields_s options k m 0 (order_s false k ks)) ≡ more (mk struct false no_strategy 0 entries_name (fields_s options k m 0 (order_s true k ks))) no_fields
+    → arranged k (fields_s options k m 0 (order_s false k ks)) ≡ more (mk struct (marks false false) no_strategy 0 entries_name (fields_s options k m 0 (order_s true k ks))) no_fields
 unfolding arranged order_s when◌then◌else◌
 arranged_map options k m ks e = let z : k ≡ map_kind = eqb-true k map_kind e in rw z refl
 
 pub entries_records : (fs : Fields) → child_count fs ≡ 2 →
-    record_of struct false no_strategy 0 (length entries_name) 2 ++ records_in fs ≡ records_in
-    (more (mk struct false no_strategy 0 entries_name fs) no_fields)
+    record_of struct 0 no_strategy 0 (length entries_name) 2 ++ records_in fs ≡ records_in
+    (more (mk struct (marks false false) no_strategy 0 entries_name fs) no_fields)
 unfolding records_of records_in
 entries_records fs c = rw (c, append-nil (records_in fs)) refl
 
-pub entries_names : (fs : Fields) → entries_name ++ names_in fs ≡ names_in (more (mk struct false no_strategy 0 entries_name fs) no_fields)
+pub entries_names : (fs : Fields) → entries_name ++ names_in fs ≡ names_in (more (mk struct (marks false false) no_strategy 0 entries_name fs) no_fields)
 unfolding names_of names_in
 entries_names fs = rw (append-nil (names_in fs)) refl
 
-pub entries_write : (k : ℕ) → eqb k map_kind ≡ true → Writes (entries_in k) (record_of struct false no_strategy 0 (length entries_name) 2) entries_name
+pub entries_write : (k : ℕ) → eqb k map_kind ≡ true → Writes (entries_in k) (record_of struct 0 no_strategy 0 (length entries_name) 2) entries_name
 entries_write k e = let z : k ≡ map_kind = eqb-true k map_kind e in rw z writes_entries
 
 -- ---- what the model's walk tells of the children, where it refuses nothing
@@ -95,7 +96,7 @@ passed options k m (child s h x u ks) e =
     (λ f. let g : some too_many_slots ≡ none = rw f at e in let z : ◌≡◌ {A = ℕ} 0 1 = cc in absurd (omega arith))
     (λ f. let g = first_none (walk options (place_of (is_missing k m h) (erase u))) (walks options k (places_of k m (erase_in ks))) (rw f at e) in ((f, g.0), passed options k m ks g.1))
 
-pub walk_below : (options : ℕ) (admits : Bool) (k : ℕ) (ps : Places) → is_container k ≡ true → (eqb k union_kind && dataless ps && enums_without_data_as_strings options) ≡ false
+pub walk_below : (options : ℕ) (admits : Marks) (k : ℕ) (ps : Places) → is_container k ≡ true → (eqb k union_kind && dataless ps && enums_without_data_as_strings options) ≡ false
     → walk options (shown admits k ps) ≡ none → walks options k ps ≡ none
 unfolding walk when◌then◌else◌
 walk_below options admits k ps c d e =

@@ -14,7 +14,7 @@ use Rattle.coerce.specs.laws.Joined.{joint_below}
 use Rattle.model.specs.Result.{Result, accepted, refused, ◌>>=◌, or_refused}
 use Rattle.model.specs.Kinds.{sequence_kind, struct_kind, map_kind, union_kind, tuple_kind, map_mode_kind, is_container, is_struct, Step, field, element, position, key, value, variant, is_variant, same}
 use Rattle.model.specs.Reading.{Value, val, cut, Parts, no_parts, cut_off, part, values}
-use Rattle.model.specs.Tracing.{dots_of, depth_limit, place_limit, same_container, meet, has, clashes, positions_from, made, Counted, counted, trace}
+use Rattle.model.specs.Tracing.{marks_with, dots_of, depth_limit, place_limit, same_container, meet, has, clashes, positions_from, made, Counted, counted, trace}
 use Rattle.equality.specs.laws.Base.{and_left, and_right, or_cases, not_refused, choice}
 use Rattle.equality.specs.laws.census.Kind.{struct_is_container}
 use Rattle.equality.specs.laws.Proper.{part_fits, kind_fits, is_proper, are_proper, all_proper}
@@ -233,7 +233,7 @@ mutual
           → (is_container h ≡ false → (n₁ : ℕ) (ks₁ : Spots) → Gives (λ ks'. ks' ≡ ks₁) (walk_parts options depth (sample_of h m) ps n₁ ks₁))
           → (j : ℕ) → Met k h j
           → Gives Strong (make_all_s at (made h r k) n ks >>= λ x. walk_parts options depth (sample_of h m) ps x.places x.what >>= λ q. counted
-          q.places (spot p (b₀ || b) j (sample_of h m) q.what))
+          q.places (spot p (marks_with b k h b₀) j (sample_of h m) q.what))
       go ih leaf j (leaves x y z) =
           rw (made_none h r k y) (then_gives (λ ks'. ks' ≡ ks) Strong (walk_parts options depth (sample_of h m) ps n ks) _ (leaf y n ks) λ q d.
           rw (d ∙ g.0 x) ((λ _. refl), (λ w. let l : j ≡ map_kind = eqb-true j map_kind w in absurd (true≢false (rw l at z))), tt))

@@ -15,11 +15,13 @@ use Rattle.text.specs.Name.{bytes_of, lt_name}
 use Rattle.text.specs.laws.Decimal.{length_u16}
 use Rattle.words.specs.Word.{word}
 use Rattle.model.specs.Kinds.{map_kind, union_kind, map_mode_kind, is_container, Step, variant_of, is_variant}
-use Rattle.model.specs.Tracing.{one}
-use Rattle.model.specs.Emission.{name_of, shown, is_missing, place_of, places_of, is_dataless, dataless_from}
+use Rattle.model.specs.Tracing.{Marks, marks}
+use Rattle.model.specs.Emission.{admitted, nullable_byte, name_of, shown, is_missing, place_of, places_of, is_dataless, dataless_from}
 use Rattle.shapes.specs.declared.Step as Shapes
 use Rattle.shapes.specs.Steps.{field_code, unpacked_name}
-use Rattle.places.specs.Layout.{kind_word, step_word, name_word}
+use Rattle.places.specs.Nullable.{admitting}
+use Rattle.fields.specs.Fields.{nullable_at}
+use Rattle.places.specs.Layout.{nullable_word, kind_word, step_word, name_word}
 use Rattle.refine.specs.laws.numbered.Tree.{Spot, spot, Spots, no_spots, child, num, kind_s}
 use Rattle.refine.specs.laws.numbered.Numbers.{Good, GoodIn}
 use Rattle.refine.specs.laws.words.Places.{Cell, Rep, RepIn}
@@ -30,9 +32,21 @@ use Rattle.emission.specs.laws.firstwalk.Places.{many_s, AllS, number_all, numbe
 use Rattle.emission.specs.laws.order.Arranged.{insert_number_s, by_number_s, insert_name_s, by_name_s, order_s, Enumerates, Orders, OrdersIn, step_fits, FitS, FitIn}
 
 -- ---- tests
-pub one_is : (b : Bool) → eqb (one b) 1 ≡ b
-one_is true = refl
-one_is false = refl
+-- the nullable byte of a place's field is that of its marks
+pub nullable_is : (t : List ℕ) (p : ℕ) (lacking : Bool) (b : Marks) → word t p nullable_word ≡ nullable_byte b → nullable_at t p lacking ≡ nullable_byte (admitted lacking b)
+unfolding when◌then◌else◌
+nullable_is t p lacking b e = rw e (of_tests lacking b.null b.widened)
+  where
+    of_tests : (lacking null widened : Bool) → (when lacking then admitting (nullable_byte (marks null widened)) else nullable_byte (marks null widened)) % 256
+        ≡ nullable_byte (marks (lacking || null) widened)
+    of_tests true true true = refl
+    of_tests true true false = refl
+    of_tests true false true = refl
+    of_tests true false false = refl
+    of_tests false true true = refl
+    of_tests false true false = refl
+    of_tests false false true = refl
+    of_tests false false false = refl
 
 -- ---- what is true beside `FitS`: a place that is no container has no children, a map has two, and only a union has variants
 abbrev mutual
@@ -139,7 +153,7 @@ known text t n k p c (child s h m u ks) l r g f o z = (
 )
 
 -- ---- the places as the model's walk finds them
-pub place_is : (lacking : Bool) (p : ℕ) (b : Bool) (k m : ℕ) (ks : Spots) → place_of lacking (erase (spot p b k m ks)) ≡ shown (lacking || b) k (places_of k m (erase_in (order_s false k ks)))
+pub place_is : (lacking : Bool) (p : ℕ) (b : Marks) (k m : ℕ) (ks : Spots) → place_of lacking (erase (spot p b k m ks)) ≡ shown (admitted lacking b) k (places_of k m (erase_in (order_s false k ks)))
 unfolding place_of order_s when◌then◌else◌
 place_is lacking p b k m ks = cases (eqb k union_kind) (λ e. rw (e, number_places k m ks) refl) (λ e. rw e refl)
 

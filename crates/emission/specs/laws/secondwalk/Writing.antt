@@ -1,12 +1,11 @@
 -- Bytes written one after another: records and names, where there is room for them.
 use Rattle.logic.specs.Test.{when◌then◌else◌}
-use Rattle.std.specs.Prelude.{◌≡◌, refl, Bool, true, false, List, [], ◌∷◌, ◌++◌, ◌-◌, ℕ, zero, suc, ◌+◌, ◌/◌, ◌%◌, ◌<◌, ◌≤◌, eqb, length}
+use Rattle.std.specs.Prelude.{◌≡◌, refl, false, List, [], ◌∷◌, ◌++◌, ◌-◌, ℕ, zero, suc, ◌+◌, ◌/◌, ◌%◌, ◌<◌, ◌≤◌, eqb, length}
 use Rattle.std.proofs.Common.{sym, append_assoc, add-zero, add_assoc, arith, length-append, take-append-drop, le-ltb}
 use Rattle.logic.specs.Buffer.{written}
 use Rattle.logic.specs.laws.Buffer.{length_written, written_next}
 use Rattle.datatype.specs.Codes.{null, struct, no_strategy, unknown_variant}
 use Rattle.model.specs.Kinds.{map_kind}
-use Rattle.model.specs.Tracing.{one}
 use Rattle.model.specs.Emission.{Fields, gap, gaps, entries_name, two_bytes, records_of, records_in, names_of, names_in, child_count}
 use Rattle.walk.specs.Walk.{sum_of}
 use Rattle.putting.specs.Put.{put, put_bytes, record_of, put_gaps, Writing, writing, both, gaps_in, entries_in}
@@ -58,8 +57,8 @@ unfolding both
 writes_both bytes name (writing i j fields names) h = rw (put_bytes_lem bytes fields i h.0, put_bytes_lem name names j h.1) refl
 
 -- ---- a record
-pub record_is : (type : ℕ) (nullable : Bool) (strategy number : ℕ) (name : List ℕ) (children : ℕ) → length name < 65536 → children < 65536
-    → record_of type nullable strategy number (length name) children ≡ (type ∷ one nullable ∷ strategy ∷ number ∷ two_bytes (length name) ++ two_bytes children)
+pub record_is : (type nullable strategy number : ℕ) (name : List ℕ) (children : ℕ) → length name < 65536 → children < 65536
+    → record_of type nullable strategy number (length name) children ≡ (type ∷ nullable ∷ strategy ∷ number ∷ two_bytes (length name) ++ two_bytes children)
 record_is type nullable strategy number name children l c =
     let e : length name / 256 % 256 ≡ length name / 256 = omega arith in
     let f : children / 256 % 256 ≡ children / 256 = omega arith in
@@ -85,7 +84,7 @@ unfolding gaps
 gap_count slot zero fs = omega arith
 gap_count slot (suc n) fs = rw (gap_count (slot + 1) n fs) (omega arith)
 
-gap_record : (slot i : ℕ) → slot + i < 256 → record_of null true unknown_variant (sum_of slot i % 256) 0 0 ≡ records_of (gap (slot + i))
+gap_record : (slot i : ℕ) → slot + i < 256 → record_of null 1 unknown_variant (sum_of slot i % 256) 0 0 ≡ records_of (gap (slot + i))
 unfolding records_of records_in
 gap_record slot i l =
     let e : sum_of slot i % 256 ≡ slot + i = omega arith in
@@ -112,9 +111,9 @@ writes_gaps slot n l (writing i j fields names) h =
     rw (g, e, written_none names j, add-zero j) refl
 
 -- ---- a map's entries
-pub writes_entries : Writes (entries_in map_kind) (record_of struct false no_strategy 0 (length entries_name) 2) entries_name
+pub writes_entries : Writes (entries_in map_kind) (record_of struct 0 no_strategy 0 (length entries_name) 2) entries_name
 unfolding entries_in when◌then◌else◌
-writes_entries w h = writes_both (record_of struct false no_strategy 0 (length entries_name) 2) entries_name w h
+writes_entries w h = writes_both (record_of struct 0 no_strategy 0 (length entries_name) 2) entries_name w h
 
 pub entries_none : (k : ℕ) (w : Writing) → eqb k map_kind ≡ false → entries_in k w ≡ w
 unfolding entries_in when◌then◌else◌

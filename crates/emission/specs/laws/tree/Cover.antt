@@ -1,6 +1,6 @@
 -- Every number below the count of places is that of a place of the tree.
 use Prim.{tt}
-use Rattle.std.specs.Prelude.{◌≡◌, refl, Bool, true, ◌||◌, List, [], ◌∷◌, ℕ, ◌+◌, ◌<◌, ◌≤◌, eqb, ltb}
+use Rattle.std.specs.Prelude.{◌≡◌, refl, Bool, true, List, [], ◌∷◌, ℕ, ◌+◌, ◌<◌, ◌≤◌, eqb, ltb}
 use Rattle.std.proofs.Common.{sym, subst, ◌∙◌, arith, eq-eqb, ltb-true, ltb-false}
 use Rattle.std.proofs.lemmas.Bool.{false≢true, eqb-false}
 use Rattle.logic.specs.Test.{when◌then◌else◌}
@@ -9,8 +9,8 @@ use Rattle.equality.specs.laws.Base.{or_cases}
 use Rattle.model.specs.Result.{Result, accepted, refused, ◌>>=◌}
 use Rattle.model.specs.Kinds.{Step, same}
 use Rattle.model.specs.Reading.{Value, val, cut, Parts, no_parts, cut_off, part, values}
-use Rattle.model.specs.Tracing.{dots_of, place_limit, meet, has, clashes, made, Counted, counted}
-use Rattle.refine.specs.laws.numbered.Tree.{Spot, spot, Spots, no_spots, child, num, null_s, kind_s, samples_s, below_s, steps_s, new_spot, spot_at, put_s, add_s, make_s, make_all_s, sample_of, walk, walk_parts, walk_all}
+use Rattle.model.specs.Tracing.{Marks, marks_with, dots_of, place_limit, meet, has, clashes, made, Counted, counted}
+use Rattle.refine.specs.laws.numbered.Tree.{Spot, spot, Spots, no_spots, child, num, marks_s, kind_s, samples_s, below_s, steps_s, new_spot, spot_at, put_s, add_s, make_s, make_all_s, sample_of, walk, walk_parts, walk_all}
 use Rattle.refine.specs.laws.numbered.Numbers.{within, within_in, or_right, has_add, add_among, has_is, or_left}
 
 -- P of the count and of what an outcome counts
@@ -98,7 +98,7 @@ put_grows : (n m : ℕ) (s : Step) (sample : ℕ) (v : Spot) (ks : Spots) → ha
 put_grows n m s sample v ks h g = ((λ q e. put_keeps q s sample v ks (g.0 q) e), λ q l i. put_holds q s sample v ks h (g.1 q l i))
 
 -- a place whose children have
-spot_grows : (n m : ℕ) (u : Spot) (b : Bool) (k samples : ℕ) (ks : Spots) → GrowsIn n (below_s u) m ks → GrowsS n u m (spot (num u) b k samples ks)
+spot_grows : (n m : ℕ) (u : Spot) (b : Marks) (k samples : ℕ) (ks : Spots) → GrowsIn n (below_s u) m ks → GrowsS n u m (spot (num u) b k samples ks)
 spot_grows n m u b k samples ks g = (
   (λ q e. or_cases (eqb q (num u)) (within_in q (below_s u)) (sym (has_is q u) ∙ e) (or_left (eqb q (num u)) (within_in q ks)) (λ a. or_right (eqb q (num u)) (within_in q ks) (g.0 q a))),
   (λ q l i. or_right (eqb q (num u)) (within_in q ks) (g.1 q l i)),
@@ -115,7 +115,7 @@ mutual
       then_gives (GrowsIn n (below_s u)) (GrowsS n u) (walk_parts options depth (sample_of kind (samples_s u)) ps x.places x.what) _
       (from_there n x.places (below_s u) x.what g (walk_parts options depth (sample_of kind (samples_s u)) ps x.places x.what)
       (parts_grow options depth (sample_of kind (samples_s u)) ps x.places x.what)) λ q h.
-      spot_grows n q.places u (null_s u || b) j (sample_of kind (samples_s u)) q.what h
+      spot_grows n q.places u (marks_with b (kind_s u) kind (marks_s u)) j (sample_of kind (samples_s u)) q.what h
   walk_grows options depth (cut refusal place) n u = tt
 
   parts_grow : (options depth sample : ℕ) (ps : Parts) (n : ℕ) (ks : Spots) → Gives (GrowsIn n ks) (walk_parts options depth sample ps n ks)

@@ -8,7 +8,7 @@ use Rattle.logic.specs.Test.{when◌then◌else◌}
 use Rattle.logic.specs.All.{All}
 use Rattle.coerce.specs.Census.{type_seen, non_null}
 use Rattle.model.specs.Result.{Result, accepted, refused}
-use Rattle.model.specs.Kinds.{struct_kind, tuple_kind, is_struct}
+use Rattle.model.specs.Kinds.{struct_kind, tuple_kind, is_container, is_struct}
 use Rattle.model.specs.Reading.{Value}
 use Rattle.model.specs.Tracing.{Tree, node, kind_of, fresh, place_limit, trace}
 use Rattle.model.specs.Emission.{Fields, place_of, walk, field_of, root_fields, root_name, to_schema, records_in, names_in, count_in}
@@ -21,9 +21,11 @@ use Rattle.equality.specs.laws.Proper.{all_proper}
 use Rattle.equality.specs.laws.tracing.Count.{size, traced}
 use Rattle.equality.specs.laws.tracing.Place.{see_all_whole}
 use Rattle.equality.specs.laws.reading.Records.{values_proper}
+use Rattle.equality.specs.laws.census.Standing.{place_at}
 use Rattle.equality.specs.laws.census.Kind.{kind_seen_lem}
+use Rattle.equality.specs.laws.census.Marks.{container_unwidened, widened_place}
 use Rattle.equality.specs.laws.emission.Records.{schema_encoded}
-use Rattle.equality.specs.laws.emission.Fields.{kind_at, root_kind}
+use Rattle.equality.specs.laws.emission.Fields.{kind_at, marks_at, root_kind}
 use Rattle.equality.specs.laws.tracing.Fitting.{tree_fits}
 
 -- ---- what an accepted schema comes of
@@ -63,7 +65,7 @@ traced_schema b schema e =
 -- ---- the root of struct records is a struct
 kind_place : (t : Tree) → kind_at (place_of false t) ≡ kind_of t
 unfolding place_of
-kind_place (node null kind samples kids) = refl
+kind_place (node m kind samples kids) = refl
 
 struct_kind_lem : (o : ℕ) (vs : List Value) → All (λ (v : Value). kind_in v ≡ struct_kind) vs → (is_struct (kind_seen o (kinds_seen vs)) || eqb (kind_seen o (kinds_seen vs)) tuple_kind) ≡ true
     → kind_seen o (kinds_seen vs) ≡ struct_kind
@@ -77,6 +79,12 @@ root_struct b schema off r t =
     let k : kind_at (place_of false t.tree) ≡ kind_seen o (kinds_seen (records_of b)) = kind_place t.tree ∙ kind_seen_lem o 0 (records_of b) t.tree off.to_string_off t.proper t.seen in
     let s = root_kind o (length b.commands) (place_of false t.tree) schema off.enums_off (tree_fits o 0 (records_of b) t.tree false t.proper t.seen) t.root in
     k ∙ struct_kind_lem o (records_of b) r (rw k at s)
+
+pub root_unwidened : (b : Batch) (schema : Fields) → Plain b.options → StructRecords b → (t : Traced b schema) → (marks_at (place_of false t.tree)).widened ≡ false
+unfolding place_at
+root_unwidened b schema off r t =
+    let k : kind_of t.tree ≡ struct_kind = sym (kind_place t.tree) ∙ root_struct b schema off r t in
+    widened_place false t.tree ∙ container_unwidened b.options (records_of b) t.tree [] t.seen (ap is_container k)
 
 -- ---- what two answers hold
 pub bytes_same : (fs gs : Fields) (a b : Answer) → Holds fs a → Holds gs b → SameSchema a b → fs ≡ gs

@@ -1,5 +1,5 @@
 -- The kind that the values at a place leave there is the one that the census reads off the kinds seen.
-use Rattle.std.specs.Prelude.{◌≡◌, refl, true, false, ◌&&◌, List, [], ◌∷◌, ℕ, ◌<◌, eqb}
+use Rattle.std.specs.Prelude.{◌≡◌, refl, Bool, true, false, not, ◌&&◌, List, [], ◌∷◌, ℕ, ◌<◌, eqb}
 use Rattle.std.proofs.Common.{ap, sym, ◌∙◌, true≢false, arith, eqb-true, leb-false}
 use Rattle.std.proofs.lemmas.Bool.{false≢true, lt-leb}
 use Rattle.std.proofs.Math.Option.{Option, none, some}
@@ -24,48 +24,60 @@ use Rattle.equality.specs.laws.Proper.{kind_fits, is_proper, are_proper, all_pro
 use Rattle.equality.specs.laws.tracing.Place.{together, onward, together_all, all_kind}
 use Rattle.equality.specs.laws.tracing.Kinds.{type_fits_lem, fits_joint}
 
-onward_some : {A B P : Type 0} (o : Option A) (f : A → Option B) (b : B) → onward o f ≡ some b → ((a : A) → o ≡ some a → f a ≡ some b → P) → P
+pub onward_some : {A B P : Type 0} (o : Option A) (f : A → Option B) (b : B) → onward o f ≡ some b → ((a : A) → o ≡ some a → f a ≡ some b → P) → P
 onward_some none f b e k = absurd (let z : ◌≡◌ {A = ℕ} 0 1 = cc in omega arith)
 onward_some (some a) f b e k = k a refl e
 
 nothing : {P : Type 0} {a : ℕ} → none ≡ some a → P
 nothing e = absurd (let z : ◌≡◌ {A = ℕ} 0 1 = cc in omega arith)
 
+-- a type, and not Null
+abbrev pub is_typed : ℕ → Bool
+is_typed kind = not (is_container kind) && not (eqb kind null)
+
 -- ---- a container that was seen stays: what meets it later is Null or the same container
-meets_container : (o k h j : ℕ) → is_container k ≡ true → together o k h ≡ some j → k ≡ j
+pub struct_is_container : (k : ℕ) → is_struct k ≡ true → is_container k ≡ true
+struct_is_container k e = or_cases (eqb k struct_kind) (eqb k map_mode_kind) e (λ a. rw (eqb-true k struct_kind a)) (λ a. rw (eqb-true k map_mode_kind a))
+
+same_is_container : (k h : ℕ) → is_container k ≡ true → same_container k h ≡ true → is_container h ≡ true
+same_is_container k h c e =
+    or_cases (eqb k h) (is_struct k && is_struct h) e
+    (λ a. sym (ap is_container (eqb-true k h a)) ∙ c)
+    (λ a. struct_is_container h (and_right (is_struct k) (is_struct h) a))
+
+pub meets_container : (o k h j : ℕ) → is_container k ≡ true → together o k h ≡ some j → (is_typed h ≡ false) × (k ≡ j)
 unfolding together when◌then◌else◌
 meets_container o k h j c e =
-    cases (eqb h null) (λ a. let q : some k ≡ some j = rw (c, a) at e in cc) λ a.
+    cases (eqb h null) (λ a. let q : some k ≡ some j = rw (c, a) at e in (rw (eqb-true h null a), cc)) λ a.
     cases (eqb k null) (λ b. absurd (true≢false (sym c ∙ ap is_container (eqb-true k null b)))) λ b.
-    cases (same_container k h) (λ g. let q : some k ≡ some j = rw (c, a, b, g) at e in cc) (λ g. nothing (rw (c, a, b, g) at e))
+    cases (same_container k h)
+    (λ g. let q : some k ≡ some j = rw (c, a, b, g) at e in (rw (same_is_container k h c g), cc))
+    (λ g. nothing (rw (c, a, b, g) at e))
 
 stays : (o : ℕ) (kinds : List ℕ) (k t : ℕ) → is_container k ≡ true → together_all o kinds k ≡ some t → k ≡ t
 unfolding together_all
 stays o [] k t c e = cc
 stays o (h ∷ kinds) k t c e =
     onward_some (together o k h) (together_all o kinds) t e λ j p q.
-    let s = meets_container o k h j c p in
+    let s = (meets_container o k h j c p).1 in
     stays o kinds k t c (rw (← s) at q)
 
 -- ---- a container that meets no container finds the place unknown or Null
-pub struct_is_container : (k : ℕ) → is_struct k ≡ true → is_container k ≡ true
-struct_is_container k e = or_cases (eqb k struct_kind) (eqb k map_mode_kind) e (λ a. rw (eqb-true k struct_kind a)) (λ a. rw (eqb-true k map_mode_kind a))
-
 no_container : (k h : ℕ) → is_container k ≡ false → is_container h ≡ true → same_container k h ≡ false
 no_container k h a b =
     cases (eqb k h)
     (λ e. absurd (true≢false (sym b ∙ ap is_container (sym (eqb-true k h e)) ∙ a)))
     (λ e. cases (is_struct k) (λ f. absurd (true≢false (sym (struct_is_container k f) ∙ a))) (λ f. rw (e, f)))
 
-first_container : (o k h j : ℕ) → is_container k ≡ false → is_container h ≡ true → together o k h ≡ some j → h ≡ j
+pub first_container : (o k h j : ℕ) → is_container k ≡ false → is_container h ≡ true → together o k h ≡ some j → (k ≡ null) × (h ≡ j)
 unfolding together when◌then◌else◌
 first_container o k h j a b e =
     cases (eqb h null) (λ c. absurd (true≢false (sym b ∙ ap is_container (eqb-true h null c)))) λ c.
     cases (eqb k null)
-    (λ d. let q : some h ≡ some j = rw (a, b, c, d) at e in cc)
+    (λ d. let q : some h ≡ some j = rw (a, b, c, d) at e in (eqb-true k null d, cc))
     (λ d. nothing (rw (a, b, c, d, no_container k h a b) at e))
 
-no_containers : (o k h : ℕ) → is_container k ≡ false → is_container h ≡ false → together o k h ≡ joint o k h
+pub no_containers : (o k h : ℕ) → is_container k ≡ false → is_container h ≡ false → together o k h ≡ joint o k h
 unfolding together when◌then◌else◌
 no_containers o k h a b = rw (a, b)
 
@@ -88,7 +100,7 @@ reads o (h ∷ kinds) k t a e =
     onward_some (together o k h) (together_all o kinds) t e λ j p q.
     cases (is_container h)
     (λ b.
-    let s = first_container o k h j a b p in
+    let s = (first_container o k h j a b p).1 in
     let z : h ≡ t = stays o kinds h t b (rw (← s) at q) in
     record { container = λ c. rw b (sym z); type = λ c. absurd (true≢false (sym b ∙ (rw b at c))) })
     (λ b.

@@ -26,7 +26,7 @@ led_by s (l ∷ ls) = (s ∷ l) ∷ led_by s ls
 
 unfoldable mutual
   listed : Tree → List (List Step)
-  listed (node null kind samples kids) = [] ∷ listed_in kids
+  listed (node m kind samples kids) = [] ∷ listed_in kids
 
   listed_in : Kids → List (List Step)
   listed_in no_kids = []

@@ -1,12 +1,12 @@
 -- What a batch does to a place is what the values that stand there do, one after another.
-use Rattle.std.specs.Prelude.{◌≡◌, refl, List, [], ◌∷◌, ◌++◌, Bool, false, ◌||◌, ℕ, ◌+◌}
+use Rattle.std.specs.Prelude.{◌≡◌, refl, List, [], ◌∷◌, ◌++◌, Bool, false, ℕ, ◌+◌}
 use Rattle.std.proofs.Common.{ap, subst, sym, ◌∙◌, append_assoc}
 use Rattle.logic.specs.Test.{when◌then◌else◌}
 use Rattle.logic.specs.laws.Test.{cases}
 use Rattle.model.specs.Result.{accepted, ◌>>=◌}
 use Rattle.model.specs.Kinds.{is_container, Step, same}
 use Rattle.model.specs.Reading.{Value, val, cut, Parts, no_parts, cut_off, part}
-use Rattle.model.specs.Tracing.{Tree, node, Kids, no_kids, kid, null_of, kind_of, samples_of, kids_of, fresh, dots_of, meet, kid_at, put, made, one, tally}
+use Rattle.model.specs.Tracing.{Tree, node, Kids, no_kids, kid, marks_of, kind_of, samples_of, kids_of, fresh, dots_of, meet, marks_with, kid_at, put, made, one, tally}
 use Rattle.model.specs.Census.{parts_of, parts_at, below, standing}
 use Rattle.equality.specs.laws.Base.{bind_ok, bind_bind, not_refused, same_true, same_refl}
 use Rattle.model.specs.Unbounded.{make_all, allowed, see, see_parts, see_all}
@@ -74,7 +74,7 @@ see_all_append o d (v ∷ vs) ws t = bind_bind (see o d v t) _ _ _ (λ u. see_al
 
 -- ---- what one value does to the place that it meets
 pub record Met (o d at : ℕ) (b : Bool) (k n : ℕ) (ps : Parts) (t t' : Tree) : Type 0 where
-  pub null : null_of t' ≡ (null_of t || b)
+  pub marks : marks_of t' ≡ marks_with b (kind_of t) k (marks_of t)
   pub kind : meet o d at (kind_of t) k ≡ accepted (kind_of t')
   pub samples : samples_of t' ≡ samples_of t + one (is_container k)
   pub kids : Kids
@@ -86,9 +86,9 @@ unfolding see
 met o d at b k n ps t t' e =
     bind_ok (meet o d at (kind_of t) k) _ t' e λ j e₁ f.
     bind_ok (see_parts o d ps (make_all (made k n (kind_of t)) (kids_of t))) _ t' f λ ks e₂ g.
-    let h : node (null_of t || b) j (samples_of t + one (is_container k)) (tally ps ks) ≡ t' = cc in
+    let h : node (marks_with b (kind_of t) k (marks_of t)) j (samples_of t + one (is_container k)) (tally ps ks) ≡ t' = cc in
     record {
-      null = sym (ap null_of h);
+      marks = sym (ap marks_of h);
       kind = e₁ ∙ ap (λ (u : Tree). accepted (kind_of u)) h;
       samples = sym (ap samples_of h);
       kids = ks;

@@ -11,9 +11,9 @@ use Rattle.options.specs.Word.{allow_to_string}
 use Rattle.model.specs.Result.{accepted}
 use Rattle.model.specs.Kinds.{struct_kind, union_kind, is_struct, Step, same}
 use Rattle.model.specs.Reading.{Value}
-use Rattle.model.specs.Tracing.{Tree, node, Kids, no_kids, kid, kids_of, samples_of, fresh, steps_of, has, kid_at, dots_of}
+use Rattle.model.specs.Tracing.{Marks, marks, Tree, node, Kids, no_kids, kid, kids_of, samples_of, fresh, steps_of, has, kid_at, dots_of}
 use Rattle.model.specs.Emission.{Place, shown, Places, none_below, below, by_number, is_missing, place_of, places_of}
-use Rattle.model.specs.Census.{Said, census, children_of, as_set, steps_seen, steps_in, parts_of, kind_in, fixed_steps, sight, sights, kinds_seen, kind_seen, samples, holders, is_lacking, any_null}
+use Rattle.model.specs.Census.{Said, census, children_of, as_set, steps_seen, steps_in, parts_of, kind_in, fixed_steps, sight, sights, kinds_seen, is_widened, kind_seen, samples, holders, is_lacking, any_null}
 use Rattle.model.specs.Census as Census
 use Rattle.equality.specs.laws.Base.{and_left, and_right, or_left_false, or_right_false, not_is_true, same_true, same_refl, same_sym}
 use Rattle.model.specs.Unbounded.{see_all}
@@ -23,14 +23,15 @@ use Rattle.equality.specs.laws.census.Standing.{kid_of_values}
 use Rattle.equality.specs.laws.reordering.Sorting.{distinct, find, find_in_order, find_by_number, steps_in_order, set_by_number, distinct_set}
 use Rattle.equality.specs.laws.tracing.Place.{held_at, has_snoc, all_null, all_samples, all_held, all_steps, below_proper}
 use Rattle.equality.specs.laws.census.Kind.{kind_seen_lem}
+use Rattle.equality.specs.laws.census.Marks.{widened_seen}
 
 -- ---- what the place at the end of the steps says
-abbrev pub said_of : Bool → ℕ → Places → Said
-said_of admits kind ps = record { null = admits; kind = kind; children = steps_below ps }
+abbrev pub said_of : Marks → ℕ → Places → Said
+said_of m kind ps = record { null = m.null; widened = m.widened; kind = kind; children = steps_below ps }
 
 unfoldable pub view : List Step → Place → Option Said
-view [] (shown admits kind ps) = some (said_of admits kind ps)
-view (s ∷ steps) (shown admits kind ps) = and_then (find s ps) (view steps)
+view [] (shown m kind ps) = some (said_of m kind ps)
+view (s ∷ steps) (shown m kind ps) = and_then (find s ps) (view steps)
 
 -- ---- the places of a tree
 pub steps_places : (k n : ℕ) (ks : Kids) → steps_below (places_of k n ks) ≡ steps_of ks
@@ -143,11 +144,12 @@ pub view_census : (o : ℕ) → allow_to_string o ≡ false → (d : ℕ) (steps
     → see_all o d vs fresh ≡ accepted t → view steps (canon (place_of lacking t)) ≡ census o steps lacking vs
 unfolding view census canon place_of when◌then◌else◌ and_then
 view_census o f d [] lacking vs (node b k n ks) p e =
-    let a : b ≡ any_null vs = all_null o d vs fresh (node b k n ks) e in
+    let a : b.null ≡ any_null vs = all_null o d vs fresh (node b k n ks) e in
+    let w : b.widened ≡ is_widened (kinds_seen vs) = widened_seen o d vs (node b k n ks) e in
     let j : k ≡ kind_seen o (kinds_seen vs) = kind_seen_lem o d vs (node b k n ks) f p e in
     let r : steps_of ks ≡ steps_seen vs [] = steps_fresh o d vs (node b k n ks) e p in
     let h : distinct (steps_of ks) ≡ true = rw r (distinct_seen vs [] distinct_none) in
-    λ i. some (record { null = lacking || a i; kind = j i; children = (steps_canon k n ks h ∙ ap₂ children_of j r) i })
+    λ i. some (record { null = lacking || a i; widened = w i; kind = j i; children = (steps_canon k n ks h ∙ ap₂ children_of j r) i })
 view_census o f d (s ∷ steps) lacking vs (node b k n ks) p e =
     let j : k ≡ kind_seen o (kinds_seen vs) = kind_seen_lem o d vs (node b k n ks) f p e in
     let r : steps_of ks ≡ steps_seen vs [] = steps_fresh o d vs (node b k n ks) e p in
@@ -199,7 +201,7 @@ mutual
   same_view (shown b k cs) (shown b' k' cs') u h =
       let q = some_injective (said_of b k cs) (said_of b' k' cs') (h []) in
       let w = same_views cs cs' (ap (λ (i : Said). i.children) q) (u [] _ refl) (λ s steps i e. u (s ∷ steps) i e) (λ s steps. h (s ∷ steps)) in
-      λ i. shown (q i).null (q i).kind (w i)
+      λ i. shown (marks (q i).null (q i).widened) (q i).kind (w i)
 
   pub same_views : (cs es : Places) → steps_below cs ≡ steps_below es → distinct (steps_below cs) ≡ true
       → ((s : Step) (steps : List Step) (i : Said) → and_then (find s cs) (view steps) ≡ some i → distinct i.children ≡ true)

@@ -15,7 +15,7 @@ in_order (below s p ps) = insert_place s p (in_order ps)
 
 unfoldable mutual
   pub canon : Place → Place
-  canon (shown admits kind ps) = shown admits kind (when eqb kind struct_kind then canons ps else in_order (canons ps))
+  canon (shown m kind ps) = shown m kind (when eqb kind struct_kind then canons ps else in_order (canons ps))
 
   pub canons : Places → Places
   canons none_below = none_below

@@ -1,5 +1,5 @@
 -- The field that is emitted for a place tells the place, up to the order that is not said; and places that agree so have one field.
-use Rattle.std.specs.Prelude.{◌≡◌, refl, Bool, true, false, ◌||◌, List, ℕ, zero, suc, ◌+◌, ◌-◌, ◌<◌, eqb, ltb}
+use Rattle.std.specs.Prelude.{◌≡◌, refl, true, false, ◌||◌, List, ℕ, zero, suc, ◌+◌, ◌-◌, ◌<◌, eqb, ltb}
 use Rattle.std.proofs.Common.{ap, ap₂, sym, ◌∙◌, arith, eqb-true, ne_eqb, ltb-true}
 use Rattle.logic.specs.Test.{when◌then◌else◌}
 use Rattle.logic.specs.laws.Test.{cases, both}
@@ -8,6 +8,7 @@ use Rattle.options.specs.Word.{sequence_as_large_list, string_as_large_utf8, str
 use Rattle.coerce.specs.Joint.{is_string}
 use Rattle.model.specs.Result.{accepted}
 use Rattle.model.specs.Kinds.{sequence_kind, struct_kind, map_kind, union_kind, tuple_kind, map_mode_kind, is_struct, variant_of}
+use Rattle.model.specs.Tracing.{Marks, marks}
 use Rattle.model.specs.Emission.{Place, shown, Places, none_below, below, Field, mk, Fields, no_fields, more, type_of, strategy_of, entries_name, name_of, gap, gaps, arranged, field_of, fields_of, root_fields, root_name}
 use Rattle.equality.specs.laws.Base.{and_left, not_refused}
 use Rattle.equality.specs.laws.Proper.{is_binary, type_fits, kind_fits, fits, fit_below}
@@ -65,16 +66,16 @@ wrapped_injective : (kind : ℕ) (fs gs : Fields) → wrapped kind fs ≡ wrappe
 unfolding wrapped when◌then◌else◌
 wrapped_injective kind fs gs e = cases (eqb kind map_kind) (λ h. unwrap (rw (wrapped, h) at e)) (λ h. rw (wrapped, h) at e)
   where
-    unwrap : more (mk struct false no_strategy 0 entries_name fs) no_fields ≡ more (mk struct false no_strategy 0 entries_name gs) no_fields → fs ≡ gs
+    unwrap : more (mk struct (marks false false) no_strategy 0 entries_name fs) no_fields ≡ more (mk struct (marks false false) no_strategy 0 entries_name gs) no_fields → fs ≡ gs
     unwrap q = cc
 
 -- a field of a place that was seen is no empty slot
 abbrev strategy_in : Field → ℕ
-strategy_in (mk type nullable strategy number name fs) = strategy
+strategy_in (mk type m strategy number name fs) = strategy
 
 seen_field : (options : ℕ) (x : List ℕ) (v : ℕ) (c : Place) → strategy_in (plain_field options x v c) < unknown_variant
 unfolding plain_field strategy_of when◌then◌else◌
-seen_field options x v (shown admits kind ps) =
+seen_field options x v (shown m kind ps) =
     cases (eqb kind tuple_kind) (λ e. rw (strategy_of, e) (omega arith))
     (λ e. cases (eqb kind map_mode_kind) (λ f. rw (strategy_of, e, f) (omega arith)) (λ f. rw (strategy_of, e, f) (omega arith)))
 
@@ -124,16 +125,19 @@ mutual
 
 -- ---- the root
 abbrev pub kind_at : Place → ℕ
-kind_at (shown admits kind ps) = kind
+kind_at (shown m kind ps) = kind
+
+abbrev pub marks_at : Place → Marks
+marks_at (shown m kind ps) = m
 
 -- the root's field where it is accepted
-pub root_field : (end : ℕ) (type : ℕ) (nullable : Bool) (strategy number : ℕ) (name : List ℕ) (fs gs : Fields) →
-    root_fields end (mk type nullable strategy number name fs) ≡ accepted gs → (nullable ≡ false) × (type ≡ struct) × (fs ≡ gs)
+pub root_field : (end : ℕ) (type : ℕ) (m : Marks) (strategy number : ℕ) (name : List ℕ) (fs gs : Fields) →
+    root_fields end (mk type m strategy number name fs) ≡ accepted gs → (m.null ≡ false) × (type ≡ struct) × (fs ≡ gs)
 unfolding when◌then◌else◌
-root_field end type true strategy number name fs gs e = not_refused e
-root_field end type false strategy number name fs gs e =
-    cases (eqb type null) (λ a. not_refused (rw a at e)) (λ a.
-    cases (eqb type struct) (λ b. (refl, eqb-true type struct b, given (rw (a, b) at e))) (λ b. not_refused (rw (a, b) at e)))
+root_field end type m strategy number name fs gs e =
+    cases m.null (λ n. not_refused (rw n at e)) (λ n.
+    cases (eqb type null) (λ a. not_refused (rw (n, a) at e)) (λ a.
+    cases (eqb type struct) (λ b. (n, eqb-true type struct b, given (rw (n, a, b) at e))) (λ b. not_refused (rw (n, a, b) at e))))
   where
     given : accepted fs ≡ accepted gs → fs ≡ gs
     given q = cc
@@ -142,8 +146,8 @@ root_field end type false strategy number name fs gs e =
 pub root_kind : (options end : ℕ) (c : Place) (fs : Fields) → Off options → fits options c ≡ true → root_fields end (field_of options root_name 0 c) ≡ accepted fs →
     (is_struct (kind_at c) || eqb (kind_at c) tuple_kind) ≡ true
 unfolding fits strategy_of kind_back when◌then◌else◌
-root_kind options end (shown admits kind ps) fs o f e =
-    let h = root_field end (type_of options kind) admits (strategy_of kind) 0 root_name (arranged kind (fields_of options kind 0 ps)) fs (rw (field_arranged options root_name 0 admits kind ps o) at e) in
+root_kind options end (shown m kind ps) fs o f e =
+    let h = root_field end (type_of options kind) m (strategy_of kind) 0 root_name (arranged kind (fields_of options kind 0 ps)) fs (rw (field_arranged options root_name 0 m kind ps o) at e) in
     let k : kind_back options struct (strategy_of kind) ≡ kind =
     ap (λ (t : ℕ). kind_back options t (strategy_of kind)) (sym h.1) ∙ kind_back_lem options kind (and_left (kind_fits options kind) (fit_below options kind 0 ps) f) in
     cases (eqb kind tuple_kind) (λ a. rw (eqb-true kind tuple_kind a)) (λ a.
@@ -153,5 +157,5 @@ root_kind options end (shown admits kind ps) fs o f e =
 -- where the commands end does not matter to what is accepted
 pub root_end : (end end' : ℕ) (f : Field) (fs : Fields) → root_fields end f ≡ accepted fs → root_fields end' f ≡ accepted fs
 unfolding when◌then◌else◌
-root_end end end' (mk type nullable strategy number name fs) gs e =
-    let h = root_field end type nullable strategy number name fs gs e in rw (h.0, h.1, h.2)
+root_end end end' (mk type m strategy number name fs) gs e =
+    let h = root_field end type m strategy number name fs gs e in rw (h.0, h.1, h.2)

@@ -9,7 +9,7 @@ use Rattle.datatype.specs.Codes.{struct, no_strategy}
 use Rattle.options.specs.Word.{enums_without_data_as_strings}
 use Rattle.text.specs.Name.{lt_name}
 use Rattle.model.specs.Kinds.{sequence_kind, struct_kind, map_kind, union_kind, tuple_kind, map_mode_kind, is_struct, Step, field, element, position, key, value, variant, same, variant_of}
-use Rattle.model.specs.Tracing.{has}
+use Rattle.model.specs.Tracing.{Marks, marks, has}
 use Rattle.model.specs.Emission.{Place, shown, Places, none_below, below, dataless, Field, mk, Fields, no_fields, more, type_of, strategy_of, entries_name, name_of, name_in, insert_field, by_name, gaps, arranged, field_of, fields_of}
 use Rattle.equality.specs.laws.Base.{and_left, and_right, and_both, not_is_true, same_sym}
 use Rattle.equality.specs.laws.Proper.{step_fits, steps_below, fits, fit_below}
@@ -19,7 +19,7 @@ use Rattle.equality.specs.laws.reordering.Sorting.{precedes, leads, ordered, und
 -- ---- the premise on unions: the numbers of their variants rise, as `by_number` leaves them where no two are the same
 unfoldable mutual
   pub ascends : Place → Bool
-  ascends (shown admits kind ps) = (not (eqb kind union_kind) || rising (steps_below ps)) && ascend_below ps
+  ascends (shown m kind ps) = (not (eqb kind union_kind) || rising (steps_below ps)) && ascend_below ps
 
   pub ascend_below : Places → Bool
   ascend_below none_below = true
@@ -28,11 +28,11 @@ unfoldable mutual
 -- ---- the emission of a place in order
 -- a map's key and value stand in its entries
 unfoldable pub wrapped : ℕ → Fields → Fields
-wrapped kind fs = when eqb kind map_kind then more (mk struct false no_strategy 0 entries_name fs) no_fields else fs
+wrapped kind fs = when eqb kind map_kind then more (mk struct (marks false false) no_strategy 0 entries_name fs) no_fields else fs
 
 unfoldable mutual
   pub plain_field : ℕ → List ℕ → ℕ → Place → Field
-  plain_field options name number (shown admits kind ps) = mk (type_of options kind) admits (strategy_of kind) number name (wrapped kind (plain_fields options kind 0 ps))
+  plain_field options name number (shown m kind ps) = mk (type_of options kind) m (strategy_of kind) number name (wrapped kind (plain_fields options kind 0 ps))
 
   pub plain_fields : ℕ → ℕ → ℕ → Places → Fields
   plain_fields options kind slot none_below = no_fields
@@ -159,7 +159,7 @@ precedes_named r s p q = ap₂ precedes p q
 
 name_plain : (options : ℕ) (x : List ℕ) (v : ℕ) (p : Place) → name_in (plain_field options x v p) ≡ x
 unfolding plain_field
-name_plain options x v (shown admits kind ps) = refl
+name_plain options x v (shown m kind ps) = refl
 
 plain_slot : (options kind m n : ℕ) (ps : Places) → eqb kind union_kind ≡ false → plain_fields options kind m ps ≡ plain_fields options kind n ps
 unfolding plain_fields gaps when◌then◌else◌
@@ -236,10 +236,10 @@ and_off true t e = e
 and_off false t e = refl
 
 -- with option 9 off
-pub field_arranged : (options : ℕ) (x : List ℕ) (v : ℕ) (admits : Bool) (kind : ℕ) (ps : Places) → Off options →
-    field_of options x v (shown admits kind ps) ≡ mk (type_of options kind) admits (strategy_of kind) v x (arranged kind (fields_of options kind 0 ps))
+pub field_arranged : (options : ℕ) (x : List ℕ) (v : ℕ) (m : Marks) (kind : ℕ) (ps : Places) → Off options →
+    field_of options x v (shown m kind ps) ≡ mk (type_of options kind) m (strategy_of kind) v x (arranged kind (fields_of options kind 0 ps))
 unfolding field_of when◌then◌else◌
-field_arranged options x v admits kind ps o = rw (field_of, and_off (eqb kind union_kind && dataless ps) (enums_without_data_as_strings options) o)
+field_arranged options x v m kind ps o = rw (field_of, and_off (eqb kind union_kind && dataless ps) (enums_without_data_as_strings options) o)
 
 -- ---- the canon of a place that fits does so too
 -- a step to one of the places below a struct, or a union, fits at any of them

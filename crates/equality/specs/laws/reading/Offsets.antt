@@ -8,7 +8,7 @@ use Rattle.coerce.specs.Joint.{joint}
 use Rattle.model.specs.Result.{Result, accepted, refused, ◌>>=◌, or_refused}
 use Rattle.model.specs.Kinds.{Step, is_container, same}
 use Rattle.model.specs.Reading.{Value, val, cut, Parts, no_parts, cut_off, part, is_whole, are_whole, all_whole}
-use Rattle.model.specs.Tracing.{Tree, node, Kids, no_kids, kid, null_of, kind_of, samples_of, kids_of, dots_of, depth_limit, same_container, meet, steps_of, kid_at, put, clashes, made, holds, one, tally}
+use Rattle.model.specs.Tracing.{Tree, node, Kids, no_kids, kid, marks_of, kind_of, samples_of, kids_of, dots_of, depth_limit, same_container, meet, marks_with, steps_of, kid_at, put, clashes, made, holds, one, tally}
 use Rattle.model.specs.Unbounded.{make_all, allowed, see, see_parts, see_all}
 use Rattle.equality.specs.laws.Base.{choices}
 use Rattle.equality.specs.laws.reading.Locality.{moved, moved_parts, moved_all}
@@ -71,7 +71,7 @@ mutual
   see_forget options depth (val at null kind n ps) t =
       blur_bind (meet options depth at (kind_of t) kind) _ _ _ (blur_meet options depth at (kind_of t) kind) λ met.
       blur_bind (see_parts options depth ps (make_all (made kind n (kind_of t)) (kids_of t))) _ _ _ (parts_forget options depth ps (make_all (made kind n (kind_of t)) (kids_of t))) λ kids.
-      ap (λ (x : Kids). accepted (node (null_of t || null) met (samples_of t + one (is_container kind)) x)) (tally_forgets ps kids)
+      ap (λ (x : Kids). accepted (node (marks_with null (kind_of t) kind (marks_of t)) met (samples_of t + one (is_container kind)) x)) (tally_forgets ps kids)
 
   pub parts_forget : (options depth : ℕ) (ps : Parts) (kids : Kids) → see_parts options depth (forgets ps) kids ≡ blur (see_parts options depth ps kids)
   parts_forget options depth no_parts kids = refl

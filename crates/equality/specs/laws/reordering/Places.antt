@@ -1,6 +1,7 @@
 -- A reordering of an accepted batch is accepted, and its places differ in the order of the places below alone.
 use Rattle.std.specs.Prelude.{◌≡◌, refl, Bool, true, false, ◌&&◌, ◌||◌, ℕ, ◌+◌, eqb}
-use Rattle.std.proofs.Common.{ap, ap₂, sym, ◌∙◌, arith, eqb-true}
+use Rattle.std.proofs.Common.{ap, ap₂, sym, ◌∙◌, arith, eqb-true, ne_eqb}
+use Rattle.std.proofs.lemmas.Bool.{eqb-false}
 use Rattle.std.proofs.Math.Bool.{not, or-false}
 use mathlib.Core.List.Permᴰ
 use mathlib.Core.List.{List, [], ◌∷◌, append_assoc, Permᴰ}
@@ -8,15 +9,17 @@ use Rattle.std.proofs.Math.Option.{some-injective}
 use Rattle.logic.specs.Test.{when◌then◌else◌}
 use Rattle.logic.specs.laws.Test.{cases, both, neither}
 use Rattle.logic.specs.All.{All}
+use Rattle.logic.specs.All as Lists
 use Rattle.logic.specs.laws.All.{all_map, all_both}
 use Rattle.datatype.specs.Codes.{null}
 use Rattle.options.specs.Word.{allow_to_string}
+use Rattle.coerce.specs.Census.{is_other}
 use Rattle.model.specs.Result.{accepted}
 use Rattle.model.specs.Kinds.{struct_kind, map_kind, map_mode_kind, is_container, is_struct, Step}
 use Rattle.model.specs.Reading.{Value, val, cut, is_whole, all_whole}
-use Rattle.model.specs.Tracing.{Tree, kind_of, fresh, steps_of, has, holds, one}
+use Rattle.model.specs.Tracing.{marks, Tree, kind_of, fresh, steps_of, has, holds, one}
 use Rattle.model.specs.Emission.{place_of}
-use Rattle.model.specs.Census.{parts_of, kind_in, null_in, parts_at, below, standing, any_null, samples, holders, kinds_seen, fixed_steps, steps_in, sights, steps_seen}
+use Rattle.model.specs.Census.{parts_of, kind_in, null_in, parts_at, below, standing, any_null, samples, holders, kinds_seen, is_widened, fixed_steps, steps_in, sights, steps_seen}
 use Rattle.model.specs.Demand3.{shows, as_struct, as_map}
 use Rattle.equality.specs.laws.Base.{or_right_false}
 use Rattle.model.specs.Unbounded.{see_all}
@@ -24,6 +27,8 @@ use Rattle.equality.specs.laws.Proper.{kind_fits, is_proper, are_proper, all_pro
 use Rattle.equality.specs.laws.census.Standing.{place_at, depth_at, place_fresh, at_place}
 use Rattle.equality.specs.laws.tracing.Place.{together_all, is_deep, see_all_whole, standing_proper, all_null, all_kind, has_sights_is}
 use Rattle.equality.specs.laws.tracing.Acceptance.{all_shallow, Allowed, accepts, allows}
+use Rattle.equality.specs.laws.census.Kind.{is_typed}
+use Rattle.equality.specs.laws.census.Marks.{types_in, types_more, types_have, widened_seen}
 use Rattle.equality.specs.laws.census.View.{samples_fresh, held_fresh, steps_fresh, distinct_seen, distinct_none}
 use Rattle.equality.specs.laws.reordering.Sorting.{or_swap}
 use Rattle.equality.specs.laws.tracing.Kinds.{Suits, null_suits, together_perm}
@@ -92,6 +97,27 @@ module _ {vs ws : List Value} (r : Permᴰ vs ws) where
   unfolding all_shallow
   perm_shallow d =
       perm_by (λ k b. not (is_deep d k) && b) (all_shallow d) (λ k ks. refl) (λ k h. and_swap (not (is_deep d k)) (not (is_deep d h))) (perm_kinds r)
+
+-- the types seen, and whether two of them differ
+perm_types : (p : ℕ → Bool) {ks hs : List ℕ} → Permᴰ ks hs → Lists.has p (types_in ks) ≡ Lists.has p (types_in hs)
+perm_types p r =
+    perm_by (λ k b. (is_typed k && p k) || b) (λ ks. Lists.has p (types_in ks)) (types_have p) (λ k h. or_swap (is_typed k && p k) (is_typed h && p h)) r
+
+perm_widened : {ks hs : List ℕ} → Permᴰ ks hs → is_widened ks ≡ is_widened hs
+unfolding Lists.has when◌then◌else◌
+perm_widened Permᴰ.nil = refl
+perm_widened (Permᴰ.cons {a = k} {l₁ = ks} {l₂ = hs} e r) =
+    rw (← e, types_more k ks, types_more k hs) (cases (is_typed k) (λ a. rw a (perm_types (is_other k) r)) (λ a. rw a (perm_widened r)))
+perm_widened (Permᴰ.swap {a = k} {b = h} {l = ks} e f) =
+    rw (← e, ← f, types_more k (h ∷ ks), types_more h (k ∷ ks), types_more k ks, types_more h ks) (
+    cases (is_typed k)
+    (λ a. cases (is_typed h) (λ b. rw (a, b) (either (eqb k h) refl)) (λ b. rw (a, b)))
+    (λ a. rw a))
+  where
+    either : (t : Bool) → eqb k h ≡ t → (is_other k h || Lists.has (is_other k) (types_in ks)) ≡ (is_other h k || Lists.has (is_other h) (types_in ks))
+    either true q = rw (eqb-true k h q)
+    either false q = rw (q, ne_eqb h k (λ r. eqb-false k h q (sym r)))
+perm_widened (Permᴰ.trans q r) = perm_widened q ∙ perm_widened r
 
 -- the steps seen, as a set
 abbrev shown_by : Step → Value → Bool
@@ -178,7 +204,8 @@ perm_alike o off d vs ws t u r p e f g =
     let a = steps_fresh o d vs t f p in
     let b = steps_fresh o d ws u g q in
     record {
-      null = all_null o d vs fresh t f ∙ perm_null r ∙ sym (all_null o d ws fresh u g);
+      marks = ap₂ marks (all_null o d vs fresh t f ∙ perm_null r ∙ sym (all_null o d ws fresh u g))
+          (widened_seen o d vs t f ∙ perm_widened (perm_kinds r) ∙ sym (widened_seen o d ws u g));
       kind = some-injective (kind_of t) (kind_of u) (sym (all_kind o d vs fresh t f) ∙ perm_together o off r p e ∙ all_kind o d ws fresh u g);
       samples = samples_fresh o d vs t f ∙ perm_samples r ∙ sym (samples_fresh o d ws u g);
       steps = λ s. rw (a, b) (perm_has s r);

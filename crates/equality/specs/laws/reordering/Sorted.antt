@@ -8,7 +8,7 @@ use Rattle.logic.specs.Test.{when◌then◌else◌}
 use Rattle.logic.specs.laws.Test.{cases}
 use Rattle.logic.specs.Maybe.{and_then}
 use Rattle.model.specs.Kinds.{union_kind, is_struct, Step, same, variant_of}
-use Rattle.model.specs.Tracing.{Tree, node, Kids, no_kids, kid, null_of, kind_of, samples_of, kids_of, steps_of, has, kid_at}
+use Rattle.model.specs.Tracing.{Tree, node, Kids, no_kids, kid, marks_of, kind_of, samples_of, kids_of, steps_of, has, kid_at}
 use Rattle.model.specs.Emission.{Place, shown, Places, none_below, below, insert_variant, by_number, is_missing, place_of, places_of}
 use Rattle.model.specs.Census.{Said, as_set}
 use Rattle.equality.specs.laws.Proper.{steps_below}
@@ -22,7 +22,7 @@ use Rattle.equality.specs.laws.tracing.Count.{size, sizes}
 -- ---- a place with all below it in the order of their steps
 unfoldable mutual
   pub sorted_place : Place → Place
-  sorted_place (shown admits kind ps) = shown admits kind (in_order (sorted_below ps))
+  sorted_place (shown m kind ps) = shown m kind (in_order (sorted_below ps))
 
   pub sorted_below : Places → Places
   sorted_below none_below = none_below
@@ -56,7 +56,7 @@ module _ (k n : ℕ) (ks : Kids) (d : distinct (steps_of ks) ≡ true) where
 
 -- ---- trees alike but for the order of the places below
 pub record Alike (t u : Tree) : Type 0 where
-  pub null : null_of t ≡ null_of u
+  pub marks : marks_of t ≡ marks_of u
   pub kind : kind_of t ≡ kind_of u
   pub samples : samples_of t ≡ samples_of u
   pub steps : (s : Step) → has s (steps_of (kids_of t)) ≡ has s (steps_of (kids_of u))
@@ -74,7 +74,7 @@ unfolding view sorted_place place_of place_at when◌then◌else◌ and_then
 view_alike [] lacking (node b k n ks) (node b' k' n' ks') h =
     let a = h [] in
     let c = steps_tree k n ks a.once ∙ same_set (steps_of ks) (steps_of ks') a.once a.other_once a.steps ∙ sym (steps_tree k' n' ks' a.other_once) in
-    λ i. some (record { null = lacking || a.null i; kind = a.kind i; children = c i })
+    λ i. some (record { null = lacking || (a.marks i).null; widened = (a.marks i).widened; kind = a.kind i; children = c i })
 view_alike (s ∷ steps) lacking (node b k n ks) (node b' k' n' ks') h =
     let a = h [] in
     let m : is_missing k n (held_at s ks) ≡ is_missing k' n' (held_at s ks') = ap₂ ◌&&◌ (ap is_struct a.kind) (ap₂ ltb (a.held s) a.samples) in
@@ -110,7 +110,7 @@ alike_sorted lacking t u h = same_view (sorted_place (place_of lacking t)) (sort
 -- ---- how many places: sorting keeps their number
 unfoldable mutual
   pub place_count : Place → ℕ
-  place_count (shown admits kind ps) = suc (count_below ps)
+  place_count (shown m kind ps) = suc (count_below ps)
 
   pub count_below : Places → ℕ
   count_below none_below = 0
@@ -140,7 +140,7 @@ mutual
   unfolding sorted_place place_count
 
   count_sorted : (c : Place) → place_count (sorted_place c) ≡ place_count c
-  count_sorted (shown admits kind ps) = ap suc (count_in_order (sorted_below ps) ∙ counts_sorted ps)
+  count_sorted (shown m kind ps) = ap suc (count_in_order (sorted_below ps) ∙ counts_sorted ps)
 
   counts_sorted : (ps : Places) → count_below (sorted_below ps) ≡ count_below ps
   counts_sorted none_below = refl

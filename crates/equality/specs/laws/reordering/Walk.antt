@@ -12,7 +12,7 @@ use Rattle.refusal.specs.Number.{null_field, dataless_union}
 use Rattle.text.specs.Name.{lt_name}
 use Rattle.model.specs.Result.{accepted}
 use Rattle.model.specs.Kinds.{sequence_kind, struct_kind, map_kind, union_kind, map_mode_kind, is_struct, Step, variant_of}
-use Rattle.model.specs.Tracing.{one}
+use Rattle.model.specs.Tracing.{Marks, marks, one}
 use Rattle.model.specs.Emission.{Place, shown, Places, none_below, below, dataless_from, dataless, slot_limit, first_of, walk, walks, Field, mk, Fields, no_fields, more, emits_struct, type_of, strategy_of, entries_name, name_of, name_in, insert_field, by_name, gap, gaps, arranged, field_of, fields_of, root_fields, root_name, child_count, names_of, names_in, is_column, columns_of, columns_in, count_of, count_in}
 use Rattle.model.specs.Demand3.{is_listed, in_name_order_of, in_name_order_below, in_name_order}
 use Rattle.equality.specs.laws.Base.{choice}
@@ -39,7 +39,7 @@ ok_as options kind is_bare ok =
 
 unfoldable mutual
   pub ok_place : ℕ → Place → Bool
-  ok_place options (shown admits kind ps) = ok_as options kind (dataless ps) (ok_below options kind ps)
+  ok_place options (shown m kind ps) = ok_as options kind (dataless ps) (ok_below options kind ps)
 
   pub ok_below : ℕ → ℕ → Places → Bool
   ok_below options kind none_below = true
@@ -69,7 +69,7 @@ mutual
   unfolding walk ok_place when◌then◌else◌
 
   walk_passes : (options : ℕ) (c : Place) → passes (walk options c) ≡ ok_place options c
-  walk_passes options (shown admits kind ps) = passes_as options kind (dataless ps) (walks options kind ps) ∙ ap (ok_as options kind (dataless ps)) (walks_pass options kind ps)
+  walk_passes options (shown m kind ps) = passes_as options kind (dataless ps) (walks options kind ps) ∙ ap (ok_as options kind (dataless ps)) (walks_pass options kind ps)
 
   walks_pass : (options kind : ℕ) (ps : Places) → passes (walks options kind ps) ≡ ok_below options kind ps
   walks_pass options kind none_below = refl
@@ -112,7 +112,7 @@ ok_in_order options kind (below s p ps) =
 dataless_sorted : (slot : ℕ) (ps : Places) → dataless_from slot (sorted_below ps) ≡ dataless_from slot ps
 unfolding dataless_from sorted_place
 dataless_sorted slot none_below = refl
-dataless_sorted slot (below s (shown admits kind qs) ps) = ap (◌&&◌ (eqb (variant_of s) slot && eqb kind null)) (dataless_sorted (slot + 1) ps)
+dataless_sorted slot (below s (shown m kind qs) ps) = ap (◌&&◌ (eqb (variant_of s) slot && eqb kind null)) (dataless_sorted (slot + 1) ps)
 
 -- a struct is no union, and its places below may stand in any order
 ok_struct : (options kind : ℕ) (is_bare ok : Bool) → is_struct kind ≡ true → ok_as options kind is_bare ok ≡ ok
@@ -123,7 +123,7 @@ mutual
   unfolding ok_place sorted_place fits ascends
 
   pub ok_sorted : (options : ℕ) (c : Place) → fits options c ≡ true → ascends c ≡ true → ok_place options (sorted_place c) ≡ ok_place options c
-  ok_sorted options (shown admits kind ps) f u =
+  ok_sorted options (shown m kind ps) f u =
       both (kind_fits options kind) (fit_below options kind 0 ps) f λ _ g.
       both (not (eqb kind union_kind) || rising (steps_below ps)) (ascend_below ps) u λ a b.
       let k = ok_below_lem options kind 0 ps g b in
@@ -149,7 +149,7 @@ walk_reordered options c d f g a b e h =
 -- ---- the fields in order of names; `above` is the type of the field that they stand in
 name_kept : (above : ℕ) (f : Field) → name_in (in_name_order_of above f) ≡ name_in f
 unfolding in_name_order_of
-name_kept above (mk type nullable strategy number name fs) = refl
+name_kept above (mk type m strategy number name fs) = refl
 
 order_insert : (above : ℕ) (f : Field) (fs : Fields) → in_name_order_below above (insert_field f fs) ≡ insert_field (in_name_order_of above f) (in_name_order_below above fs)
 unfolding in_name_order_below insert_field when◌then◌else◌
@@ -212,7 +212,7 @@ order_arranged options kind ps above t f u e n =
     cases (eqb kind map_kind)
     (λ c.
     let z : kind ≡ map_kind = eqb-true kind map_kind c in
-    rw (z, t ∙ c) (ap (λ (fs : Fields). more (mk struct false no_strategy 0 entries_name fs) no_fields) ((rw z at e) struct refl)))
+    rw (z, t ∙ c) (ap (λ (fs : Fields). more (mk struct (marks false false) no_strategy 0 entries_name fs) no_fields) ((rw z at e) struct refl)))
     (λ c. rw (arranged, wrapped, b, c) (e above (t ∙ c)))))
 
 order_struct : (options : ℕ) (ps : Places) → fit_below options struct_kind 0 ps ≡ true →
@@ -227,16 +227,16 @@ mutual
   -- a field in order of names is the sorted place's, emitted in order
   pub order_field : (options : ℕ) (x : List ℕ) (v : ℕ) (c : Place) → Off options → fits options c ≡ true → ascends c ≡ true →
       (above : ℕ) → eqb above map ≡ false → in_name_order_of above (field_of options x v c) ≡ plain_field options x v (sorted_place c)
-  order_field options x v (shown admits kind ps) o f u above m =
+  order_field options x v (shown m kind ps) o f u above n =
       both (kind_fits options kind) (fit_below options kind 0 ps) f λ h g.
       both (not (eqb kind union_kind) || rising (steps_below ps)) (ascend_below ps) u λ a b.
       let k : Ordered (fields_of options kind 0 ps) (plain_fields options kind 0 (sorted_below ps)) = λ type t. order_fields options kind 0 0 ps o g b type t in
-      ap (in_name_order_of above) (field_arranged options x v admits kind ps o)
+      ap (in_name_order_of above) (field_arranged options x v m kind ps o)
       ∙ cases (eqb kind struct_kind)
       (λ e.
       let z : kind ≡ struct_kind = eqb-true kind struct_kind e in
-      rw (z, m) (ap (mk struct admits no_strategy v x) (order_struct options ps (rw z at g) (rw z at k))))
-      (λ e. rw (not_listed above options kind h e) (ap (mk (type_of options kind) admits (strategy_of kind) v x) (order_arranged options kind ps (type_of options kind) (map_type options kind) g a k e)))
+      rw (z, n) (ap (mk struct m no_strategy v x) (order_struct options ps (rw z at g) (rw z at k))))
+      (λ e. rw (not_listed above options kind h e) (ap (mk (type_of options kind) m (strategy_of kind) v x) (order_arranged options kind ps (type_of options kind) (map_type options kind) g a k e)))
 
   order_fields : (options kind slot i : ℕ) (ps : Places) → Off options → fit_below options kind i ps ≡ true → ascend_below ps ≡ true →
       Ordered (fields_of options kind slot ps) (plain_fields options kind slot (sorted_below ps))
@@ -251,12 +251,12 @@ mutual
 -- ---- the root
 -- the fields of a root in order
 unfoldable root_names : ℕ → Place → Fields
-root_names options (shown admits kind ps) = when eqb kind struct_kind then plain_fields options kind 0 ps else by_name (wrapped kind (plain_fields options kind 0 ps))
+root_names options (shown m kind ps) = when eqb kind struct_kind then plain_fields options kind 0 ps else by_name (wrapped kind (plain_fields options kind 0 ps))
 
-root_order : (options : ℕ) (admits : Bool) (kind : ℕ) (ps : Places) → Off options → fits options (shown admits kind ps) ≡ true → ascends (shown admits kind ps) ≡ true →
-    type_of options kind ≡ struct → in_name_order (arranged kind (fields_of options kind 0 ps)) ≡ root_names options (sorted_place (shown admits kind ps))
+root_order : (options : ℕ) (m : Marks) (kind : ℕ) (ps : Places) → Off options → fits options (shown m kind ps) ≡ true → ascends (shown m kind ps) ≡ true →
+    type_of options kind ≡ struct → in_name_order (arranged kind (fields_of options kind 0 ps)) ≡ root_names options (sorted_place (shown m kind ps))
 unfolding in_name_order root_names sorted_place fits ascends arranged when◌then◌else◌
-root_order options admits kind ps o f u t =
+root_order options m kind ps o f u t =
     both (kind_fits options kind) (fit_below options kind 0 ps) f λ _ g.
     both (not (eqb kind union_kind) || rising (steps_below ps)) (ascend_below ps) u λ a b.
     let k : Ordered (fields_of options kind 0 ps) (plain_fields options kind 0 (sorted_below ps)) = order_fields options kind 0 0 ps o g b in
@@ -273,7 +273,7 @@ root_reordered options end end' (shown a k ps) (shown b l qs) fs o f g u w e h =
     let p = root_field end (type_of options k) a (strategy_of k) 0 root_name (arranged k (fields_of options k 0 ps)) fs (rw (field_arranged options root_name 0 a k ps o) at h) in
     let n : a ≡ b = cc in
     let m : k ≡ l = cc in
-    let x : b ≡ false = sym n ∙ p.0 in
+    let x : b.null ≡ false = ap (λ (c : Marks). c.null) (sym n) ∙ p.0 in
     let t : type_of options l ≡ struct = ap (type_of options) (sym m) ∙ p.1 in (
       arranged l (fields_of options l 0 qs),
       rw (field_arranged options root_name 0 b l qs o, x, t),
@@ -284,7 +284,7 @@ root_reordered options end end' (shown a k ps) (shown b l qs) fs o f g u w e h =
 -- a sum over all fields, each by its type, its name and the number of its children
 unfoldable mutual
   total_of : (ℕ → List ℕ → ℕ → ℕ) → Field → ℕ
-  total_of weight (mk type nullable strategy number name fs) = weight type name (child_count fs) + total_in weight fs
+  total_of weight (mk type m strategy number name fs) = weight type name (child_count fs) + total_in weight fs
 
   total_in : (ℕ → List ℕ → ℕ → ℕ) → Fields → ℕ
   total_in weight no_fields = 0
@@ -320,7 +320,7 @@ mutual
   unfolding total_in in_name_order_below when◌then◌else◌
 
   total_field : (weight : ℕ → List ℕ → ℕ → ℕ) (above : ℕ) (f : Field) → total_of weight (in_name_order_of above f) ≡ total_of weight f
-  total_field weight above (mk type nullable strategy number name fs) =
+  total_field weight above (mk type m strategy number name fs) =
       let h = total_fields weight type fs in
       let n = count_order type fs in
       cases (is_listed above type strategy)
@@ -342,7 +342,7 @@ mutual
   unfolding total_in count_in
 
   count_total : (f : Field) → count_of f ≡ total_of (λ type x n. 1) f
-  count_total (mk type nullable strategy number name fs) = let h = counts_total fs in omega arith
+  count_total (mk type m strategy number name fs) = let h = counts_total fs in omega arith
 
   counts_total : (fs : Fields) → count_in fs ≡ total_in (λ type x n. 1) fs
   counts_total no_fields = refl
@@ -352,7 +352,7 @@ mutual
   unfolding total_in names_in
 
   name_total : (f : Field) → length (names_of f) ≡ total_of (λ type x n. length x) f
-  name_total (mk type nullable strategy number name fs) = length-append name (names_in fs) ∙ ap (◌+◌ (length name)) (names_total fs)
+  name_total (mk type m strategy number name fs) = length-append name (names_in fs) ∙ ap (◌+◌ (length name)) (names_total fs)
 
   names_total : (fs : Fields) → length (names_in fs) ≡ total_in (λ type x n. length x) fs
   names_total no_fields = refl
@@ -362,7 +362,7 @@ mutual
   unfolding total_in columns_in
 
   column_total : (f : Field) → columns_of f ≡ total_of (λ type x n. one (is_column type n)) f
-  column_total (mk type nullable strategy number name fs) = ap (◌+◌ (one (is_column type (child_count fs)))) (columns_total fs)
+  column_total (mk type m strategy number name fs) = ap (◌+◌ (one (is_column type (child_count fs)))) (columns_total fs)
 
   columns_total : (fs : Fields) → columns_in fs ≡ total_in (λ type x n. one (is_column type n)) fs
   columns_total no_fields = refl

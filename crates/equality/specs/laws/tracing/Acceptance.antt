@@ -1,5 +1,5 @@
 -- A batch is accepted exactly where every place allows the values that stand there.
-use Rattle.std.specs.Prelude.{◌≡◌, refl, List, [], ◌∷◌, ◌++◌, Bool, true, false, not, ◌&&◌, ◌||◌, ℕ, suc, ◌+◌, eqb}
+use Rattle.std.specs.Prelude.{◌≡◌, refl, List, [], ◌∷◌, ◌++◌, Bool, true, false, not, ◌&&◌, ℕ, suc, ◌+◌, eqb}
 use Rattle.std.proofs.Common.{ap, sym, ◌∙◌, append-nil, arith, eqb-true, eq-eqb}
 use Rattle.std.proofs.Math.Option.{Option, none, some}
 use Rattle.std.proofs.lemmas.Bool.{false≢true}
@@ -8,7 +8,7 @@ use Rattle.logic.specs.laws.Test.{cases, both, same_test}
 use Rattle.model.specs.Result.{Result, accepted}
 use Rattle.model.specs.Kinds.{is_container, Step, same, variant_of, is_variant}
 use Rattle.model.specs.Reading.{Value, val, cut, Parts, no_parts, cut_off, part, is_whole, are_whole, all_whole}
-use Rattle.model.specs.Tracing.{Tree, node, Kids, null_of, kind_of, samples_of, kids_of, fresh, dots_of, steps_of, has, kid_at, put, renames, clashes, made, one, tally}
+use Rattle.model.specs.Tracing.{Tree, node, Kids, marks_of, kind_of, samples_of, kids_of, fresh, dots_of, marks_with, steps_of, has, kid_at, put, renames, clashes, made, one, tally}
 use Rattle.model.specs.Census.{parts_of, kind_in, parts_at, below, standing, kinds_seen, fixed_steps, steps_in, sight, sights, steps_seen}
 use Rattle.equality.specs.laws.Base.{bind_ok, not_refused, and_left, and_right, or_left_false, or_right_false, or_cases, not_is_true, same_true, same_refl, same_sym}
 use Rattle.model.specs.Unbounded.{make_all, allowed, see, see_parts, see_all}
@@ -154,7 +154,7 @@ mutual
       let f : is_deep d k ≡ false = not_is_true (is_deep d k) (and_left (not (is_deep d k)) true a.shallow) in
       let g = parts_good o d k n 0 ps (make_all (made k n (kind_of t)) (kids_of t)) w q (rw (steps_make_all, made_fixed o k n ps (kind_of t) (steps_of (kids_of t)) w q) a.clear)
       (λ s steps. rw kid_at_make_all (rw append-nil at (h (s ∷ steps)))) in (
-        node (null_of t || b) a.kind (samples_of t + one (is_container k)) (tally ps g.0),
+        node (marks_with b (kind_of t) k (marks_of t)) a.kind (samples_of t + one (is_container k)) (tally ps g.0),
         rw (together_meet o d at (kind_of t) k a.kind f (joins_one o k (kind_of t) a.kind a.joins), g.1),
       )
 

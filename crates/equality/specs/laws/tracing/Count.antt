@@ -1,5 +1,5 @@
 -- Refusal 11: the count of places is threaded, and acceptance is acceptance without it together with the size of the tree.
-use Rattle.std.specs.Prelude.{◌≡◌, refl, List, [], ◌∷◌, Bool, true, false, not, ◌&&◌, ◌||◌, ℕ, zero, suc, ◌+◌, ◌<◌, ◌≤◌, eqb, ltb}
+use Rattle.std.specs.Prelude.{◌≡◌, refl, List, [], ◌∷◌, Bool, true, false, not, ◌&&◌, ℕ, zero, suc, ◌+◌, ◌<◌, ◌≤◌, eqb, ltb}
 use Rattle.std.proofs.Common.{ap, sym, ◌∙◌, arith, ltb-true, lt-ltb}
 use Rattle.logic.specs.Test.{when◌then◌else◌}
 use Rattle.logic.specs.laws.Test.{cases}
@@ -8,7 +8,7 @@ use Rattle.refusal.specs.Number.{two_names, too_many_places}
 use Rattle.model.specs.Result.{Result, accepted, refused}
 use Rattle.model.specs.Kinds.{sequence_kind, map_kind, tuple_kind, is_container, Step, same, is_variant}
 use Rattle.model.specs.Reading.{Value, val, cut, Parts, no_parts, cut_off, part}
-use Rattle.model.specs.Tracing.{Tree, node, Kids, no_kids, kid, null_of, kind_of, samples_of, kids_of, fresh, dots_of, place_limit, meet, steps_of, has, kid_at, put, clashes, room, positions_from, made, make, Counted, one, tally, observe, observe_parts, observe_all, trace}
+use Rattle.model.specs.Tracing.{Tree, node, Kids, no_kids, kid, marks_of, kind_of, samples_of, kids_of, fresh, dots_of, place_limit, meet, marks_with, steps_of, has, kid_at, put, clashes, room, positions_from, made, make, Counted, one, tally, observe, observe_parts, observe_all, trace}
 use Rattle.equality.specs.laws.Base.{bind_ok, not_refused, and_left, and_right, not_is_true}
 use Rattle.model.specs.Unbounded.{make_all, allowed, see, see_parts, see_all}
 use Rattle.equality.specs.laws.census.Standing.{met, part_ok}
@@ -16,7 +16,7 @@ use Rattle.equality.specs.laws.census.Standing.{met, part_ok}
 -- ---- the number of places of a tree
 unfoldable mutual
   pub size : Tree → ℕ
-  size (node null kind samples kids) = suc (sizes kids)
+  size (node m kind samples kids) = suc (sizes kids)
 
   pub sizes : Kids → ℕ
   sizes no_kids = 0
@@ -134,7 +134,7 @@ mutual
       bind_ok (observe_parts o d ps p.places p.what) _ r g λ q e₃ h.
       let m = counted_make at (made k l (kind_of t)) n (kids_of t) p e₂ in
       let c = counted_parts o d ps p.places p.what q e₃ in
-      let left = node (null_of t || b) j (samples_of t + one (is_container k)) (tally ps q.what) in
+      let left = node (marks_with b (kind_of t) k (marks_of t)) j (samples_of t + one (is_container k)) (tally ps q.what) in
       let u = unchanged size q.places left r h in
       (rw (e₁, m.0, c.0) (ap (λ (x : Tree). accepted x) u.0), omega (arith, c.1, m.1, u.1, size_tally ps q.what, size_is t, size_is left), λ x. u.2 (c.2 (m.2 x)))
 
@@ -216,12 +216,12 @@ unfolding observe
 next_part_lem o d at s v ps n ks ks' q t r e w c = (c.0, rw (r, e, w) c.1, c.2)
 
 whole_value : (o d at : ℕ) (b : Bool) (k l : ℕ) (ps : Parts) (n : ℕ) (t t' : Tree) (j : ℕ) (ks : Kids) → meet o d at (kind_of t) k ≡ accepted j
-    → node (null_of t || b) j (samples_of t + one (is_container k)) (tally ps ks) ≡ t'
+    → node (marks_with b (kind_of t) k (marks_of t)) j (samples_of t + one (is_container k)) (tally ps ks) ≡ t'
     → (m : Counts (make at (made k l (kind_of t)) n (kids_of t)) (make_all (made k l (kind_of t)) (kids_of t)))
     → Counts (observe_parts o d ps m.0.places (make_all (made k l (kind_of t)) (kids_of t))) ks → Counts (observe o d (val at b k l ps) n t) t'
 unfolding observe
 whole_value o d at b k l ps n t t' j ks e w m c =
-    (record { places = c.0.places; what = node (null_of t || b) j (samples_of t + one (is_container k)) (tally ps c.0.what) }, rw (e, m.1, m.2, c.1), rw c.2 w)
+    (record { places = c.0.places; what = node (marks_with b (kind_of t) k (marks_of t)) j (samples_of t + one (is_container k)) (tally ps c.0.what) }, rw (e, m.1, m.2, c.1), rw c.2 w)
 
 mutual
   unfolding see observe
@@ -231,7 +231,7 @@ mutual
   counts o d (val at b k l ps) n t t' e h =
       bind_ok (meet o d at (kind_of t) k) _ t' e λ j e₁ f.
       bind_ok (see_parts o d ps (make_all (made k l (kind_of t)) (kids_of t))) _ t' f λ ks e₂ g.
-      let w : node (null_of t || b) j (samples_of t + one (is_container k)) (tally ps ks) ≡ t' = cc in
+      let w : node (marks_with b (kind_of t) k (marks_of t)) j (samples_of t + one (is_container k)) (tally ps ks) ≡ t' = cc in
       let y = grows_parts o d ps (make_all (made k l (kind_of t)) (kids_of t)) ks e₂ in
       let z : suc (sizes ks) ≡ size t' = ap suc (sym (size_tally ps ks)) ∙ sym (size_is (node _ _ _ (tally ps ks))) ∙ ap size w in
       let m = counts_make at (made k l (kind_of t)) n (kids_of t) (made_no_variants k l (kind_of t)) (omega (arith, size_is t)) in

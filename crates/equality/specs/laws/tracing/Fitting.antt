@@ -14,7 +14,7 @@ use Rattle.coerce.specs.laws.Joined.{joint_among}
 use Rattle.model.specs.Result.{accepted}
 use Rattle.model.specs.Kinds.{union_kind, is_container, is_struct, Step, field, element, position, key, value, variant, same, variant_of, is_variant}
 use Rattle.model.specs.Reading.{Value, val, cut, Parts}
-use Rattle.model.specs.Tracing.{Tree, node, Kids, no_kids, kid, kind_of, kids_of, fresh, same_container, steps_of, has, kid_at, dots_of}
+use Rattle.model.specs.Tracing.{Marks, marks, Tree, node, Kids, no_kids, kid, kind_of, kids_of, fresh, same_container, steps_of, has, kid_at, dots_of}
 use Rattle.model.specs.Emission.{Place, shown, Places, none_below, below, insert_variant, by_number, is_missing, place_of, places_of}
 use Rattle.model.specs.Census.{fixed_steps, steps_in, sights}
 use Rattle.model.specs.Census as Census
@@ -159,25 +159,25 @@ numbers_apart_lem (s ∷ ss) d v c =
     and_both (ap not (own_number s ss x y (unclashing s ss (s ∷ ss) c (rw same_refl) later) (not_is_true (has s ss) a)))
     (numbers_apart_lem ss b y (λ q r h l. c q r (later q h) (later r l)))
 
-shown_sound : (o k : ℕ) (b : Bool) (ps : Places) → Fit o k (steps_below ps) → distinct (steps_below ps) ≡ true → (eqb k union_kind ≡ true → rising (steps_below ps) ≡ true)
-    → Each (Sound o) ps → Sound o (shown b k ps)
+shown_sound : (o k : ℕ) (m : Marks) (ps : Places) → Fit o k (steps_below ps) → distinct (steps_below ps) ≡ true → (eqb k union_kind ≡ true → rising (steps_below ps) ≡ true)
+    → Each (Sound o) ps → Sound o (shown m k ps)
 unfolding fits ascends
-shown_sound o k b ps g d u a =
+shown_sound o k m ps g d u a =
     let w = below_sound o k 0 ps g.1 d a in
     let r : (not (eqb k union_kind) || rising (steps_below ps)) ≡ true = cases (eqb k union_kind) (λ e. rw (e, u e)) (λ e. rw e) in
     (and_both g.0 w.0, and_both r w.1)
 
-place_sound : (o k : ℕ) (b : Bool) (ps : Places) → Fit o k (steps_below ps) → distinct (steps_below ps) ≡ true → Clear (steps_below ps) → Each (Sound o) ps
-    → Sound o (shown b k (when eqb k union_kind then by_number ps else ps))
-place_sound o k b ps g d c a =
+place_sound : (o k : ℕ) (m : Marks) (ps : Places) → Fit o k (steps_below ps) → distinct (steps_below ps) ≡ true → Clear (steps_below ps) → Each (Sound o) ps
+    → Sound o (shown m k (when eqb k union_kind then by_number ps else ps))
+place_sound o k m ps g d c a =
     cases (eqb k union_kind)
     (λ e.
     let z : k ≡ union_kind = eqb-true k union_kind e in
     let v : all_variants (steps_below ps) ≡ true = sym (union_steps 0 (steps_below ps)) ∙ rw z at g.1 in
     let f : steps_fit k 0 (steps_below (by_number ps)) ≡ true = rw z (union_steps 0 (steps_below (by_number ps)) ∙ variants_number ps v) in
-    let h = shown_sound o k b (by_number ps) (g.0, f) (distinct_by_number ps ∙ d) (λ _. rising_by_number ps (numbers_apart_lem (steps_below ps) d v c)) (each_number (Sound o) ps a) in
+    let h = shown_sound o k m (by_number ps) (g.0, f) (distinct_by_number ps ∙ d) (λ _. rising_by_number ps (numbers_apart_lem (steps_below ps) d v c)) (each_number (Sound o) ps a) in
     rw (if_passed ps e) h)
-    (λ e. rw (if_failed (by_number ps) e) (shown_sound o k b ps g d (λ f. absurd (true≢false (sym f ∙ e))) a))
+    (λ e. rw (if_failed (by_number ps) e) (shown_sound o k m ps g d (λ f. absurd (true≢false (sym f ∙ e))) a))
 
 -- ---- a tree that proper values leave
 record Grown (o : ℕ) (t : Tree) : Type 0 where
@@ -209,7 +209,7 @@ mutual
       let d : distinct (steps_of ks) ≡ true = rw (steps_fresh o g.depth vs (node b k n ks) g.left g.proper) (distinct_seen vs [] refl) in
       let c : Clear (steps_of ks) = (clear_all o g.depth vs fresh (node b k n ks) g.left (λ s r h l. absurd (false≢true h))).1 in
       let f : Fit o k (steps_of ks) = all_fit o g.depth vs fresh (node b k n ks) g.left g.proper (refl, refl) in
-      place_sound o k (m || b) (places_of k n ks) (rw steps_places f) (rw steps_places d) (rw steps_places c)
+      place_sound o k (marks (m || b.null) b.widened) (places_of k n ks) (rw steps_places f) (rw steps_places d) (rw steps_places c)
       (kids_sound o k n ks d (λ s.
       record {
         depth = g.depth + dots_of s;

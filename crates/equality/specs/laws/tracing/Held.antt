@@ -13,7 +13,7 @@ use Rattle.refusal.specs.Number.{too_many_places}
 use Rattle.model.specs.Result.{accepted, refused}
 use Rattle.model.specs.Kinds.{Step, same, is_variant}
 use Rattle.model.specs.Reading.{Value, val, cut, Parts, no_parts, cut_off, part, is_whole, are_whole, all_whole}
-use Rattle.model.specs.Tracing.{Tree, node, Kids, no_kids, kid, kind_of, kids_of, dots_of, place_limit, meet, steps_of, has, kid_at, put, renames, clashes, room, made, make, tally, observe, observe_parts, observe_all}
+use Rattle.model.specs.Tracing.{marks, Tree, node, Kids, no_kids, kid, kind_of, kids_of, dots_of, place_limit, meet, steps_of, has, kid_at, put, renames, clashes, room, made, make, tally, observe, observe_parts, observe_all}
 use Rattle.model.specs.Unbounded.{make_all, allowed, see, see_parts}
 use Rattle.model.specs.Census.{sight}
 use Rattle.equality.specs.laws.Base.{or_left_false, or_right_false, bind_ok, not_refused, same_true, same_refl, same_sym}
@@ -34,7 +34,7 @@ Below s S steps = S (s ∷ steps)
 
 unfoldable mutual
   pub Held : (List Step → Type 0) → Tree → Type 0
-  Held S (node null kind samples kids) = HeldIn S kids
+  Held S (node m kind samples kids) = HeldIn S kids
 
   pub HeldIn : (List Step → Type 0) → Kids → Type 0
   HeldIn S no_kids = Unit {0}
@@ -163,7 +163,7 @@ crowd_below : (S : List Step → Type 0) (s : Step) (n m : ℕ) (ks : Kids) → 
     → Crowd (Below s S) m (kids_of (kid_at s ks)) → Crowd S n ks
 unfolding Held size
 crowd_below S s n m ks e i free h c =
-    let grown : Tree = node false null 0 c.kids in
+    let grown : Tree = node (marks false false) null 0 c.kids in
     record {
       kids = put s grown ks;
       held = held_put S s grown ks i free c.held h;

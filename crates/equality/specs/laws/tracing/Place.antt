@@ -11,7 +11,7 @@ use Rattle.coerce.specs.Joint.{joint}
 use Rattle.model.specs.Result.{accepted, refused, or_refused}
 use Rattle.model.specs.Kinds.{sequence_kind, map_kind, tuple_kind, is_container, Step, field, element, position, key, value, variant, same}
 use Rattle.model.specs.Reading.{Value, val, cut, Parts, no_parts, cut_off, part, is_whole, are_whole, all_whole}
-use Rattle.model.specs.Tracing.{Tree, Kids, no_kids, kid, null_of, kind_of, samples_of, kids_of, dots_of, depth_limit, same_container, meet, steps_of, has, kid_at, put, positions_from, made, holds, one, tally}
+use Rattle.model.specs.Tracing.{Tree, Kids, no_kids, kid, marks_of, kind_of, samples_of, kids_of, dots_of, depth_limit, same_container, meet, steps_of, has, kid_at, put, positions_from, made, holds, one, tally}
 use Rattle.model.specs.Census.{parts_of, kind_in, parts_at, below, standing, any_null, samples, holders, kinds_seen, fixed_steps, steps_in, sight, sights, steps_seen}
 use Rattle.equality.specs.laws.Base.{bind_ok, not_refused, if_ap, and_left, and_right, and_both, same_true, same_refl}
 use Rattle.model.specs.Unbounded.{make_all, see, see_parts, see_all}
@@ -106,12 +106,12 @@ standing_proper o [] vs p = p
 standing_proper o (s ∷ steps) vs p = standing_proper o steps (below s vs) (below_proper o s vs p)
 
 -- ---- null and samples
-pub all_null : (o d : ℕ) (vs : List Value) (t t' : Tree) → see_all o d vs t ≡ accepted t' → null_of t' ≡ (null_of t || any_null vs)
+pub all_null : (o d : ℕ) (vs : List Value) (t t' : Tree) → see_all o d vs t ≡ accepted t' → (marks_of t').null ≡ ((marks_of t).null || any_null vs)
 unfolding see_all any_null
 all_null o d [] t t' e = rw or_false (cc)
 all_null o d (val at b k n ps ∷ vs) t t' e =
     bind_ok (see o d (val at b k n ps) t) _ t' e λ u e₁ e₂.
-    rw (all_null o d vs u t' e₂, (met o d at b k n ps t u e₁).null) (or_assoc (null_of t) b (any_null vs))
+    rw (all_null o d vs u t' e₂, (met o d at b k n ps t u e₁).marks) (or_assoc (marks_of t).null b (any_null vs))
 all_null o d (cut n at ∷ vs) t t' e = bind_ok (see o d (cut n at) t) _ t' e λ u e₁ _. no_cut o d n at t u e₁
 
 pub all_samples : (o d : ℕ) (vs : List Value) (t t' : Tree) → see_all o d vs t ≡ accepted t' → samples_of t' ≡ samples_of t + samples vs

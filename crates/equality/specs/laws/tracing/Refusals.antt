@@ -220,7 +220,7 @@ mutual
   walks_fit o k (below s p ps) = choice WalkFits _ (λ _. omega arith) λ _. first_fits (walk o p) (walks o k ps) (walk_fits o p) (walks_fit o k ps)
 
 root_between : (end : ℕ) (f : Field) → Between 12 17 end (root_fields end f)
-root_between end (mk type nullable strategy number name fs) =
+root_between end (mk type m strategy number name fs) =
     choice (Between 12 17 end) _ (λ _. omega arith) λ _.
     choice (Between 12 17 end) _ (λ _. omega arith) λ _.
     choice (Between 12 17 end) _ (λ _. tt) λ _. omega arith

@@ -1,5 +1,5 @@
 -- `put_gaps`: the slots that are left give what all of them give.
-use Rattle.std.proofs.Common.{◌≡◌, ℕ, suc, ◌+◌, ◌-◌, ◌%◌, ◌<◌, ◌≤◌, true, List, add-one, arith, rules}
+use Rattle.std.proofs.Common.{◌≡◌, ℕ, suc, ◌+◌, ◌-◌, ◌%◌, ◌<◌, ◌≤◌, List, add-one, arith, rules}
 use Rattle.datatype.specs.Codes.{null, unknown_variant}
 use Rattle.walk.specs.Walk.{sum_of}
 use Rattle.putting.specs.Put.{put, record_of, put_gaps, Writing, writing, as_writing, with_record, gaps_in}
@@ -18,7 +18,7 @@ module _ (slot k count i j : ℕ) (fields names : List ℕ) (whole : Writing)
   ended h = let l : count - k ≡ 0 = omega arith in rw (l, put_gaps) at w
 
   again : (bytes : List ℕ) (a b : ℕ) (out kept : List ℕ) → k < count → writing a b out kept ≡ with_record bytes (writing i j fields names) →
-      bytes ≡ record_of null true unknown_variant (sum_of slot k % 256) 0 0 →
+      bytes ≡ record_of null 1 unknown_variant (sum_of slot k % 256) 0 0 →
       as_writing (put_gaps slot (k + 1) (count - (k + 1)) (put a out)) (put b kept) ≡ whole
   unfolding put_gaps
   again bytes a b out kept h e r =

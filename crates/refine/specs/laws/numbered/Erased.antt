@@ -9,7 +9,7 @@ use Rattle.logic.specs.laws.Test.{cases, neither}
 use Rattle.model.specs.Result.{Result, accepted, refused, ◌>>=◌}
 use Rattle.model.specs.Kinds.{sequence_kind, map_kind, tuple_kind, is_container, Step, same}
 use Rattle.model.specs.Reading.{Value, val, cut, Parts, no_parts, cut_off, part, values}
-use Rattle.model.specs.Tracing.{Tree, node, Kids, no_kids, kid, dots_of, place_limit, meet, steps_of, has, kid_at, put, clashes, room, made, Counted, counted, make, holds, one, tally, observe, observe_parts, observe_all, trace}
+use Rattle.model.specs.Tracing.{Marks, Tree, node, Kids, no_kids, kid, dots_of, place_limit, meet, marks_with, steps_of, has, kid_at, put, clashes, room, made, Counted, counted, make, holds, one, tally, observe, observe_parts, observe_all, trace}
 use Rattle.equality.specs.laws.Base.{same_true, same_refl, same_sym}
 use Rattle.growth.specs.Growth.{onward}
 use Rattle.refine.specs.laws.numbered.Tree.{Spot, spot, Spots, no_spots, child, steps_s, new_spot, spot_at, put_s, add_s, make_s, make_all_s, sample_of, walk, walk_parts, walk_all}
@@ -245,7 +245,7 @@ made_none k r j c =
 
 module _ (options : ℕ) where
   -- a value that is no container has no parts
-  leaf_erase : (depth at k r j₀ n p : ℕ) (b : Bool) (j m most : ℕ) (ks : Spots) (ps : Parts) → is_container k ≡ false → BareIn k ps → m ≤ most → MarkedIn m most ks
+  leaf_erase : (depth at k r j₀ n p : ℕ) (b : Marks) (j m most : ℕ) (ks : Spots) (ps : Parts) → is_container k ≡ false → BareIn k ps → m ≤ most → MarkedIn m most ks
       → Erases most (make_all_s at (made k r j₀) n ks >>= λ x. walk_parts options depth m ps x.places x.what >>= λ q. counted q.places (spot p b j m q.what))
       (make at (made k r j₀) n (erase_in ks) >>= λ x. observe_parts options depth ps x.places x.what >>= λ q. counted q.places (node b j (m + 0) (tally ps q.what)))
   unfolding make_all_s make walk observe
@@ -254,7 +254,7 @@ module _ (options : ℕ) where
   leaf_erase depth at k r j₀ n p b j m most ks (part a x v ps) c s l g = absurd (true≢false (sym s.0 ∙ c))
 
   -- a container's contents, when its parts erase
-  contents_erase : (depth p : ℕ) (b : Bool) (j N most all : ℕ) (ps : Parts) → N ≤ all
+  contents_erase : (depth p : ℕ) (b : Marks) (j N most all : ℕ) (ps : Parts) → N ≤ all
       → ((n : ℕ) (ks : Spots) (K : Kids) → Mid (λ _. false) N most ks K → Only (λ _. false) ks →
       ErasesIn (λ r. holds r ps) N all (walk_parts options depth N ps n ks) (observe_parts options depth ps n K))
       → {x : Result (Counted Spots)} {y : Result (Counted Kids)} → ErasesIn (λ _. false) N most x y
@@ -304,24 +304,25 @@ mutual
       → Erases all (walk options depth v n u) (observe options depth v n (erase u))
   walk_erase options depth most all (cut x at) n u s g l m = same_refusal
   walk_erase options depth most all (val at b k r ps) n (spot p b₀ j₀ i ks) s g l m =
-      go (λ n₁ ks₁ K₁ c o. parts_erase options depth (i + 1) k most all ps n₁ (λ _. false) ks₁ K₁ s (omega arith, omega (arith, g.0)) (omega arith) m c o) (meet options depth at j₀ k)
+      go (marks_with b j₀ k b₀) (λ n₁ ks₁ K₁ c o. parts_erase options depth (i + 1) k most all ps n₁ (λ _. false) ks₁ K₁ s (omega arith, omega (arith, g.0)) (omega arith) m c o)
+      (meet options depth at j₀ k)
     where
       on : onward i ≡ i + 1
       on = let w : i + 1 < 2 ^ 32 = omega (arith, g.0, l, m) in mod-eq_of_lt w
 
-      go : ((n : ℕ) (ks : Spots) (K : Kids) → Mid (λ _. false) (i + 1) most ks K → Only (λ _. false) ks →
+      go : (c : Marks) → ((n : ℕ) (ks : Spots) (K : Kids) → Mid (λ _. false) (i + 1) most ks K → Only (λ _. false) ks →
           ErasesIn (λ r. holds r ps) (i + 1) all (walk_parts options depth (i + 1) ps n ks) (observe_parts options depth ps n K))
           → (x : Result ℕ)
           → Erases all
           (x >>= λ j. make_all_s at (made k r j₀) n ks >>= λ x. walk_parts options depth (sample_of k i) ps x.places x.what >>= λ q. counted
-          q.places (spot p (b₀ || b) j (sample_of k i) q.what))
+          q.places (spot p c j (sample_of k i) q.what))
           (x >>= λ j. make at (made k r j₀) n (erase_in ks) >>= λ x. observe_parts options depth ps x.places x.what >>= λ q. counted q.places
-          (node (b₀ || b) j (i + one (is_container k)) (tally ps q.what)))
-      go ih (refused x y) = same_refusal
-      go ih (accepted j) = cases (is_container k)
-          (λ c. rw (c, on) (contents_erase options depth p (b₀ || b) j (i + 1) most all ps (omega (arith, g.0)) ih
+          (node c j (i + one (is_container k)) (tally ps q.what)))
+      go c ih (refused x y) = same_refusal
+      go c ih (accepted j) = cases (is_container k)
+          (λ e. rw (e, on) (contents_erase options depth p c j (i + 1) most all ps (omega (arith, g.0)) ih
           (make_all_erase (λ _. false) (i + 1) most at (made k r j₀) n ks (erase_in ks) (omega arith) (start i most ks g.1) (λ _ _. refl))))
-          (λ c. rw c (leaf_erase options depth at k r j₀ n p (b₀ || b) j i all ks ps c s (omega (arith, g.0)) (marked_more_in i ks (omega arith) g.1)))
+          (λ e. rw e (leaf_erase options depth at k r j₀ n p c j i all ks ps e s (omega (arith, g.0)) (marked_more_in i ks (omega arith) g.1)))
 
   parts_erase : (options depth N k most all : ℕ) (ps : Parts) (n : ℕ) (seen : Step → Bool) (ks : Spots) (K : Kids) → BareIn k ps → (0 < N) × (N ≤ all) → most + nodes_in ps ≤ all → all < 2 ^ 32
       → Mid seen N most ks K → Only seen ks → ErasesIn (λ r. seen r || holds r ps) N all (walk_parts options depth N ps n ks) (observe_parts options depth ps n K)

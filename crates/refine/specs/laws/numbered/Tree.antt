@@ -1,19 +1,19 @@
 -- The tree with its places' numbers and marks, and the same walk over it as the model's: what stands between the words of the table and the
 -- model's tree.
-use Rattle.std.specs.Prelude.{Bool, false, ◌||◌, List, [], ◌∷◌, ℕ, ◌+◌, eqb, ltb}
+use Rattle.std.specs.Prelude.{false, List, [], ◌∷◌, ℕ, ◌+◌, eqb, ltb}
 use Rattle.logic.specs.Test.{when◌then◌else◌}
 use Rattle.datatype.specs.Codes.{null}
 use Rattle.refusal.specs.Number.{two_names, too_many_places}
 use Rattle.model.specs.Result.{Result, refused, ◌>>=◌}
 use Rattle.model.specs.Kinds.{is_container, Step, same}
 use Rattle.model.specs.Reading.{Value, val, cut, Parts, no_parts, cut_off, part}
-use Rattle.model.specs.Tracing.{dots_of, place_limit, meet, has, clashes, made, Counted, counted}
+use Rattle.model.specs.Tracing.{Marks, marks, dots_of, place_limit, meet, marks_with, has, clashes, made, Counted, counted}
 use Rattle.growth.specs.Growth.{onward}
 
 -- a place with its number, and its children, each with the step to it, how many samples held it and the last of them
 mutual
   pub data Spot : Type 0 where
-    spot : (number : ℕ) → (null : Bool) → (kind samples : ℕ) → Spots → Spot
+    spot : (number : ℕ) → Marks → (kind samples : ℕ) → Spots → Spot
 
   pub data Spots : Type 0 where
     no_spots : Spots
@@ -22,8 +22,8 @@ mutual
 abbrev pub num : Spot → ℕ
 num (spot p b k m ks) = p
 
-abbrev pub null_s : Spot → Bool
-null_s (spot p b k m ks) = b
+abbrev pub marks_s : Spot → Marks
+marks_s (spot p b k m ks) = b
 
 abbrev pub kind_s : Spot → ℕ
 kind_s (spot p b k m ks) = k
@@ -39,7 +39,7 @@ steps_s no_spots = []
 steps_s (child s h m u ks) = s ∷ steps_s ks
 
 abbrev pub new_spot : ℕ → Spot
-new_spot n = spot n false null 0 no_spots
+new_spot n = spot n (marks false false) null 0 no_spots
 
 unfoldable pub spot_at : Step → Spots → Spot
 spot_at s no_spots = new_spot 0
@@ -75,7 +75,7 @@ unfoldable mutual
     j ← meet options depth at (kind_s u) kind
     x ← make_all_s at (made kind positions (kind_s u)) n (below_s u)
     q ← walk_parts options depth (sample_of kind (samples_s u)) ps x.places x.what
-    counted q.places (spot (num u) (null_s u || b) j (sample_of kind (samples_s u)) q.what)
+    counted q.places (spot (num u) (marks_with b (kind_s u) kind (marks_s u)) j (sample_of kind (samples_s u)) q.what)
   walk options depth (cut refusal place) n u = refused refusal place
 
   pub walk_parts : ℕ → ℕ → ℕ → Parts → ℕ → Spots → Result (Counted Spots)

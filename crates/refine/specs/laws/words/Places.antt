@@ -1,23 +1,26 @@
 -- The words of the table say the numbered tree; what changes one place, and what is kept.
-use Rattle.std.specs.Prelude.{◌≡◌, refl, List, [], ◌∷◌, Bool, true, false, ℕ, ◌+◌, ◌<◌, ◌≤◌, length, get_or, set, eqb}
-use Rattle.std.proofs.Common.{sym, subst, ◌∙◌, arith, length-set, get_or-set_same, get_or-set_other, eqb-true}
+use Rattle.std.specs.Prelude.{◌≡◌, refl, List, [], ◌∷◌, true, false, ℕ, ◌+◌, ◌<◌, ◌≤◌, length, get_or, set, eqb}
+use Rattle.std.proofs.Common.{ap, sym, subst, ◌∙◌, arith, length-set, get_or-set_same, get_or-set_other, eqb-true}
 use Rattle.std.proofs.lemmas.Bool.{eqb-false}
 use Rattle.logic.specs.laws.Test.{cases}
 use Rattle.text.specs.Name.{bytes_of}
 use Rattle.words.specs.Word.{place_words, IsTable, IsRow, HasRoom, in_whole, word, with_word}
 use Rattle.words.specs.laws.Word.{word_same, word_other, length_with}
 use Rattle.model.specs.Kinds.{Step, position}
-use Rattle.model.specs.Tracing.{one, place_limit, has}
+use Rattle.model.specs.Tracing.{Marks, marks, place_limit, has}
+use Rattle.model.specs.Emission.{nullable_byte}
 use Rattle.shapes.specs.Steps.{Inside, unpacked_name}
-use Rattle.places.specs.Layout.{kind_word, null_word, samples_word, root_word, block_word, left_word, next_word, right_word, tag_word}
+use Rattle.places.specs.Layout.{kind_word, nullable_word, samples_word, root_word, block_word, left_word, next_word, right_word, tag_word}
+use Rattle.places.specs.Nullable.{admitting, widening, with_null, with_widened}
+use Rattle.places.specs.laws.Nullable.{byte_admitting, byte_widening}
 use Rattle.refine.specs.laws.numbered.Tree.{Spot, spot, Spots, no_spots, child, num, below_s, steps_s, spot_at}
 use Rattle.refine.specs.laws.reading.Steps.{step_code_of, name_in}
 use Rattle.refine.specs.laws.numbered.Numbers.{first_of, last_from, within, within_in, Good, or_left, or_right, not_both, has_num, has_below}
 use Rattle.refine.specs.laws.words.SearchTree.{Indexes, alike, index_kept, kept_all, indexes_frame_in}
 
 -- ---- the words of a place, and of its cell among its siblings
-abbrev pub own_words : Bool → ℕ → ℕ → Spots → List ℕ
-own_words b k m ks = k ∷ one b ∷ m ∷ first_of ks ∷ last_from 0 ks ∷ []
+abbrev pub own_words : Marks → ℕ → ℕ → Spots → List ℕ
+own_words b k m ks = k ∷ nullable_byte b ∷ m ∷ first_of ks ∷ last_from 0 ks ∷ []
 
 -- next, parent, step, name, held, mark
 abbrev pub cell_words : ℕ → ℕ → ℕ → ℕ → ℕ → ℕ → List ℕ
@@ -116,7 +119,7 @@ module _ (text : List ℕ) where
   }
 
   -- ---- a word of the place's own
-  own_with : (t t' : List ℕ) (n p : ℕ) (b b' : Bool) (k k' m m' : ℕ) (ks : Spots) → Fits text t n (spot p b k m ks) → IsTable t'
+  own_with : (t t' : List ℕ) (n p : ℕ) (b b' : Marks) (k k' m m' : ℕ) (ks : Spots) → Fits text t n (spot p b k m ks) → IsTable t'
       → Row t' p kind_word (own_words b' k' m' ks) → ((q f : ℕ) → f < place_words → (q ≡ p → root_word ≤ f) → word t' q f ≡ word t q f) → After text t n (spot p b k m ks) t' n (spot p b' k' m' ks)
   own_with t t' n p b b' k k' m m' ks h z o w =
       let below : (q f : ℕ) → f < place_words → within_in q ks ≡ true → word t' q f ≡ word t q f = λ q f l a. w q f l (λ e. absurd (not_both (within_in q ks) a (rw e h.good.1))) in
@@ -138,7 +141,7 @@ module _ (text : List ℕ) where
         kept = λ q l. refl;
       }
 
-  module _ (t : List ℕ) (n p : ℕ) (b : Bool) (k m : ℕ) (ks : Spots) (h : Fits text t n (spot p b k m ks)) where
+  module _ (t : List ℕ) (n p : ℕ) (b : Marks) (k m : ℕ) (ks : Spots) (h : Fits text t n (spot p b k m ks)) where
     pub in_row : IsRow p
     in_row = omega (arith, h.good.0, h.most)
 
@@ -149,9 +152,17 @@ module _ (text : List ℕ) where
     set_kind j = own_with t (with_word t p kind_word j) n p b b k j m m ks h (rw length_with h.room)
         (row_set t p kind_word 0 j (own_words b k m ks) h.room in_row (omega arith) (in_whole refl) (omega arith) h.rep.0) (others kind_word j (omega arith))
 
-    pub set_null : After text t n (spot p b k m ks) (with_word t p null_word 1) n (spot p true k m ks)
-    set_null = own_with t (with_word t p null_word 1) n p b true k k m m ks h (rw length_with h.room)
-        (row_set t p kind_word 1 1 (own_words b k m ks) h.room in_row (omega arith) (in_whole refl) (omega arith) h.rep.0) (others null_word 1 (omega arith))
+    -- the nullable byte is that of other marks
+    set_marks : (v : ℕ) (c : Marks) → v ≡ nullable_byte c → After text t n (spot p b k m ks) (with_word t p nullable_word v) n (spot p c k m ks)
+    set_marks v c e = own_with t (with_word t p nullable_word v) n p b c k k m m ks h (rw length_with h.room)
+        (subst (λ (w : ℕ). Row (with_word t p nullable_word v) p kind_word (k ∷ w ∷ m ∷ first_of ks ∷ last_from 0 ks ∷ [])) e
+        (row_set t p kind_word 1 v (own_words b k m ks) h.room in_row (omega arith) (in_whole refl) (omega arith) h.rep.0)) (others nullable_word v (omega arith))
+
+    pub set_null : After text t n (spot p b k m ks) (with_null p t) n (spot p (marks true b.widened) k m ks)
+    set_null = set_marks _ _ (ap admitting (h.rep.0 1 (omega arith)) ∙ byte_admitting b.null b.widened)
+
+    pub set_widened : After text t n (spot p b k m ks) (with_widened p t) n (spot p (marks b.null true) k m ks)
+    set_widened = set_marks _ _ (ap widening (h.rep.0 1 (omega arith)) ∙ byte_widening b.null b.widened)
 
     pub set_samples : (v : ℕ) → After text t n (spot p b k m ks) (with_word t p samples_word v) n (spot p b k v ks)
     set_samples v = own_with t (with_word t p samples_word v) n p b b k k m v ks h (rw length_with h.room)
