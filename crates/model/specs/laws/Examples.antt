@@ -4,10 +4,11 @@ use Rattle.std.proofs.Math.Option.{Option, some}
 use Rattle.std.proofs.Common.{arith}
 use Rattle.logic.specs.Test.{when◌then◌else◌}
 use Rattle.logic.specs.All.{has}
-use Rattle.datatype.specs.Codes.{uint8, uint32, uint64, float64, struct, map, no_strategy}
+use Rattle.datatype.specs.Codes.{uint8, uint32, uint64, float64, dictionary_utf8, struct, map, no_strategy}
 use Rattle.refusal.specs.Number.{too_deep, no_joint, null_root, null_field, root_not_struct}
 use Rattle.text.specs.Name.{dot, eq_name, lt_name, dots}
 use Rattle.text.specs.Utf8 as U
+use Rattle.chrono.specs.Text.{text_type}
 use Rattle.coerce.specs.Census as Y
 use Rattle.coerce.specs.Joint as J
 use Rattle.commands.specs.Commands as C
@@ -111,38 +112,51 @@ lacking_null = refl
 
 -- ---- columns that were widened (document 02, 1/14)
 -- records with the one field `a`, which holds these values
-abbrev pub of_a : List ℕ → List ℕ
+abbrev pub of_a : List (List ℕ) → List ℕ
 of_a [] = []
-of_a (value ∷ values) = (0x15 ∷ 0x16 ∷ 0 ∷ 0 ∷ 1 ∷ 0 ∷ value ∷ 0x17 ∷ []) ++ of_a values
+of_a (value ∷ values) = (0x15 ∷ 0x16 ∷ 0 ∷ 0 ∷ 1 ∷ 0 ∷ value) ++ (0x17 ∷ of_a values)
+
+-- a value that is one byte
+abbrev pub bare : ℕ → List ℕ
+bare byte = byte ∷ []
 
 -- the type of the field's record and its nullable byte; or the refusal and its place
 abbrev pub typed : Result E.Fields → List ℕ
 typed (accepted schema) = take 2 (E.records_in schema)
 typed (refused refusal place) = refusal ∷ place ∷ []
 
-abbrev pub widening : ℕ → List ℕ → List ℕ
+abbrev pub widening : ℕ → List (List ℕ) → List ℕ
 widening options values = typed (schema_in options (of_a values) (97 ∷ []))
 
 -- an f64 and then a u32: a Float64 as before, but two types were seen
-pub float_then_integer : widening 94 (0x0B ∷ 0x08 ∷ []) ≡ float64 ∷ 2 ∷ []
+pub float_then_integer : widening 94 (bare 0x0B ∷ bare 0x08 ∷ []) ≡ float64 ∷ 2 ∷ []
 unfolding schema_in E.records_of
 float_then_integer = refl
 
 -- a u32 and a char are one type; Null is none, and is admitted besides
-pub char_is_integer : widening 94 (0x08 ∷ 0x00 ∷ 0x08 ∷ []) ≡ uint32 ∷ 1 ∷ []
+pub char_is_integer : widening 94 (bare 0x08 ∷ bare 0x00 ∷ bare 0x0C ∷ []) ≡ uint32 ∷ 1 ∷ []
 unfolding schema_in E.records_of
 char_is_integer = refl
 
-pub null_between : widening 94 (0x08 ∷ 0x00 ∷ 0x06 ∷ []) ≡ uint64 ∷ 3 ∷ []
+pub null_between : widening 94 (bare 0x08 ∷ bare 0x00 ∷ bare 0x06 ∷ []) ≡ uint64 ∷ 3 ∷ []
 unfolding schema_in E.records_of
 null_between = refl
 
+-- a string's dictionary carries the mark (a text and then a bool), an enum's never (variants 0 and 1)
+pub string_dictionary : widening 160 ((0x0D ∷ 0 ∷ 0 ∷ 1 ∷ 0 ∷ []) ∷ bare 0x01 ∷ []) ≡ dictionary_utf8 ∷ 2 ∷ []
+unfolding schema_in text_type E.records_of
+string_dictionary = refl
+
+pub enum_dictionary : widening 512 ((0x18 ∷ 0 ∷ 0 ∷ 0 ∷ 0 ∷ 1 ∷ 0 ∷ []) ∷ (0x18 ∷ 1 ∷ 0 ∷ 0 ∷ 0 ∷ 0 ∷ 0 ∷ []) ∷ []) ≡ dictionary_utf8 ∷ 0 ∷ []
+unfolding schema_in E.records_of
+enum_dictionary = refl
+
 -- the census says the same of both
-pub said_not_widened : said (of_a (0x08 ∷ 0x00 ∷ 0x08 ∷ [])) ≡ some (record { null = true; widened = false; kind = uint32; children = [] })
+pub said_not_widened : said (of_a (bare 0x08 ∷ bare 0x00 ∷ bare 0x0C ∷ [])) ≡ some (record { null = true; widened = false; kind = uint32; children = [] })
 unfolding said
 said_not_widened = refl
 
-pub said_widened : said (of_a (0x08 ∷ 0x00 ∷ 0x06 ∷ [])) ≡ some (record { null = true; widened = true; kind = uint64; children = [] })
+pub said_widened : said (of_a (bare 0x08 ∷ bare 0x00 ∷ bare 0x06 ∷ [])) ≡ some (record { null = true; widened = true; kind = uint64; children = [] })
 unfolding said
 said_widened = refl
 

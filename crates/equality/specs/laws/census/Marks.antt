@@ -103,6 +103,11 @@ pub widened_seen : (o d : ℕ) (vs : List Value) (t : Tree) → see_all o d vs f
 unfolding types_seen non_null when◌then◌else◌
 widened_seen o d vs t e = all_widened o d vs fresh t e
 
+-- at the end of any steps too
+pub place_widened : (o : ℕ) (vs : List Value) (t : Tree) (steps : List Step) → see_all o 0 vs fresh ≡ accepted t
+    → (marks_of (place_at steps t)).widened ≡ is_widened (kinds_seen (standing steps vs))
+place_widened o vs t steps e = widened_seen o (depth_at 0 steps) (standing steps vs) (place_at steps t) (rw place_fresh at (at_place o 0 steps vs fresh t e))
+
 -- ---- where a container stands no type was seen, since a type never becomes a container
 no_types : (o : ℕ) (kinds : List ℕ) (k c : ℕ) → is_container c ≡ true → together_all o kinds k ≡ some c → types_in (k ∷ kinds) ≡ []
 unfolding together_all types_seen non_null when◌then◌else◌
