@@ -1,5 +1,5 @@
 -- Which places are widened: what is said is in specs/Widened.antt.
-use Rattle.equality.specs.Widened.{marks_in, WidenedPlaces}
+use Rattle.equality.specs.Widened.{place_at, marks_in, WidenedPlaces}
 use Rattle.std.specs.Prelude.{◌≡◌, ◌&&◌, List, ℕ, eqb}
 use Rattle.std.proofs.Common.{ap, ◌∙◌}
 use Rattle.logic.specs.Test.{when◌then◌else◌}
@@ -9,7 +9,6 @@ use Rattle.model.specs.Kinds.{union_kind}
 use Rattle.model.specs.Tracing.{Marks}
 use Rattle.model.specs.Emission.{Place, shown, dataless, place_of, field_of}
 use Rattle.equality.specs.laws.emission.Fields.{marks_at}
-use Rattle.equality.specs.laws.census.Standing.{place_at}
 use Rattle.equality.specs.laws.census.Marks.{place_widened, container_unwidened, widened_place}
 
 -- a field has the marks of its place

@@ -1,13 +1,17 @@
 -- Which places are widened, under any options (document 02, 1/14).
-use Rattle.std.specs.Prelude.{◌≡◌, Bool, true, false, List, ℕ}
+use Rattle.std.specs.Prelude.{◌≡◌, Bool, true, false, List, [], ◌∷◌, ℕ}
 use Rattle.model.specs.Result.{accepted}
 use Rattle.model.specs.Kinds.{is_container, Step}
 use Rattle.model.specs.Reading.{Value}
-use Rattle.model.specs.Tracing.{Marks, Tree, marks_of, kind_of, fresh}
+use Rattle.model.specs.Tracing.{Marks, Tree, marks_of, kind_of, kids_of, fresh, kid_at}
 use Rattle.model.specs.Unbounded.{see_all}
 use Rattle.model.specs.Emission.{Field, mk, place_of, field_of}
 use Rattle.model.specs.Census.{standing, kinds_seen, is_widened}
-use Rattle.equality.specs.laws.census.Standing.{place_at}
+
+-- the place at the end of the steps down from a place, unseen where there is none
+unfoldable pub place_at : List Step → Tree → Tree
+place_at [] tree = tree
+place_at (s ∷ steps) tree = place_at steps (kid_at s (kids_of tree))
 
 -- the marks of a field
 abbrev pub marks_in : Field → Marks

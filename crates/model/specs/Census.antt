@@ -62,7 +62,7 @@ unfoldable pub container_seen : List ℕ → ℕ
 container_seen [] = null
 container_seen (kind ∷ kinds) = when is_container kind then kind else container_seen kinds
 
--- the primitive types seen
+-- the primitive types seen, Null among them
 unfoldable pub types_seen : List ℕ → List ℕ
 types_seen [] = []
 types_seen (kind ∷ kinds) = when is_container kind then types_seen kinds else kind ∷ types_seen kinds

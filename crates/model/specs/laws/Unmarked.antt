@@ -1,5 +1,5 @@
 -- Taken off an answer, the marks are taken off its schema.
-use Rattle.std.specs.Prelude.{◌≡◌, refl, Bool, true, false, List, ◌++◌, ℕ, suc, ◌+◌, ◌%◌, length, drop}
+use Rattle.std.specs.Prelude.{◌≡◌, refl, Bool, true, false, List, ◌++◌, ℕ, suc, ◌+◌, length, drop}
 use Rattle.std.proofs.Common.{ap, arith, append_assoc, length-append}
 use Rattle.std.proofs.Math.Nat.{add_assoc}
 use Rattle.logic.specs.Test.{when◌then◌else◌}
@@ -8,10 +8,11 @@ use Rattle.model.specs.Result.{Result, accepted, refused}
 use Rattle.model.specs.Tracing.{marks}
 use Rattle.model.specs.Emission.{Field, mk, Fields, no_fields, more, child_count, nullable_byte, records_of, records_in, names_of, names_in, columns_of, columns_in, count_of, count_in}
 use Rattle.model.specs.Answer.{Batch, Buffers, Answer, turned_down, with_schema, written, is_short, answer_of}
-use Rattle.model.specs.Unmarked.{unmarked_of, unmarked_in, unmarked, bytes_unmarked, answer_unmarked}
+use Rattle.model.specs.Unmarked.{unmarked_of, unmarked_in, unmarked, mark_off, bytes_unmarked, answer_unmarked}
 
 -- the byte without 2, where it was added
-byte_unmarked : (null widened : Bool) → nullable_byte (marks null widened) % 2 ≡ nullable_byte (marks null false)
+byte_unmarked : (null widened : Bool) → mark_off (nullable_byte (marks null widened)) ≡ nullable_byte (marks null false)
+unfolding mark_off when◌then◌else◌
 byte_unmarked true true = refl
 byte_unmarked true false = refl
 byte_unmarked false true = refl

@@ -21,7 +21,7 @@ use Rattle.equality.specs.laws.Proper.{all_proper}
 use Rattle.equality.specs.laws.tracing.Count.{size, traced}
 use Rattle.equality.specs.laws.tracing.Place.{see_all_whole}
 use Rattle.equality.specs.laws.reading.Records.{values_proper}
-use Rattle.equality.specs.laws.census.Standing.{place_at}
+use Rattle.equality.specs.Widened.{place_at}
 use Rattle.equality.specs.laws.census.Kind.{kind_seen_lem}
 use Rattle.equality.specs.laws.census.Marks.{container_unwidened, widened_place}
 use Rattle.equality.specs.laws.emission.Records.{schema_encoded}

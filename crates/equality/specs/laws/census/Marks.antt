@@ -22,7 +22,8 @@ use Rattle.model.specs.Census.{standing, kinds_seen, types_seen, is_widened}
 use Rattle.equality.specs.laws.Base.{bind_ok}
 use Rattle.model.specs.Unbounded.{see, see_all}
 use Rattle.equality.specs.laws.emission.Fields.{marks_at}
-use Rattle.equality.specs.laws.census.Standing.{place_at, depth_at, place_fresh, met, no_cut, at_place}
+use Rattle.equality.specs.Widened.{place_at}
+use Rattle.equality.specs.laws.census.Standing.{depth_at, place_fresh, met, no_cut, at_place}
 use Rattle.equality.specs.laws.tracing.Place.{or_assoc, or_false, together, together_all, meet_together, all_kind}
 use Rattle.equality.specs.laws.census.Kind.{onward_some, is_typed, meets_container, first_container, no_containers}
 

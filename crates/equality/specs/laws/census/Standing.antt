@@ -8,14 +8,11 @@ use Rattle.model.specs.Kinds.{is_container, Step, same}
 use Rattle.model.specs.Reading.{Value, val, cut, Parts, no_parts, cut_off, part}
 use Rattle.model.specs.Tracing.{Tree, node, Kids, no_kids, kid, marks_of, kind_of, samples_of, kids_of, fresh, dots_of, meet, marks_with, kid_at, put, made, one, tally}
 use Rattle.model.specs.Census.{parts_of, parts_at, below, standing}
+use Rattle.equality.specs.Widened.{place_at}
 use Rattle.equality.specs.laws.Base.{bind_ok, bind_bind, not_refused, same_true, same_refl}
 use Rattle.model.specs.Unbounded.{make_all, allowed, see, see_parts, see_all}
 
--- ---- the place at the end of the steps, and its depth
-unfoldable pub place_at : List Step → Tree → Tree
-place_at [] tree = tree
-place_at (s ∷ steps) tree = place_at steps (kid_at s (kids_of tree))
-
+-- ---- the depth of the place at the end of the steps
 unfoldable pub depth_at : ℕ → List Step → ℕ
 depth_at depth [] = depth
 depth_at depth (s ∷ steps) = depth_at (depth + dots_of s) steps

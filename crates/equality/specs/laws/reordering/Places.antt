@@ -24,7 +24,8 @@ use Rattle.model.specs.Demand3.{shows, as_struct, as_map}
 use Rattle.equality.specs.laws.Base.{or_right_false}
 use Rattle.model.specs.Unbounded.{see_all}
 use Rattle.equality.specs.laws.Proper.{kind_fits, is_proper, are_proper, all_proper}
-use Rattle.equality.specs.laws.census.Standing.{place_at, depth_at, place_fresh, at_place}
+use Rattle.equality.specs.Widened.{place_at}
+use Rattle.equality.specs.laws.census.Standing.{depth_at, place_fresh, at_place}
 use Rattle.equality.specs.laws.tracing.Place.{together_all, is_deep, see_all_whole, standing_proper, all_null, all_kind, has_sights_is}
 use Rattle.equality.specs.laws.tracing.Acceptance.{all_shallow, Allowed, accepts, allows}
 use Rattle.equality.specs.laws.census.Kind.{is_typed}

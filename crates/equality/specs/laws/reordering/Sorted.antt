@@ -13,7 +13,7 @@ use Rattle.model.specs.Emission.{Place, shown, Places, none_below, below, insert
 use Rattle.model.specs.Census.{Said, as_set}
 use Rattle.equality.specs.laws.Proper.{steps_below}
 use Rattle.equality.specs.laws.emission.Canon.{insert_place, in_order}
-use Rattle.equality.specs.laws.census.Standing.{place_at}
+use Rattle.equality.specs.Widened.{place_at}
 use Rattle.equality.specs.laws.tracing.Place.{held_at}
 use Rattle.equality.specs.laws.reordering.Sorting.{precedes, distinct, distinct_set, same_set, steps_in_order, find, find_in_order}
 use Rattle.equality.specs.laws.census.View.{view, find_places, places_in, find_ordered, set_ordered, Distinct, same_view}

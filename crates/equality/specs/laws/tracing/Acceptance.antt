@@ -13,7 +13,8 @@ use Rattle.model.specs.Census.{parts_of, kind_in, parts_at, below, standing, kin
 use Rattle.equality.specs.laws.Base.{bind_ok, not_refused, and_left, and_right, or_left_false, or_right_false, or_cases, not_is_true, same_true, same_refl, same_sym}
 use Rattle.model.specs.Unbounded.{make_all, allowed, see, see_parts, see_all}
 use Rattle.equality.specs.laws.Proper.{kind_fits, part_fits, is_proper, are_proper, all_proper}
-use Rattle.equality.specs.laws.census.Standing.{place_at, depth_at, place_fresh, kid_at_put_same, kid_at_put_other, kid_at_make_all, standing_append, met, no_cut, at_place}
+use Rattle.equality.specs.Widened.{place_at}
+use Rattle.equality.specs.laws.census.Standing.{depth_at, place_fresh, kid_at_put_same, kid_at_put_other, kid_at_make_all, standing_append, met, no_cut, at_place}
 use Rattle.equality.specs.laws.tracing.Count.{no_variants, no_clash, made_no_variants, allowed_ok}
 use Rattle.equality.specs.laws.tracing.Place.{or_true, and_assoc, has_sight, has_kept, has_sights, has_sight_is, steps_put, steps_make_all, steps_tally, made_fixed, all_steps, onward, together, together_all, is_deep, meet_shallow, together_meet, all_kind, standing_proper}
 
