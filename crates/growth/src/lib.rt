@@ -28,7 +28,7 @@ fn enter(place: Place, code: u32, child: Place, table: &mut Table)
         return;
     }
     let slot = search::seek(place, code, child.number(), table);
-    words::set_link(table, slot.place, slot.field, child);
+    words::link_to(table, slot.place, slot.field, child);
 }
 
 // The last child of a place, if it has any. 0 is no child, as the table has it.
@@ -48,8 +48,8 @@ fn link(place: Place, child: Place, table: &mut Table)
     ensures { table.new ≡ linked_behind place (last_child place table.old) child table.old }
 {
     match last_child(place, table) {
-        Some(sibling) => words::set_link(table, sibling, Half::Next, child),
-        None => words::set_link(table, place, Half::First, child),
+        Some(sibling) => words::link_to(table, sibling, Half::Next, child),
+        None => words::link_to(table, place, Half::First, child),
     }
 }
 
@@ -58,7 +58,7 @@ fn link(place: Place, child: Place, table: &mut Table)
 fn describe(place: Place, code: u32, name: Name, child: Place, table: &mut Table)
     ensures { table.new ≡ described place code name child table.old }
 {
-    words::set_link(table, child, Half::Parent, place);
+    words::link_to(table, child, Half::Parent, place);
     words::set(table, child, Whole::Step, code);
     words::set(table, child, Whole::Name, shapes::packed(name));
 }
@@ -70,7 +70,7 @@ fn append(place: Place, code: u32, name: Name, child: Place, table: &mut Table)
 {
     describe(place, code, name, child, table);
     link(place, child, table);
-    words::set_link(table, place, Half::Last, child);
+    words::link_to(table, place, Half::Last, child);
 }
 
 // The child that was found, whose name must be the one given (a variant's number has one name); else refusal 9.

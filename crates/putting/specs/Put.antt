@@ -8,6 +8,7 @@ use Rattle.model.specs.Kinds.{map_kind}
 use Rattle.model.specs.Emission.{entries_name}
 use Rattle.walk.specs.Walk.{sum_of}
 use Rattle.putting.specs.declared.Record.{Record}
+use Rattle.putting.specs.declared.Ends.{Ends}
 
 -- a buffer and where the next byte goes
 pub data Put : Type 0 where
@@ -63,3 +64,7 @@ unfoldable pub entries_in : ℕ → Writing → Writing
 entries_in kind w =
     when eqb kind map_kind then both (record_of struct 0 no_strategy 0 (length entries_name) 2) entries_name w
     else w
+
+-- the ends stand inside the buffers
+abbrev pub Within : Ends → List ℕ → List ℕ → Type 0
+Within ends fields names = (ends.records ≤ length fields) × (ends.names ≤ length names)

@@ -6,7 +6,7 @@ ghost use Rattle.std.specs.Prelude.{◌≡◌, ◌≤◌, length};
 ghost use Rattle.text.specs.Decimal.{decimal};
 ghost use Rattle.places.specs.Layout.{Settled};
 ghost use Rattle.places.specs.Reading.{child_name};
-ghost use Rattle.putting.specs.Put.{record_bytes, Puts, writing, with_record, with_name, gaps_in, entries_in};
+ghost use Rattle.putting.specs.Put.{record_bytes, Puts, Within, writing, with_record, with_name, gaps_in, entries_in};
 
 use datatype::{DataType, Strategy};
 use shapes::Step;
@@ -31,6 +31,13 @@ pub struct Record {
     pub number: u8,
     pub name_length: u32,
     pub children: u32,
+}
+
+// Where the next record and the next name go.
+#[derive(Clone, Copy)]
+pub struct Ends {
+    pub records: usize,
+    pub names: usize,
 }
 
 // The output buffers, which whoever calls lends (the C interface), and where the next record and the next name go.
@@ -92,6 +99,32 @@ impl<'f, 'n> Output<'f, 'n> {
             names,
             next_record: 0,
             next_name: 0,
+        }
+    }
+
+    // So much is written already: what follows goes behind these ends.
+    pub fn at(fields: &'f mut [u8], names: &'n mut [u8], ends: Ends) -> Output<'f, 'n>
+        requires { Within ends fields.old names.old }
+        ensures behind { written_by result ≡ writing ends.records ends.names fields.old names.old }
+        ensures same_fields { result.fields.ghost_name ≡ fields.entry.ghost_name }
+        ensures same_names { result.names.ghost_name ≡ names.entry.ghost_name }
+    {
+        Output {
+            fields,
+            names,
+            next_record: ends.records,
+            next_name: ends.names,
+        }
+    }
+
+    // Where the next record and the next name go.
+    pub fn ends(&self) -> Ends
+        ensures reached { writing result.records result.names self.now.fields.now self.now.names.now ≡ written_by self.now }
+        ensures within { Within result self.now.fields.now self.now.names.now }
+    {
+        Ends {
+            records: self.next_record,
+            names: self.next_name,
         }
     }
 

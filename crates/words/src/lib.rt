@@ -225,28 +225,28 @@ fn with_link(word: u32, field: Half, to: usize) -> u32
     }
 }
 
-// Stores a half of a word of a place, which may be any number of 16 bits.
+// Stores a link of a place, which may be any number of 16 bits.
 #[tactic(auto, using(crate::proofs::There::there), unfolding(crate::specs::Word::with_word))]
-pub fn set_half(table: &mut Table, place: Place, field: Half, value: usize)
-    requires { value < link_limit }
-    ensures { table.new ≡ with_word table.old place (half_number field) value }
-{
-    let at = link_index(place, field);
-    table[at] = with_link(table[at], field, value);
-}
-
-// Stores a link of a place: it leads to another, or to the root where it leads nowhere.
-pub fn set_link(table: &mut Table, place: Place, field: Half, to: Place)
+pub fn set_link(table: &mut Table, place: Place, field: Half, to: usize)
+    requires { to < link_limit }
     ensures { table.new ≡ with_word table.old place (half_number field) to }
 {
-    set_half(table, place, field, to.number);
+    let at = link_index(place, field);
+    table[at] = with_link(table[at], field, to);
+}
+
+// Stores a link of a place that leads to another, or to the root where it leads nowhere.
+pub fn link_to(table: &mut Table, place: Place, field: Half, to: Place)
+    ensures { table.new ≡ with_word table.old place (half_number field) to }
+{
+    set_link(table, place, field, to.number);
 }
 
 // Stores how many positions stand in the block of a place, which is kept as a link is.
 pub fn set_block(table: &mut Table, place: Place, positions: u16)
     ensures { table.new ≡ with_word table.old place (half_number Block) positions }
 {
-    set_half(table, place, Half::Block, usize::from(positions));
+    set_link(table, place, Half::Block, usize::from(positions));
 }
 
 // Whether one of so many places, from one on, has that value as that word. All are looked at: the compiler takes several at a time.

@@ -10,7 +10,7 @@ use Rattle.logic.specs.laws.Test.{cases}
 use Rattle.refusal.specs.declared.Refusal.{Refusal}
 use Rattle.refusal.specs.declared.Refusal.TheVariants as F
 use Rattle.text.specs.declared.Name.{Name}
-use Rattle.words.specs.Word.{word, IsRow}
+use Rattle.words.specs.Word.{word, IsRow, IsTable}
 use Rattle.model.specs.Kinds.{sequence_kind, struct_kind, map_kind, tuple_kind, union_kind, map_mode_kind, is_container}
 use Rattle.model.specs.Tracing.{place_limit}
 use Rattle.shapes.specs.declared.Step.{Step}
@@ -49,13 +49,13 @@ module _ (text t : List ℕ) (n : ℕ) (r : Outcome) (s : SoundTraced text t n r
     traced_ready place h = let g : n ≤ m = traced_grows in record { sound = traced_sound; here = omega arith }
 
     -- its first child is one of the table
-    pub traced_first : (place : ℕ) → place < n → IsRow place × IsRow (word t place first_word)
+    pub traced_first : (place : ℕ) → place < n → IsRow place × IsTable t × IsRow (word t place first_word)
     traced_first place h =
         let ready : Ready text t m place = traced_ready place h in
         let most : m ≤ place_limit = ready.sound.linked.most in
         let is : IsRow place = is_place text t m place ready in
         let first : word t place first_word < m = ready.sound.linked.first place is in
-        (is, omega arith)
+        (is, ready.sound.linked.room, omega arith)
 
 -- ---- what was opened: no place is lost, and there was a level left
 all_held : (n : ℕ) (text : List ℕ) (place : ℕ) (step : Step) (t : List ℕ) → OnChild (λ child m. n ≤ m) (held text place step n t)
