@@ -1,25 +1,14 @@
 -- What bytes put into a buffer give, with room for them and without.
 use mathlib.Core.Path.{◌≡◌, refl, ◌∙◌}
 use mathlib.Core.List.{List}
-use Prim.Native.Nat.{ℕ, ◌+◌, ◌-◌}
-use native.Mathlib.Omega.{arith}
-use Rattle.std.proofs.Common.{append_assoc, take, drop, length}
-use Rattle.std.proofs.Math.Seq.{take-length}
-use Rattle.std.proofs.lemmas.Slice.{put_mid-paste}
-use borrow.Rule.Slice.PartMut.{put_mid}
-use Rattle.logic.specs.Buffer.{written}
+use Prim.Native.Nat.{ℕ}
 use Rattle.logic.specs.laws.Test.{if_passed, if_failed}
 use Rattle.logic.specs.laws.Buffer.{length_written}
 use Rattle.places.specs.laws.Reading.{field_inside, variant_inside}
 use Rattle.putting.specs.Put.{Put, put, put_bytes, Writing, writing, as_writing, with_record, with_name, both}
 
-pub copied : (bytes names part : List ℕ) (at : ℕ) → part ≡ bytes → put_mid at (at + length bytes - at) names part ≡ written names at bytes
-copied bytes names part at e =
-    rw (put_mid-paste at (at + length bytes - at) names part bytes (length bytes) e (omega arith) refl, take-length bytes)
-    (append_assoc (take at names) bytes (drop (at + length bytes) names))
-
 -- bytes are put where there is room for them, and a name that the text gave ends inside it
-pub ruleset in_room = (if_passed, if_failed, length_written, copied)
+pub ruleset in_room = (if_passed, if_failed, length_written)
 
 pub ruleset names_end = (field_inside, variant_inside)
 

@@ -51,7 +51,8 @@ pub struct Output<'f, 'n> {
     ghost in_names: { next_name ≤ length names.now },
 }
 
-// Bytes, where there is room for them; the first walk has seen that there is.
+// Bytes, where there is room for them; the first walk has seen that there is. They are put one by one, for `copy_from_slice` would need
+// memcpy and memmove, which a library for C would have to be given.
 #[tactic(auto, using(crate::proofs::Puts::in_room), unfolding(crate::specs::Put::put_bytes))]
 fn put_bytes(bytes: &[u8], buffer: &mut [u8], at: usize) -> usize
     requires { at ≤ length buffer.old }
@@ -61,7 +62,9 @@ fn put_bytes(bytes: &[u8], buffer: &mut [u8], at: usize) -> usize
         return at;
     }
     let end = at + bytes.len();
-    buffer[at..end].copy_from_slice(bytes);
+    for (i, byte) in bytes.iter().enumerate() {
+        buffer[at + i] = *byte;
+    }
     end
 }
 

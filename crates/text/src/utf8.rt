@@ -11,10 +11,14 @@ pub fn is_ascii(bytes: &[u8]) -> bool
     bytes.is_ascii()
 }
 
-// Whether the bytes are sequences of the table, one after another. Most are all below 80, which is quicker to see.
+// Below so many bytes it is tried first whether all are below 80, as most are: the library looks for those from the first on, which
+// pays in longer ones.
+const SHORT: usize = 64;
+
+// Whether the bytes are sequences of the table, one after another.
 #[tactic(auto, using(crate::proofs::Library::tables_utf8))]
 pub fn is_utf8(bytes: &[u8]) -> bool
     ensures { result ≡ is_utf8 bytes.now }
 {
-    is_ascii(bytes) || simdutf8::is_utf8(bytes)
+    (bytes.len() < SHORT && is_ascii(bytes)) || str::from_utf8(bytes).is_ok()
 }
