@@ -11,14 +11,14 @@ pub fn is_ascii(bytes: &[u8]) -> bool
     bytes.is_ascii()
 }
 
-// Below so many bytes it is tried first whether all are below 80, as most are: the library looks for those from the first on, which
-// pays in longer ones.
-const SHORT: usize = 64;
+// Bytes below which a test of all that stops at none of them is quicker than one that looks for the first that differs.
+pub const SHORT: usize = 64;
 
-// Whether the bytes are sequences of the table, one after another.
+// Whether the bytes are sequences of the table, one after another. Most are all below 80, which is quicker to see in short ones.
 #[tactic(auto, using(crate::proofs::Library::tables_utf8))]
 pub fn is_utf8(bytes: &[u8]) -> bool
     ensures { result ≡ is_utf8 bytes.now }
 {
-    (bytes.len() < SHORT && is_ascii(bytes)) || str::from_utf8(bytes).is_ok()
+    let begins_ascii = bytes.first().is_some_and(|first| first.is_ascii());
+    (begins_ascii && bytes.len() < SHORT && is_ascii(bytes)) || str::from_utf8(bytes).is_ok()
 }
