@@ -2,41 +2,91 @@
 
 #![tactic(auto)]
 
-ghost use Rattle.std.specs.Prelude.{◌≡◌, ◌+◌, ◌<◌, ◌≤◌, IfOk, IfSome, min, length, vec_len};
+ghost use Rattle.std.specs.Prelude.{◌≡◌, ◌+◌, ◌<◌, ◌≤◌, min, length};
 ghost use Rattle.io.specs.Counts.{IsPrefixLen};
 ghost use Rattle.files.specs.Bytes.{two_bytes, three_bytes};
 
+use std::fs;
 use std::io::Read;
 use std::rt::Files;
-use std::{fs, io};
 
-fn read<R: Files + Alloc>(rt: &R, path: &str, most: usize) -> io::Result<Vec<u8, R::A>>
-    ensures { IfOk result (λ bytes. vec_len bytes ≤ most) }
-{
-    let mut bytes = Vec::new(rt.alloc());
-    fs::open(rt, path)?
-        .take(most as u64)
-        .read_to_end(&mut bytes)?;
-    // Nothing is cut off here: `read_to_end` does not promise that it stopped there.
-    bytes.truncate(most);
-    Ok(bytes)
+// What came of reading: how many bytes are at the start of the buffer. Where the file cannot be read, or no further, a line on
+// standard error has said why.
+#[derive(Clone, Copy)]
+pub struct Loaded {
+    pub readable: bool,
+    pub bytes: usize,
 }
 
-// A file's bytes from its start on, so many at most. No contract can say which bytes these are, nor how many. Where the file
-// cannot be read, a line on standard error says why; a path is as the system gave it, and need not be text.
-pub fn load<R: Files + Eprint + Alloc>(rt: &R, path: &[u8], most: usize) -> Option<Vec<u8, R::A>>
-    ensures { IfSome result (λ bytes. vec_len bytes ≤ most) }
+impl Loaded {
+    const NOTHING: Loaded = Loaded {
+        readable: false,
+        bytes: 0,
+    };
+}
+
+// One read. Of a failed one no byte counts.
+fn read_some<R: Eprint, F: Read>(rt: &R, file: &mut F, path: &str, buffer: &mut [u8]) -> Loaded
+    ensures { IsPrefixLen result.bytes buffer.new }
 {
-    let path = str::from_utf8(path)
-        .inspect_err(|error| {
-            let _ = eprintln!(rt; "the path of a file: {error}");
-        })
-        .ok()?;
-    read(rt, path, most)
-        .inspect_err(|error| {
+    match file.read(buffer) {
+        Ok(bytes) => Loaded {
+            readable: true,
+            bytes,
+        },
+        Err(error) => {
             let _ = eprintln!(rt; "{path}: {error}");
-        })
-        .ok()
+            Loaded::NOTHING
+        }
+    }
+}
+
+// Reads until the file ends, the buffer is full or a read fails. What was read before that one counts.
+fn read_all<R: Eprint, F: Read>(rt: &R, file: &mut F, path: &str, buffer: &mut [u8]) -> Loaded
+    ensures { IsPrefixLen result.bytes buffer.new }
+{
+    let mut bytes = 0;
+    while bytes < buffer.len() {
+        let some = read_some(rt, file, path, &mut buffer[bytes..]);
+        if some.bytes == 0 {
+            return Loaded {
+                readable: some.readable,
+                bytes,
+            };
+        }
+        bytes += some.bytes;
+    }
+    Loaded {
+        readable: true,
+        bytes,
+    }
+}
+
+// The same of the file with that path.
+fn read_file<R: Files + Eprint>(rt: &R, path: &str, buffer: &mut [u8]) -> Loaded
+    ensures { IsPrefixLen result.bytes buffer.new }
+{
+    match fs::open(rt, path) {
+        Ok(mut file) => read_all(rt, &mut file, path, buffer),
+        Err(error) => {
+            let _ = eprintln!(rt; "{path}: {error}");
+            Loaded::NOTHING
+        }
+    }
+}
+
+// A file's bytes from its start on, as many as a buffer holds, which is lent: so no program needs a heap. No contract can say which
+// bytes these are, nor how many. A path is as the system gave it, and need not be text.
+pub fn load<R: Files + Eprint>(rt: &R, path: &[u8], buffer: &mut [u8]) -> Loaded
+    ensures { IsPrefixLen result.bytes buffer.new }
+{
+    match str::from_utf8(path) {
+        Ok(path) => read_file(rt, path, buffer),
+        Err(error) => {
+            let _ = eprintln!(rt; "the path of a file: {error}");
+            Loaded::NOTHING
+        }
+    }
 }
 
 // Two bytes, low byte first.
@@ -68,11 +118,36 @@ pub fn end_of(buffer: &[u8], at: usize, bytes: usize) -> usize
 #[cfg(test)]
 mod tests {
     use super::*;
+    use std::io;
 
-    // Memory is left for the bytes, and no more are read than were asked for: the file has no end.
+    // No more bytes are read than there is room for: the file has no end.
     #[test]
     fn loads_as_many_as_asked(rt: HostRuntime) {
-        let bytes = load(&rt, b"/dev/zero", 5);
-        assert!(rt; bytes.is_some_and(|bytes| bytes.as_slice() == [0u8; 5].as_slice()));
+        let mut buffer = [1u8; 5];
+        let loaded = load(&rt, b"/dev/zero", &mut buffer);
+        assert!(rt; loaded.readable);
+        assert!(rt; loaded.bytes == 5);
+        assert!(rt; buffer == [0u8; 5]);
+    }
+
+    // A file of which no read succeeds.
+    #[derive(Drop)]
+    struct Torn;
+
+    impl Read for Torn {
+        fn read(&mut self, _buffer: &mut [u8]) -> io::Result<usize> {
+            Err(io::Error::from(io::ErrorKind::Other))
+        }
+    }
+
+    // What was read before a read failed is kept.
+    #[test]
+    fn keeps_what_was_read_before(rt: HostRuntime) {
+        let mut file = (&b"abc"[..]).chain(Torn);
+        let mut buffer = [0u8; 5];
+        let loaded = read_all(&rt, &mut file, "torn", &mut buffer);
+        assert!(rt; !loaded.readable);
+        assert!(rt; loaded.bytes == 3);
+        assert!(rt; buffer == *b"abc\0\0");
     }
 }

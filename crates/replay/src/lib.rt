@@ -132,8 +132,9 @@ pub fn replay<R: Print, L: Layout + Drop, F: Fn(&[u8]) -> bool + Drop>(
     tally
 }
 
-// Replays a file, and says at last how many records there were, in how many bytes, and how many of them differ.
-pub fn replay_file<R: Files + Print + Eprint + Alloc, F: FnOnce(&[u8]) -> Tally>(
+// Replays a file, and says at last how many records there were, in how many bytes, and how many of them differ. What is read before
+// a read fails is replayed too. The bytes stand in an array, so that the programs need no heap.
+pub fn replay_file<R: Files + Print + Eprint, F: FnOnce(&[u8]) -> Tally>(
     rt: &R,
     path: &str,
     what: &str,
@@ -141,9 +142,9 @@ pub fn replay_file<R: Files + Print + Eprint + Alloc, F: FnOnce(&[u8]) -> Tally>
 )
     requires { F.IsAlwaysCallable tally }
 {
-    let vectors = files::load(rt, path.as_bytes(), MOST).unwrap_or_else(|| Vec::new(rt.alloc()));
-    let bytes = vectors.len();
-    let Tally { records, differ } = tally(&vectors);
+    let mut vectors = [0u8; MOST];
+    let bytes = files::load(rt, path.as_bytes(), &mut vectors).bytes;
+    let Tally { records, differ } = tally(&vectors[..bytes]);
     let _ = println!(rt; "{records} {what} in {bytes} bytes, {differ} differ");
 }
 
@@ -151,7 +152,7 @@ pub fn replay_file<R: Files + Print + Eprint + Alloc, F: FnOnce(&[u8]) -> Tally>
 mod tests {
     use super::*;
 
-    // Memory is left for the bytes of a file, and as many are handed on as are read at most: this file has no end.
+    // As many bytes are handed on as are read at most: this file has no end.
     #[test]
     fn hands_on_what_it_read(rt: HostRuntime) {
         let mut bytes = 0;

@@ -5,8 +5,11 @@
 
 ghost use Rattle.std.specs.Prelude.{◌≡◌, ◌≤◌, length};
 ghost use Rattle.std.specs.Iterator.{at_most};
+ghost use Rattle.words.specs.Word.{word};
+ghost use Rattle.words.specs.Numbers.{whole_number, half_number};
 ghost use Rattle.model.specs.Tracing.{place_limit};
 ghost use Rattle.samples_vectors.specs.Made.{made_in};
+ghost use Rattle.samples_vectors.specs.Batches.{GivesBatch};
 
 use options::TracingOptions;
 use std::fmt;
@@ -25,11 +28,15 @@ struct Row<'a> {
 
 impl Row<'_> {
     // A whole word.
-    fn word(&self, field: Whole) -> u32 {
+    fn word(&self, field: Whole) -> u32
+        ensures { result ≡ word self.now.table.now self.now.place (whole_number field) }
+    {
         words::get(self.table, self.place, field)
     }
 
-    fn link(&self, field: Half) -> usize {
+    fn link(&self, field: Half) -> usize
+        ensures { result ≡ word self.now.table.now self.now.place (half_number field) }
+    {
         words::link(self.table, self.place, field)
     }
 }
@@ -105,6 +112,8 @@ struct Batches<'a>(&'a [u8]);
 impl<'a> Iterator for Batches<'a> {
     type Item = Batch<'a>;
 
+    ghost next_gives = { GivesBatch };
+
     ghost remaining = { λ s. at_most (length s.0.now) };
 
     fn next(&mut self) -> Option<Batch<'a>> {
@@ -134,12 +143,14 @@ fn trace(rt: &impl Print, batch: &Batch<'_>, table: &mut Table) {
     }
 }
 
-// The table is of a fixed size, as what the call is lent is.
+// The bytes stand in an array, and no heap is needed; the table is of a fixed size, as what the call is lent is. What is read before a
+// read fails is traced too.
 fn main(rt: HostRuntime) {
-    let bytes = files::load(&rt, b"batches.bin", MOST).unwrap_or_else(|| Vec::new(rt.alloc()));
+    let mut buffer = [0u8; MOST];
     let mut table = [0u32; words::WORDS];
-    for batch in Batches(&bytes) {
+    let bytes = files::load(&rt, b"batches.bin", &mut buffer).bytes;
+    for batch in Batches(&buffer[..bytes]) {
         trace(&rt, &batch, &mut table);
     }
-    let _ = println!(rt; "{} bytes", bytes.len());
+    let _ = println!(rt; "{bytes} bytes");
 }

@@ -4,11 +4,10 @@
 
 #![tactic(auto)]
 
-ghost use Rattle.std.specs.Prelude.{◌≡◌, ◌≤◌, length};
+ghost use Rattle.std.specs.Prelude.{◌≡◌, ◌≤◌, IfSome, length};
 ghost use Rattle.schema_list.specs.Call.{output_bytes, TracedInto};
 
 use fasthrom::Answer;
-use std::alloc::AllocError;
 use std::env::FillError;
 use std::rt::{Env, Files};
 
@@ -40,6 +39,14 @@ fn trace(options: u16, commands: &[u8], text: &[u8], fields: &mut [u8], names: &
     fasthrom::fasthrom_trace(options, commands, text, &mut table, fields, names)
 }
 
+// A file's bytes, as many as a buffer holds, which is lent, so that no heap is needed; none where a read fails.
+fn read<'a, R: Files + Eprint>(rt: &R, path: &[u8], buffer: &'a mut [u8]) -> Option<&'a [u8]>
+    ensures { IfSome result (λ bytes. length bytes.now ≤ length buffer.old) }
+{
+    let loaded = files::load(rt, path, buffer);
+    loaded.readable.then_some(&buffer[..loaded.bytes])
+}
+
 // The three files of a return.
 #[derive(Clone, Copy)]
 struct Paths<'a> {
@@ -50,51 +57,72 @@ struct Paths<'a> {
 
 impl Paths<'_> {
     // The options word, the commands and the text. An options word is two bytes: a third would be read, and turned down.
-    fn load<R: Files + Eprint + Alloc>(
+    fn load<'a, R: Files + Eprint>(
         &self,
         rt: &R,
-    ) -> Option<(u16, Vec<u8, R::A>, Vec<u8, R::A>)> {
-        let options = files::load(rt, self.options, 3)?;
+        commands: &'a mut [u8],
+        text: &'a mut [u8],
+    ) -> Option<(u16, &'a [u8], &'a [u8])> {
+        let mut options = [0u8; 3];
+        let options = read(rt, self.options, &mut options)?;
         if options.len() != 2 {
             let path = str::from_utf8(self.options).unwrap_or("");
             let _ = eprintln!(rt; "{path}: not two bytes long");
             return None;
         }
-        let commands = files::load(rt, self.commands, MOST)?;
-        let text = files::load(rt, self.text, MOST)?;
-        Some((files::two_bytes(&options, 0), commands, text))
+        let commands = read(rt, self.commands, commands)?;
+        let text = read(rt, self.text, text)?;
+        Some((files::two_bytes(options, 0), commands, text))
     }
 
     // Lists the return, if all of them can be read. The buffers are of fixed sizes, as what the call is lent is.
-    fn list<R: Files + Print + Eprint + Alloc>(&self, rt: &R) {
-        if let Some((options, commands, text)) = self.load(rt) {
+    fn list<R: Files + Print + Eprint>(&self, rt: &R) {
+        let mut commands = [0u8; MOST];
+        let mut text = [0u8; MOST];
+        if let Some((options, commands, text)) = self.load(rt, &mut commands, &mut text) {
             let mut fields = [0u8; 65536];
             let mut names = [0u8; 65536];
-            let answer = trace(options, &commands, &text, &mut fields, &mut names);
+            let answer = trace(options, commands, text, &mut fields, &mut names);
             print_answer(rt, answer, &fields, &names);
         }
     }
 }
 
-// The arguments after the program's name, as bytes: one that is no text names no file, where std's `args` would give up all
-// of them. Nor does one that is longer than a path.
-fn arguments<R: Env + Alloc>(rt: &R) -> Result<Vec<Vec<u8, R::A>, R::A>, AllocError> {
-    let mut all = Vec::new(rt.alloc());
-    for i in 1.. {
-        let mut argument = vec![in rt.alloc(); 0u8; PATH]?;
-        match rt.arg(i, &mut argument) {
-            Ok(bytes) => argument.truncate(bytes),
-            Err(FillError::TooLong) => argument.clear(),
-            Err(FillError::NotPresent) => break,
-        }
-        all.push(argument)?;
+// An argument as bytes, if there is one of that number. One that is no text names no file, where std's `args` would give up all of
+// them; nor does one that is longer than the buffer, of which nothing is told.
+fn argument<'a>(rt: &impl Env, number: usize, buffer: &'a mut [u8]) -> Option<&'a [u8]>
+    ensures { IfSome result (λ bytes. length bytes.now ≤ length buffer.old) }
+{
+    match rt.arg(number, buffer) {
+        Ok(bytes) => Some(&buffer[..bytes]),
+        Err(FillError::TooLong) => Some(&[]),
+        Err(FillError::NotPresent) => None,
     }
-    Ok(all)
 }
 
-fn main(rt: HostRuntime) -> Result<(), AllocError> {
-    let given = arguments(&rt)?;
-    if given.is_empty() {
+// Lists the return in the files that three arguments name; none where one of them is not there. No more are held, so that more of
+// them need no more memory.
+fn list_named<R: Files + Print + Eprint + Env>(
+    rt: &R,
+    options: usize,
+    commands: usize,
+    text: usize,
+) -> Option<()> {
+    let mut first = [0u8; PATH];
+    let mut second = [0u8; PATH];
+    let mut third = [0u8; PATH];
+    let paths = Paths {
+        options: argument(rt, options, &mut first)?,
+        commands: argument(rt, commands, &mut second)?,
+        text: argument(rt, text, &mut third)?,
+    };
+    paths.list(rt);
+    Some(())
+}
+
+// The arguments after the program's name are gone through three at a time, and one or two that are left over are passed over.
+fn main(rt: HostRuntime) {
+    if argument(&rt, 1, &mut []).is_none() {
         let paths = Paths {
             options: b"options.bin",
             commands: b"commands.bin",
@@ -102,14 +130,9 @@ fn main(rt: HostRuntime) -> Result<(), AllocError> {
         };
         paths.list(&rt);
     }
-    let (returns, _) = given.as_chunks::<3>();
-    for [options, commands, text] in returns {
-        let paths = Paths {
-            options,
-            commands,
-            text,
-        };
-        paths.list(&rt);
+    for i in 0..usize::MAX / 3 {
+        if list_named(&rt, 3 * i + 1, 3 * i + 2, 3 * i + 3).is_none() {
+            break;
+        }
     }
-    Ok(())
 }
