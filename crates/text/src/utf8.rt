@@ -19,6 +19,5 @@ pub const SHORT: usize = 64;
 pub fn is_utf8(bytes: &[u8]) -> bool
     ensures { result ≡ is_utf8 bytes.now }
 {
-    let begins_ascii = bytes.first().is_some_and(|first| first.is_ascii());
-    (begins_ascii && bytes.len() < SHORT && is_ascii(bytes)) || str::from_utf8(bytes).is_ok()
+    (bytes.len() < SHORT && is_ascii(bytes)) || str::from_utf8(bytes).is_ok()
 }
