@@ -10,11 +10,9 @@ use Rattle.std.proofs.lemmas.List.{at_drop_more}
 use Rattle.memchr.specs.Find.{is_byte, places, places_from, Passes, Nowhere, NoneBefore}
 use Rattle.std.proofs.lemmas.List.Recursion.{and_is}
 use Rattle.logic.specs.Test.{when◌then◌else◌}
-use Rattle.logic.specs.laws.Test.{cases, neither, same_test}
+use Rattle.logic.specs.laws.Test.{cases}
 use Rattle.text.specs.Block.{is_ascii}
 use Rattle.text.specs.Name.{eq_name, lt_name, dot, dots}
-use Rattle.text.specs.laws.Ascii.{ascii_utf8}
-use Rattle.text.specs.laws.Unicode.{utf8_passes, passes_utf8}
 
 pub equal_bytes : (x y : List ℕ) → pointwise eqb x y ≡ eq_name x y
 unfolding eq_name
@@ -80,6 +78,3 @@ pub ascii_bytes : (bytes : List ℕ) (low : Bool) → MatchBool low (IsAscii byt
 unfolding is_ascii
 ascii_bytes bytes true low = and_is is_ascii (λ b. ltb b 0x80) refl (λ _ _. refl) bytes 0 true (λ _ i h. lt-ltb (get_or bytes i 0) 0x80 (low i)) (λ e. absurd (true≢false e))
 ascii_bytes bytes false high = and_is is_ascii (λ b. ltb b 0x80) refl (λ _ _. refl) bytes 0 false (λ e. absurd (false≢true e)) (λ _. high_somewhere bytes high)
-
--- the library's UTF-8 is the table's, and bytes below 80 are
-pub ruleset tables_utf8 = (ascii_utf8, utf8_passes, passes_utf8, same_test)
