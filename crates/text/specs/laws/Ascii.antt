@@ -18,6 +18,7 @@ low_byte : (bytes : List ℕ) (k : ℕ) → is_ascii bytes ≡ true → k < leng
 unfolding is_ascii
 low_byte bytes k e h = ltb-true (get_or bytes k 0) 0x80 (and_at is_ascii (λ b. ltb b 0x80) refl (λ _ _. refl) bytes k 0 h e)
 
+-- No proof cites this, which is `ascii_name` of the whole text.
 pub ascii_utf8 : (bytes : List ℕ) → is_ascii bytes ≡ true → is_utf8 bytes ≡ true
 ascii_utf8 bytes e = low_bytes bytes λ k h. low_byte bytes k e h
 

@@ -86,7 +86,7 @@ length_logarithm k (suc n) h g = length_is k (suc n) (omega arith) (omega arith)
 pub length_u16 : (n : ℕ) → n < 2 ^ 16 → length (decimal n) ≤ 5
 length_u16 n h = length_most 4 n (omega arith)
 
--- it is what the library writes
+-- No proof cites this: it is what the library writes.
 pub decimal_written : (n : ℕ) → n < 2 ^ 16 → decimal_text n ≡ decimal n
 unfolding decimal
 decimal_written n h =

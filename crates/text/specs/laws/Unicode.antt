@@ -239,7 +239,7 @@ row_character [] all k row e = let z : ◌≡◌ {A = ℕ} 0 1 = cc in absurd (o
 row_character (first ∷ rows) all zero row e = let same : first ≡ row = cc in subst IsCharacter same all.0
 row_character (first ∷ rows) all (suc k) row e = row_character rows all.1 k row e
 
--- what passes the test is the UTF-8 of characters
+-- what passes the test is the UTF-8 of characters (no proof cites `passes_utf8`: with `utf8_passes`, the library's UTF-8 is the table's)
 spelt_out : {bytes : List ℕ} → Utf8 bytes → IsUtf8 bytes
 spelt_out empty = IsUtf8-nil
 spelt_out (next k row bytes more e f u) = IsUtf8-append bytes more (row_character table all_characters k row e bytes f) (spelt_out u)

@@ -137,7 +137,7 @@ is_utf8_next k (low to high ∷ due) (b ∷ bytes) more e f =
     within_bounds low high b p
     λ r t. reads_first b due (bytes ++ more) (due_at k b low high due e r t) ∙ reads_fits due bytes more q
 
--- No proof cites this, nor `is_utf8_sound` below: with it, it says that the computed test, with which contracts are stated, is the table.
+-- No proof cites this: with `is_utf8_sound` below, it says that the computed test, with which contracts are stated, is the table.
 -- What the table says is UTF-8 passes the test
 pub is_utf8_complete : {bytes : List ℕ} → Utf8 bytes → is_utf8 bytes ≡ true
 unfolding reads
