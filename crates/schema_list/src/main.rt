@@ -56,35 +56,31 @@ struct Paths<'a> {
 }
 
 impl Paths<'_> {
-    // The options word, the commands and the text. An options word is two bytes: a third would be read, and turned down.
-    fn load<'a, R: Files + Eprint>(
-        &self,
-        rt: &R,
-        commands: &'a mut [u8],
-        text: &'a mut [u8],
-    ) -> Option<(u16, &'a [u8], &'a [u8])> {
-        let mut options = [0u8; 3];
-        let options = read(rt, self.options, &mut options)?;
+    // The options word. It is two bytes: a third would be read, and turned down.
+    fn options_word<R: Files + Eprint>(&self, rt: &R) -> Option<u16> {
+        let mut buffer = [0u8; 3];
+        let options = read(rt, self.options, &mut buffer)?;
         if options.len() != 2 {
             let path = str::from_utf8(self.options).unwrap_or("");
             let _ = eprintln!(rt; "{path}: not two bytes long");
             return None;
         }
-        let commands = read(rt, self.commands, commands)?;
-        let text = read(rt, self.text, text)?;
-        Some((files::two_bytes(options, 0), commands, text))
+        Some(files::two_bytes(options, 0))
     }
 
-    // Lists the return, if all of them can be read. The buffers are of fixed sizes, as what the call is lent is.
-    fn list<R: Files + Print + Eprint>(&self, rt: &R) {
+    // Lists the return, if all of its files can be read. The buffers are of fixed sizes, as what the call is lent is; each stands where
+    // what goes before it was read, since to zero it takes longer than to turn a return down.
+    fn list<R: Files + Print + Eprint>(&self, rt: &R) -> Option<()> {
+        let options = self.options_word(rt)?;
         let mut commands = [0u8; MOST];
+        let commands = read(rt, self.commands, &mut commands)?;
         let mut text = [0u8; MOST];
-        if let Some((options, commands, text)) = self.load(rt, &mut commands, &mut text) {
-            let mut fields = [0u8; 65536];
-            let mut names = [0u8; 65536];
-            let answer = trace(options, commands, text, &mut fields, &mut names);
-            print_answer(rt, answer, &fields, &names);
-        }
+        let text = read(rt, self.text, &mut text)?;
+        let mut fields = [0u8; 65536];
+        let mut names = [0u8; 65536];
+        let answer = trace(options, commands, text, &mut fields, &mut names);
+        print_answer(rt, answer, &fields, &names);
+        Some(())
     }
 }
 
@@ -116,7 +112,7 @@ fn list_named<R: Files + Print + Eprint + Env>(
         commands: argument(rt, commands, &mut second)?,
         text: argument(rt, text, &mut third)?,
     };
-    paths.list(rt);
+    let _ = paths.list(rt);
     Some(())
 }
 
@@ -128,7 +124,7 @@ fn main(rt: HostRuntime) {
             commands: b"commands.bin",
             text: b"text.bin",
         };
-        paths.list(&rt);
+        let _ = paths.list(&rt);
     }
     for i in 0..usize::MAX / 3 {
         if list_named(&rt, 3 * i + 1, 3 * i + 2, 3 * i + 3).is_none() {
