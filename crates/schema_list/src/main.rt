@@ -39,6 +39,15 @@ fn trace(options: u16, commands: &[u8], text: &[u8], fields: &mut [u8], names: &
     fasthrom::fasthrom_trace(options, commands, text, &mut table, fields, names)
 }
 
+// The buffers are of fixed sizes, as what the call is lent is.
+#[inline(never)]
+fn list_batch(rt: &impl Print, options: u16, commands: &[u8], text: &[u8]) {
+    let mut fields = [0u8; 65536];
+    let mut names = [0u8; 65536];
+    let answer = trace(options, commands, text, &mut fields, &mut names);
+    print_answer(rt, answer, &fields, &names);
+}
+
 // A file's bytes, as many as a buffer holds, which is lent, so that no heap is needed; none where a read fails.
 fn read<'a, R: Files + Eprint>(rt: &R, path: &[u8], buffer: &'a mut [u8]) -> Option<&'a [u8]>
     ensures { IfSome result (λ bytes. length bytes.now ≤ length buffer.old) }
@@ -68,19 +77,22 @@ impl Paths<'_> {
         Some(files::two_bytes(options, 0))
     }
 
-    // Lists the return, if all of its files can be read. The buffers are of fixed sizes, as what the call is lent is; each stands where
-    // what goes before it was read, since to zero it takes longer than to turn a return down.
+    // The commands and the text are read where the options word is one: what is lent is zeroed first, which takes longer than to turn a
+    // return down, and so it stands in a function of its own.
+    #[inline(never)]
+    fn list_under<R: Files + Print + Eprint>(&self, rt: &R, options: u16) -> Option<()> {
+        let mut commands = [0u8; MOST];
+        let mut text = [0u8; MOST];
+        let commands = read(rt, self.commands, &mut commands)?;
+        let text = read(rt, self.text, &mut text)?;
+        list_batch(rt, options, commands, text);
+        Some(())
+    }
+
+    // Lists the return; none where one of its files cannot be read.
     fn list<R: Files + Print + Eprint>(&self, rt: &R) -> Option<()> {
         let options = self.options_word(rt)?;
-        let mut commands = [0u8; MOST];
-        let commands = read(rt, self.commands, &mut commands)?;
-        let mut text = [0u8; MOST];
-        let text = read(rt, self.text, &mut text)?;
-        let mut fields = [0u8; 65536];
-        let mut names = [0u8; 65536];
-        let answer = trace(options, commands, text, &mut fields, &mut names);
-        print_answer(rt, answer, &fields, &names);
-        Some(())
+        self.list_under(rt, options)
     }
 }
 
